@@ -1,0 +1,32 @@
+-- The whole program: what its arguments mean, and what it writes for an input.
+use Rattle.std.specs.Prelude.{◌≡◌, ℕ, List, [], ◌∷◌, map, codes, replicate, is_some, Option, Some, None, option_and_then, option_map, if◌then◌else◌}
+use Rattle.std.specs.Str.{bytes_eq}
+use Rattle.std.specs.List.{list_all}
+use Rattle.lru_tool.specs.declared.command.Command.{Command}
+use Rattle.lru_tool.specs.declared.keyed.Keyed.{Keyed}
+use Rattle.lru_tool.specs.declared.settings.Settings.{Settings}
+use Rattle.lru_tool.specs.Lines.{number_of, lines_of}
+use Rattle.lru_tool.specs.Commands.{command_of}
+use Rattle.pingora_lru.specs.Core.{Core}
+
+-- a number, or `-` for none
+abbrev pub mark_of : List ℕ → Option (Option ℕ)
+mark_of word = if bytes_eq word (codes "-") then Some None else option_map (λ n. Some n) (number_of word)
+
+-- the arguments: a limit, a watermark or `-`, and a seed; anything else is none
+abbrev pub settings_of : List (List ℕ) → Option Settings
+settings_of (limit ∷ mark ∷ seed ∷ []) =
+    option_and_then (λ l. option_and_then (λ m. option_and_then (λ s. Some (record { limit = l; watermark = m; seed = s })) (number_of seed)) (mark_of mark)) (number_of limit)
+settings_of _ = None
+
+-- the core that the program begins with
+abbrev pub fresh : Settings → Core Keyed
+fresh s = record { lists = replicate 2 []; weight_limit = s.limit; watermark = s.watermark; evicted_weight = 0; evicted_len = 0 }
+
+-- the commands of an input, a line each
+abbrev pub commands_of : List ℕ → List (Option Command)
+commands_of input = map command_of (lines_of input)
+
+-- 0, or 2 where a line is bad
+abbrev pub status_of : List (Option Command) → ℕ
+status_of lines = if list_all is_some lines then 0 else 2

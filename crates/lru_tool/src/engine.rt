@@ -1,0 +1,118 @@
+// The engine: all of the program but where its arguments and its streams come from.
+ghost use Rattle.std.specs.Prelude.{◌≡◌, ◌≢◌, List, ℕ, All, Some, None, IfOk, IfSome, OnOk, map, is_some, string_bytes};
+ghost use Rattle.std.specs.List.{list_all};
+ghost use Rattle.std.specs.Io.KnownBytes.{Appends};
+ghost use Rattle.lru_tool.specs.Commands.{command_of};
+ghost use Rattle.lru_tool.specs.Replies.{Serves, Possible, usage_text};
+ghost use Rattle.lru_tool.specs.Program.{settings_of, fresh, commands_of, status_of};
+
+use crate::command::{Command, command_from};
+use crate::keyed::Keyed;
+use crate::parts::{lines, parts};
+use crate::replies::answer;
+use crate::settings::{Settings, settings_from};
+use pingora_lru::lru_core::LruCore;
+use std::alloc::{AllocError, Global};
+use std::io;
+use std::io::{ErrorKind, Read, Write};
+
+// The command of a line, if it is one.
+fn line_command(alloc: Global, line: &[u8]) -> Result<Option<Command>, AllocError>
+    ensures { IfOk result (λ command. command ≡ command_of line.now) }
+{
+    let words = parts(alloc, line, b' ')?;
+    Ok(command_from(&words))
+}
+
+// The commands of an input, a line each.
+fn commands(alloc: Global, input: &[u8]) -> Result<Vec<Option<Command>>, AllocError>
+    ensures { IfOk result (λ commands. commands.items ≡ commands_of input.now) }
+{
+    let lines = lines(alloc, input)?;
+    let mut commands = Vec::new(alloc);
+    for line in &lines {
+        commands.push(line_command(alloc, line)?)?;
+    }
+    Ok(commands)
+}
+
+// Answers line after line, up to and with a bad one; whether there was none.
+fn serve<W: Write>(
+    core: &mut LruCore<Keyed, 2>,
+    lines: &[Option<Command>],
+    writer: &mut W,
+) -> io::Result<bool>
+    requires { All Possible lines.now }
+    ensures text { OnOk result ((text : List ℕ) × (Serves core.old lines.now 1 text × Appends (W.contents writer.old) (W.contents writer.new) text)) }
+    ensures good { IfOk result (λ good. good ≡ list_all is_some lines.now) }
+{
+    for (index, line) in lines.iter().enumerate() {
+        match *line {
+            Some(command) => answer(core, command, writer)?,
+            None => {
+                let number = index + 1;
+                writeln!(writer, "error line {number}")?;
+                return Ok(false);
+            }
+        }
+    }
+    Ok(true)
+}
+
+fn memory_error<W: Write>(writer: &mut W) -> u8
+    ensures { result ≡ 1 }
+{
+    let _ = writeln!(writer, "error memory");
+    1
+}
+
+/// Reads the whole input, makes the core, and answers one line for each command; the answer is the exit status.
+///
+/// Wrong arguments: the usage line, and status 2. A bad line: its error after the replies before it, and
+/// status 2. A read that fails, input or core that find no memory, and a write that fails: status 1.
+pub fn run<R: Read, W: Write>(
+    alloc: Global,
+    arguments: &[String],
+    reader: &mut R,
+    writer: &mut W,
+) -> u8
+    ensures usage { settings_of (map string_bytes arguments.now) ≡ None → result ≢ 1 → (result ≡ 2) × Appends (W.contents writer.old) (W.contents writer.new) usage_text }
+    ensures served { IfSome (settings_of (map string_bytes arguments.now)) (λ settings. result ≢ 1 → IfSome (R.remaining reader.old) (λ input.
+        (result ≡ status_of (commands_of input)) × ((text : List ℕ) × (Serves (fresh settings) (commands_of input) 1 text × Appends (W.contents writer.old) (W.contents writer.new) text)))) }
+{
+    let Some(settings) = settings_from(arguments) else {
+        if let Err(_) = writeln!(writer, "usage: lru_tool LIMIT WATERMARK SEED") {
+            return 1;
+        }
+        return 2;
+    };
+    let mut input = Vec::new(alloc);
+    if let Err(error) = reader.read_to_end(&mut input) {
+        if error.kind() == ErrorKind::OutOfMemory {
+            return memory_error(writer);
+        }
+        let _ = writeln!(writer, "error input");
+        return 1;
+    }
+    let Ok(lines) = commands(alloc, &input) else {
+        return memory_error(writer);
+    };
+    let Ok(mut core) = make_core(alloc, settings) else {
+        return memory_error(writer);
+    };
+    match serve(&mut core, &lines, writer) {
+        Ok(true) => 0,
+        Ok(false) => 2,
+        Err(_) => 1,
+    }
+}
+
+fn make_core(alloc: Global, settings: Settings) -> Result<LruCore<Keyed, 2>, AllocError>
+    ensures { IfOk result (λ core. core ≡ fresh settings) }
+{
+    let watermark = match settings.watermark {
+        Some(most) => Some(most as usize),
+        None => None,
+    };
+    LruCore::with_capacity_and_watermark(alloc, settings.limit as usize, 0, watermark)
+}

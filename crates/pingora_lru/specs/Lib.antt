@@ -1,0 +1,13 @@
+pub mod Row
+pub mod Shard
+pub mod Unit
+pub mod Linked
+pub mod LinkedNodes
+pub mod LinkedLends
+pub mod Table
+pub mod Units
+pub mod Core
+pub mod CoreCalls
+pub mod Eviction
+pub mod Calls
+pub mod LruCalls

@@ -1,0 +1,13 @@
+pub mod NamesLemmas
+pub mod SaveSteps
+pub mod Putting
+pub mod TurnsLemmas
+pub mod PlacesLemmas
+pub mod SavesSoFar
+pub mod HeldLemmas
+pub mod MadeLemmas
+pub mod ListingLemmas
+pub mod MemoryLemmas
+mod CleanupLemmas
+mod CleanupNames
+mod LoadingLemmas

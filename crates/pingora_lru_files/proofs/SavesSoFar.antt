@@ -1,0 +1,113 @@
+-- A save between two turns.
+use Rattle.std.proofs.Common.{◌≡◌, ◌≤◌, ◌<◌, ◌^◌, ℕ, suc, Bool, true, false, cond, nat_lt, Option, Some, None, IfSome, List, [], ◌∷◌, ◌++◌, length, refl, sym, ◌∙◌, ap, subst, arith}
+use Rattle.pingora_lru_files.specs.declared.fault.FolderFault.{FolderFault}
+use Rattle.pingora_lru_files.specs.declared.fault.FolderFault.TheVariants.{NotFound, Memory, Io}
+use Rattle.pingora_lru_files.specs.declared.errors.ShardSaveFailure.{ShardSaveFailure}
+use Rattle.pingora_lru_files.specs.declared.errors.ShardSaveFailure.TheVariants as failure
+use Rattle.pingora_lru_files.specs.Files.{Files, Same}
+use Rattle.pingora_lru_files.specs.Folder.{Passes}
+use Rattle.pingora_lru_files.specs.Moments.{started, goes_on, then_run}
+use Rattle.pingora_lru_files.specs.Names.{has_slash}
+use Rattle.pingora_lru_files.specs.Places.{Folders, folder_of, is_there, MakesAll}
+use Rattle.pingora_lru_files.specs.Saving.{HasReason, source_of}
+use Rattle.pingora_lru_files.specs.Progress.{Progress, TakesTurn, next_of}
+use Rattle.std.proofs.lemmas.Bool.{ltb-true}
+use Rattle.pingora_lru_files.specs.Turns.{Turn, EachTurn, Ends, EachOldOrGiven, IsKept, IsRefused, IfIo, SavesOne, SavesEach, failures_of, temp_path}
+use Rattle.pingora_lru_files.proofs.NamesLemmas.{has_slash-temp_text}
+use Rattle.pingora_lru_files.proofs.PlacesLemmas.{there}
+use Rattle.pingora_lru_files.proofs.Putting.{same_progress}
+use Rattle.pingora_lru_files.proofs.TurnsLemmas.{EachTurn-push, failures-push, get-below, length-push, none_yet, one_more, its_own, still_kept}
+
+-- what the saver knows
+pub record IsSoFar {E : Type 0} (dir file_name : List ℕ) (shards : ℕ) (turns : List (Turn E)) (saver : Progress E) : Type 0 where
+  pub saver_is : saver ≡ record { dir = dir; file_name = file_name; shards = shards; next = length turns; failures = failures_of turns }
+  pub some : length turns ≤ shards
+  pub ends : EachTurn (Ends dir file_name) turns
+
+-- what the folder holds
+pub record SavesSoFar {F E : Type 0} (clock : F → ℕ) (stopped_since : F → ℕ → Files → Type 0) (files : F → Files) (faults : F → ℕ) (folders : F → Folders)
+    (dir file_name : List ℕ) (turns : List (Turn E)) (old new : F) : Type 0 where
+  pub each : SavesEach clock stopped_since files faults dir file_name turns old new
+  pub later : faults old ≤ faults new
+  pub is_there_now : (shard word : ℕ) → shard < 2 ^ 64 → word < 2 ^ 32 → is_there (folders new) (folder_of (temp_path dir file_name shard word)) ≡ true
+
+-- a fault that is neither the device's nor a missing folder's is one of memory
+of_memory : (is : Bool) (before now : ℕ) (source : FolderFault) → is ≡ true → now ≡ before → HasReason is before now source → source ≡ Memory
+of_memory is before now NotFound here same reason = absurd (reason.missing refl here)
+of_memory is before now Memory here same reason = refl
+of_memory is before now Io here same reason = let rose = reason.failed refl in absurd (omega arith)
+
+refused_by : {E : Type 0} (is : Bool) (before now : ℕ) (failed : Option (ShardSaveFailure E)) → is ≡ true → now ≡ before
+    → IfSome failed (λ f. IfIo f (HasReason is before now)) → IfSome failed IsRefused
+refused_by is before now None here same reason = tt
+refused_by is before now (Some (failure.Serialize at source)) here same reason = tt
+refused_by is before now (Some (failure.Io at source)) here same reason = of_memory is before now (source_of source) here same reason
+refused_by is before now (Some (failure.Memory at)) here same reason = tt
+
+-- the shard whose turn it is
+pub next_some : {E : Type 0} (p : Progress E) (shard : ℕ) → Some shard ≡ next_of p → (shard ≡ p.next) × (p.next < p.shards)
+next_some p shard e = go (nat_lt p.next p.shards) refl e
+  where
+    go : (b : Bool) → nat_lt p.next p.shards ≡ b → Some shard ≡ cond b (Some p.next) None → (shard ≡ p.next) × (p.next < p.shards)
+    go true is some = (cc, ltb-true p.next p.shards is)
+    go false is none = absurd (let f : ⊥ = cc in f)
+
+-- no turn yet
+pub knows_none : {E : Type 0} (dir file_name : List ℕ) (shards : ℕ) (saver : Progress E)
+    → saver ≡ record { dir = dir; file_name = file_name; shards = shards; next = 0; failures = [] } → IsSoFar dir file_name shards [] saver
+knows_none dir file_name shards saver is = record { saver_is = is; some = omega arith; ends = λ i t e. absurd (let below = get-below [] i t e in omega arith) }
+
+-- and one more
+pub knows_one : {E : Type 0} (dir file_name : List ℕ) (shards : ℕ) (turns : List (Turn E)) (turn : Turn E) (old new : Progress E) → IsSoFar dir file_name shards turns old
+    → old.next < shards → TakesTurn old new turn → IsSoFar dir file_name shards (turns ++ turn ∷ []) new
+knows_one {E} dir file_name shards turns turn old new so_far left takes =
+    let is = so_far.saver_is in
+    let next_is = ap (λ p. p.next) is in
+    record {
+      saver_is = takes.new_is ∙ same_progress _ _ (ap (λ p. p.dir) is) (ap (λ p. p.file_name) is) (ap (λ p. p.shards) is)
+          (ap suc next_is ∙ sym (length-push turns turn)) (ap (λ p. p.failures ++ failures_of (turn ∷ [])) is ∙ sym (failures-push turns turn));
+      some = omega (arith, next_is, length-push turns turn);
+      ends = EachTurn-push (Ends dir file_name) turns turn so_far.ends
+          (subst (λ (p : Progress E). Ends p.dir p.file_name p.next turn) is takes.ends);
+    }
+
+module _ {F E : Type 0} (clock : F → ℕ) (stopped_since : F → ℕ → Files → Type 0) (files : F → Files) (faults : F → ℕ) (folders : F → Folders)
+    (dir file_name : List ℕ) (old : F) where
+  -- once the folder is made, before the first turn
+  pub saves_none : (new : F) → ((m : Files) → stopped_since old (clock old) m → m ≡ files old) → Passes clock stopped_since files Same old new
+      → MakesAll dir (folders old) (folders new) → has_slash file_name ≡ false → faults old ≤ faults new
+      → SavesSoFar {E = E} clock stopped_since files faults folders dir file_name [] old new
+  saves_none new only call made none rose =
+      let P = EachOldOrGiven {E = E} dir file_name [] (files old) in
+      let at_start = started clock stopped_since files P old only (none_yet dir file_name (files old)) (none_yet dir file_name (files old) (files old) refl) in
+      record {
+        each = record {
+          any_moment = goes_on clock stopped_since files P Same old old new at_start call (none_yet dir file_name (files old));
+          kept = λ i t e. absurd (let below = get-below [] i t e in omega arith);
+          refused = λ same i t e. absurd (let below = get-below [] i t e in omega arith);
+        };
+        later = rose;
+        is_there_now = λ shard word small short. there dir _ (folders old) (folders new) made (has_slash-temp_text file_name shard word small short ∙ none);
+      }
+
+  -- one turn more
+  pub saves_one : (turns : List (Turn E)) (turn : Turn E) (mid new : F) → length turns < 2 ^ 64 → turn.word < 2 ^ 32
+      → SavesSoFar clock stopped_since files faults folders dir file_name turns old mid
+      → SavesOne clock stopped_since files faults folders dir file_name (length turns) turn mid new
+      → SavesSoFar clock stopped_since files faults folders dir file_name (turns ++ turn ∷ []) old new
+  saves_one turns turn mid new small short so_far one = record {
+    each = record {
+      any_moment = then_run clock stopped_since files _ _ (EachOldOrGiven dir file_name (turns ++ turn ∷ []) (files old)) old mid new so_far.each.any_moment one.any_moment
+          (one_more dir file_name turns turn small (files old))
+          (λ m h. its_own dir file_name turns turn small (files old) (files mid) m so_far.each.any_moment.now h);
+      kept = EachTurn-push (IsKept dir file_name (files new)) turns turn
+          (still_kept dir file_name turns turn small (files mid) (files new) one.any_moment.now so_far.each.kept) one.kept;
+      refused = λ same.
+          let then_same : faults mid ≡ faults old = omega (arith, so_far.later, one.later, same) in
+          let now_same : faults new ≡ faults mid = omega (arith, same, then_same) in
+          EachTurn-push (λ i t. IfSome t.failed IsRefused) turns turn (so_far.each.refused then_same)
+          (refused_by _ (faults mid) (faults new) turn.failed (so_far.is_there_now (length turns) turn.word small short) now_same one.reason);
+    };
+    later = omega (arith, so_far.later, one.later);
+    is_there_now = λ shard word a b. ap (λ (f : Folders). is_there f (folder_of (temp_path dir file_name shard word))) one.places ∙ so_far.is_there_now shard word a b;
+  }

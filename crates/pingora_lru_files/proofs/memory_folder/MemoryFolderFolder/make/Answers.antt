@@ -1,0 +1,38 @@
+use Rattle.std.proofs.Common.{◌∷◌, [], ◌++◌, List, refl, ap, ◌∙◌}
+use Rattle.pingora_lru_files.specs.declared.calls.Noted.{Noted}
+use Rattle.pingora_lru_files.specs.declared.calls.Call.TheVariants.{Look}
+use Rattle.pingora_lru_files.specs.declared.calls.End.TheVariants.{Done, Failed}
+use Rattle.pingora_lru_files.specs.Held.{files_in}
+use Rattle.pingora_lru_files.proofs.MemoryLemmas.{replayed, passes}
+use Rattle.pingora_lru_files.specs.Files.{Same}
+use Rattle.pingora_lru_files.proofs.memory_folder.MemoryFolderFolder.make.Goals as goal
+
+pub invariant_of-self-then-is_some : goal.invariant_of-self-then-is_some
+invariant_of-self-then-is_some c =
+    let s = c.self.inside in
+    let n : Noted = record { call = Look; end = Failed 0 } in
+    record {
+      held = replayed (files_in s.begun.entries) s.calls.items c.reserve.new.self.items c.note.new.calls.items n (files_in s.held.entries) (files_in s.held.entries)
+          c.self.invariant.held c.reserve.ensures.items c.note.ensures (refl);
+    }
+
+pub returns-then-is_some-clause-time : goal.returns-then-is_some-clause-time
+returns-then-is_some-clause-time c _ =
+    let n : Noted = record { call = Look; end = Failed 0 } in
+    passes c.args.self.now _ n (Same) (refl) (ap (λ m. m.begun) c.self.view_is)
+    (c.note.ensures ∙ ap (λ (l : List Noted). l ++ n ∷ []) (c.reserve.ensures.items ∙ ap (λ m. m.calls) c.self.view_is))
+
+pub invariant_of-self-2 : goal.invariant_of-self-2
+invariant_of-self-2 c =
+    let s = c.self.inside in
+    let n : Noted = record { call = Look; end = Done } in
+    record {
+      held = replayed (files_in s.begun.entries) s.calls.items c.reserve.new.self.items c.note-2.new.calls.items n (files_in s.held.entries) (files_in s.held.entries)
+          c.self.invariant.held c.reserve.ensures.items c.note-2.ensures (refl);
+    }
+
+pub returns-clause-time : goal.returns-clause-time
+returns-clause-time c _ =
+    let n : Noted = record { call = Look; end = Done } in
+    passes c.args.self.now _ n (Same) (refl) (ap (λ m. m.begun) c.self.view_is)
+    (c.note-2.ensures ∙ ap (λ (l : List Noted). l ++ n ∷ []) (c.reserve.ensures.items ∙ ap (λ m. m.calls) c.self.view_is))

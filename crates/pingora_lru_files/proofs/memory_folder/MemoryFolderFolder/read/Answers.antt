@@ -1,0 +1,55 @@
+use Rattle.std.proofs.Common.{◌≡◌, ◌∷◌, [], ◌++◌, List, refl, sym, ap, ◌∙◌}
+use Rattle.pingora_lru_files.specs.declared.calls.Noted.{Noted}
+use Rattle.pingora_lru_files.specs.declared.calls.Call.TheVariants.{Look}
+use Rattle.pingora_lru_files.specs.declared.calls.End.TheVariants.{Done, Failed}
+use Rattle.pingora_lru_files.specs.Held.{files_in}
+use Rattle.pingora_lru_files.proofs.MemoryLemmas.{replayed, passes, reads_on}
+use Rattle.pingora_lru_files.specs.Files.{Same, bytes_at}
+use Rattle.std.proofs.Common.{◌+◌, length, take, drop, string_bytes, subst, rules}
+use Rattle.pingora_lru_files.specs.Folder.{Reading, Reads}
+use Rattle.pingora_lru_files.specs.MemoryInside.{opened_in}
+use Rattle.pingora_lru_files.proofs.memory_folder.MemoryFolderFolder.read.Goals as goal
+
+pub invariant_of-self-then-is_some : goal.invariant_of-self-then-is_some
+invariant_of-self-then-is_some c =
+    let s = c.self.inside in
+    let n : Noted = record { call = Look; end = Failed 0 } in
+    record {
+      held = replayed (files_in s.begun.entries) s.calls.items c.reserve.new.self.items c.note.new.calls.items n (files_in s.held.entries) (files_in s.held.entries)
+          c.self.invariant.held c.reserve.ensures.items c.note.ensures (refl);
+    }
+
+pub returns-then-is_some-clause-time : goal.returns-then-is_some-clause-time
+returns-then-is_some-clause-time c _ =
+    let n : Noted = record { call = Look; end = Failed 0 } in
+    passes c.args.self.now _ n (Same) (refl) (ap (λ m. m.begun) c.self.view_is)
+    (c.note.ensures ∙ ap (λ (l : List Noted). l ++ n ∷ []) (c.reserve.ensures.items ∙ ap (λ m. m.calls) c.self.view_is))
+
+pub invariant_of-self-2 : goal.invariant_of-self-2
+invariant_of-self-2 c =
+    let s = c.self.inside in
+    let n : Noted = record { call = Look; end = Done } in
+    record {
+      held = replayed (files_in s.begun.entries) s.calls.items c.reserve.new.self.items c.note-2.new.calls.items n (files_in s.held.entries) (files_in s.held.entries)
+          c.self.invariant.held c.reserve.ensures.items c.note-2.ensures (refl);
+    }
+
+pub returns-clause-time : goal.returns-clause-time
+returns-clause-time c _ =
+    let n : Noted = record { call = Look; end = Done } in
+    passes c.args.self.now _ n (Same) (refl) (ap (λ m. m.begun) c.self.view_is)
+    (c.note-2.ensures ∙ ap (λ (l : List Noted). l ++ n ∷ []) (c.reserve.ensures.items ∙ ap (λ m. m.calls) c.self.view_is))
+
+pub returns-clause-done : goal.returns-clause-done
+returns-clause-done c _ left is =
+    let files = files_in c.self.inside.held.entries in
+    let bytes = bytes_at files (string_bytes c.in-Reading.path) in
+    let place = c.in-Reading.at in
+    let was : Reading left ≡ Reading (drop place bytes) = sym is ∙ ap (λ m. m.opened) (sym c.self.view_is) ∙ ap (opened_in files) c.in-Reading.is in
+    let left_is : left ≡ drop place bytes = cc in
+    let piece_is = c.in_ok-piece.ensures.piece ∙ ap (λ p. take c.args.max (drop place (bytes_at files p))) c.as_str.ensures.value in
+    let len_is : c.len.result ≡ length c.in_ok-piece.piece.items = search rules in (
+      drop (place + length c.in_ok-piece.piece.items) bytes,
+      ap (λ k. Reading (drop (place + k) bytes)) len_is,
+      subst (λ l. Reads c.args.max l c.in_ok-piece.piece.items (drop (place + length c.in_ok-piece.piece.items) bytes)) (sym left_is) (reads_on c.args.max place bytes c.in_ok-piece.piece.items piece_is),
+    )

@@ -1,0 +1,54 @@
+use Rattle.std.proofs.Common.{◌≡◌, ◌<◌, ◌^◌, ◌∷◌, [], ◌++◌, length, refl, sym, ◌∙◌, ap, subst, arith}
+use Rattle.pingora_lru_files.specs.Turns.{SavesOne}
+use Rattle.pingora_lru_files.specs.Progress.{Progress}
+use denote.Param.Always.{mut_next}
+use Rattle.pingora_lru_files.proofs.SavesSoFar.{next_some, knows_none, knows_one, saves_none, saves_one}
+use Rattle.pingora_lru_files.proofs.TurnsLemmas.{RunsTo-push}
+use Rattle.pingora_lru_files.proofs.saving.save_shards.Goals as goal
+use Rattle.pingora_lru_files.proofs.saving.save_shards.Given as given
+
+pub loop-shard-init : goal.loop-shard-init
+loop-shard-init g c =
+    let F = g.F.Folder in
+    let start = c.args.folder.now in
+    let s = c.in_ok-saver.ensures in
+    record {
+      callable = c.requires.callable;
+      kept = c.start.ensures.kept;
+      run = (
+        [],
+        (refl, refl),
+        knows_none c.args.dir_path.now c.args.file_name.now c.args.shards c.in_ok-saver.saver s.begun,
+        λ k. saves_none F.clock F.stopped_since F.files F.faults F.folders c.args.dir_path.now c.args.file_name.now start c.start.new.folder
+            (λ m h. g.met.F.Folder.only_now start m k h) (s.time k) (s.made k) c.requires.name (s.faults k),
+      );
+    }
+
+pub loop-shard-preserved : goal.loop-shard-preserved
+loop-shard-preserved g c =
+    let F = g.F.Folder in
+    let so_far = c.loop-shard.invariant in
+    let turns = so_far.run.0 in
+    let put = c.put.ensures.turn in
+    let turn = put.0 in
+    let is = so_far.run.2.saver_is in
+    let here = next_some c.loop-shard.saver c.in-Some.shard c.in-Some.ensures in
+    let at : c.in-Some.shard ≡ length turns = here.0 ∙ ap (λ p. p.next) is in
+    let left : c.loop-shard.saver.next < c.args.shards = omega (arith, here.1, ap (λ p. p.shards) is) in
+    let small : length turns < 2 ^ 64 = omega (arith, at, here.0, left, c.ranges.shards.fits) in
+    let short : turn.word < 2 ^ 32 = omega (arith, put.1) in
+    record {
+      callable = mut_next g.S.FnMut _ _ _ _ _ c.serialize-given.ensures refl so_far.callable;
+      kept = (λ k. c.put.ensures.kept.0 (so_far.kept.0 k), λ k. so_far.kept.1 (c.put.ensures.kept.1 k));
+      run = (
+        turns ++ turn ∷ [],
+        RunsTo-push (given.S-step g) turns 0 c.in-Some.shard c.args.serialize c.loop-shard.serialize c.serialize-given.new.self
+            (g.R.Rng.stream c.args.rng.now) (g.R.Rng.stream c.loop-shard.rng) (g.R.Rng.stream c.next_u32-word.new.self) turn (omega (arith, at)) so_far.run.1
+            (subst (λ r. given.S-step g c.loop-shard.serialize c.in-Some.shard r c.serialize-given.new.self) (sym put.2) c.serialize-given.ensures)
+            ((λ i. (put.1 i, g.R.Rng.stream c.next_u32-word.new.self)) ∙ c.next_u32-word.ensures),
+        knows_one c.args.dir_path.now c.args.file_name.now c.args.shards turns turn c.loop-shard.saver c.put.new.self so_far.run.2 left put.3,
+        λ k. saves_one F.clock F.stopped_since F.files F.faults F.folders c.args.dir_path.now c.args.file_name.now c.args.folder.now
+            turns turn c.loop-shard.folder c.put.new.folder small short (so_far.run.3 k)
+            (subst (λ (p : Progress _). SavesOne F.clock F.stopped_since F.files F.faults F.folders p.dir p.file_name p.next turn c.loop-shard.folder c.put.new.folder) is (put.4 (so_far.kept.0 k))),
+      );
+    }

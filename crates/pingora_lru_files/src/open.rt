@@ -1,0 +1,9 @@
+// The open file of a folder in memory.
+
+#[derive(Debug, Drop)]
+pub(crate) enum Open {
+    Closed,
+    Writing(String),
+    /// The path, and how many of its bytes were read.
+    Reading(String, usize),
+}

@@ -1,0 +1,29 @@
+//! Saving the shards of an LRU to files, and loading them again.
+//!
+//! [`save_shards`] and [`ShardSaver`] write each shard into a file of its own: first to a temporary file, which then
+//! takes the place of the shard's file, so that a stop in between leaves the old shard or the new one.
+//! [`load_shards`] reads them again. All go through a [`Folder`]: [`HostFolder`] is the host's file system, and
+//! [`MemoryFolder`] keeps its files in memory.
+
+/// Why a shard was not saved or loaded: which file's call failed, and at which shard.
+pub use crate::errors::{
+    ShardFileError, ShardLoadFailure, ShardSaveError, ShardSaveFailure, ShardSaveSetupError,
+};
+/// Why a folder refused a call.
+pub use crate::fault::FolderFault;
+/// The calls through which files are saved, loaded and removed.
+pub use crate::folder::Folder;
+/// The host's file system.
+pub use crate::host_folder::HostFolder;
+/// One entry of a folder's list.
+pub use crate::listed::Listed;
+/// Loads each shard from its file.
+pub use crate::loading::load_shards;
+/// Files and folders in memory, whose calls can be told to fail.
+pub use crate::memory_folder::MemoryFolder;
+/// What a save, a load or a cleanup did.
+pub use crate::reports::{ShardLoadReport, ShardSaveReport, TempFileCleanupReport};
+/// Saves each shard into its file.
+pub use crate::saving::save_shards;
+/// A save of shards that is made one shard at a time.
+pub use crate::shard_saver::ShardSaver;

@@ -1,0 +1,15 @@
+//! Tests of the library of shard files.
+#![tactic(auto)]
+
+#[cfg(test)]
+mod folder_tests;
+#[cfg(test)]
+mod loading_memory_tests;
+#[cfg(test)]
+mod loading_tests;
+#[cfg(test)]
+mod saving_tests;
+#[cfg(test)]
+mod shelf;
+#[cfg(test)]
+mod text_tests;
