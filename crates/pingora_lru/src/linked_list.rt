@@ -41,6 +41,9 @@ struct Node<K> {
     item: K,
 }
 
+// A node of a number takes 16 bytes: the two links and the number.
+const _: [u8; 16] = [0; mem::size_of::<Node<u64>>()];
+
 /// Why a push was refused. It hands the item back.
 #[derive(Debug, Drop)]
 pub enum PushError<K> {

@@ -1,8 +1,8 @@
 // A folder for tests, which answers as it is told to.
 ghost use Rattle.std.specs.FinMap.{empty};
 ghost use Rattle.std.specs.FinSet.{empty as nothing};
-ghost use Rattle.std.specs.Prelude.{if◌then◌else◌};
-ghost use Rattle.pingora_lru_files.specs.Folder.{Opened, Closed, Lost};
+ghost use Rattle.std.specs.Prelude.{◌≡◌, [], if◌then◌else◌};
+ghost use Rattle.pingora_lru_files.specs.Folder.{Opened, Closed, Lost, Writing};
 
 use pingora_lru_files::persistence::{Folder, FolderFault, Listed};
 use std::alloc::Global;
@@ -15,7 +15,8 @@ pub enum File<'a> {
     FailsToRead(FolderFault),
 }
 
-/// A folder whose files are given. A path that is in no pair is not there.
+/// A folder whose files are given. A path that is in no pair is not there. Files can be created, and no write
+/// gets through.
 #[derive(Debug, Drop)]
 pub struct Shelf<'a> {
     alloc: Global,
@@ -24,10 +25,11 @@ pub struct Shelf<'a> {
     stuck: &'a str,
     open: File<'a>,
     is_open: bool,
+    is_written: bool,
 }
 
 impl<'a> Shelf<'a> {
-    /// A folder with these files, whose listing is given too. The path `stuck` cannot be removed.
+    /// A folder with these files, whose listing is given too. The path `stuck` can be neither removed nor created.
     pub fn new(
         alloc: Global,
         files: &'a [(&'a str, File<'a>)],
@@ -41,7 +43,15 @@ impl<'a> Shelf<'a> {
             stuck,
             open: File::FailsToOpen(FolderFault::NotFound),
             is_open: false,
+            is_written: false,
         }
+    }
+
+    fn close(&mut self)
+        ensures { self.new ≡ record self.old { is_open = false; is_written = false } }
+    {
+        self.is_open = false;
+        self.is_written = false;
     }
 
     fn file_at(&self, path: &str) -> File<'a> {
@@ -59,7 +69,7 @@ impl Folder for Shelf<'_> {
 
     ghost folders = { λ _. nothing };
 
-    ghost opened = { λ shelf. if shelf.is_open then Lost else Closed };
+    ghost opened = { λ shelf. if shelf.is_open then Lost else (if shelf.is_written then Writing [] else Closed) };
 
     ghost clock = { λ _. 0 };
 
@@ -74,13 +84,17 @@ impl Folder for Shelf<'_> {
     ghost only_now = { λ _ _ broken _. absurd broken };
 
     fn make(&mut self, _dir: &str) -> Result<(), FolderFault> {
-        self.is_open = false;
+        self.close();
         Err(FolderFault::Io)
     }
 
-    fn create(&mut self, _path: &str) -> Result<(), FolderFault> {
-        self.is_open = false;
-        Err(FolderFault::Io)
+    fn create(&mut self, path: &str) -> Result<(), FolderFault> {
+        self.close();
+        if path == self.stuck {
+            return Err(FolderFault::Io);
+        }
+        self.is_written = true;
+        Ok(())
     }
 
     fn write(&mut self, _piece: &[u8]) -> Result<(), FolderFault> {
@@ -92,12 +106,12 @@ impl Folder for Shelf<'_> {
     }
 
     fn rename(&mut self, _from: &str, _to: &str) -> Result<(), FolderFault> {
-        self.is_open = false;
+        self.close();
         Err(FolderFault::Io)
     }
 
     fn open(&mut self, path: &str) -> Result<u64, FolderFault> {
-        self.is_open = false;
+        self.close();
         self.open = self.file_at(path);
         match self.open {
             File::FailsToOpen(fault) => Err(fault),
@@ -121,7 +135,7 @@ impl Folder for Shelf<'_> {
     }
 
     fn list(&mut self, _dir: &str) -> Result<Vec<Listed>, FolderFault> {
-        self.is_open = false;
+        self.close();
         let names = self.listing?;
         let mut listed = Vec::new(self.alloc);
         for name in names {
@@ -135,7 +149,7 @@ impl Folder for Shelf<'_> {
     }
 
     fn remove(&mut self, path: &str) -> Result<(), FolderFault> {
-        self.is_open = false;
+        self.close();
         if path == self.stuck {
             return Err(FolderFault::Io);
         }
