@@ -10,4 +10,5 @@ pub mod Core
 pub mod CoreCalls
 pub mod Eviction
 pub mod Calls
+pub mod Inclusion
 pub mod LruCalls

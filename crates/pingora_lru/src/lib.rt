@@ -6,6 +6,7 @@
 #![tactic(auto)]
 
 pub mod calls;
+pub mod inclusion;
 pub mod linked_list;
 pub mod lru;
 pub mod lru_core;
