@@ -1,4 +1,4 @@
-use Rattle.std.proofs.Common.{◌≡◌, ℕ, ◌%◌, ◌<◌, ◌≤◌, max, true, false, ◌||◌, List, [], ◌∷◌, ◌++◌, map, length, take, drop, set, get_or, Some, None, Ok, Err, refl, sym, ap, ◌∙◌, arith, subst, inl, inr, lit≤}
+use Rattle.std.proofs.Common.{◌≡◌, ℕ, ◌%◌, ◌≤◌, max, false, ◌||◌, List, [], ◌∷◌, ◌++◌, map, length, take, drop, set, get_or, Some, None, Ok, Err, refl, sym, ap, ◌∙◌, arith, subst, inl, inr}
 use Rattle.std.specs.Prelude.{Bool, Option, All, filter, sum_by, nat_lt, IsFalse}
 use Rattle.std.proofs.lemmas.Bool.{cases_lt, false≢true, ltb-false, le-ltb, or_parts, or_from}
 use Rattle.std.proofs.lemmas.List.{map-append, take-append-drop, take-append-le, length-set, get_or-set_same}
@@ -12,7 +12,7 @@ use Rattle.pingora_lru.specs.Row.{Row, row, weight_of, first, without, with_weig
 use Rattle.pingora_lru.specs.Core.{Core, list_at, with_list, home}
 use Rattle.pingora_lru.specs.Eviction.{is_over, is_above, EvictionRun, KeepsLongestFront}
 use Rattle.pingora_lru.specs.Calls.{Gives, Run}
-use Rattle.pingora_lru.specs.Inclusion.{IsFrontOf, IsNoHigher, IsStackCall, IsGranted, LeadsTo}
+use Rattle.pingora_lru.specs.Inclusion.{IsFrontOf, IsNoHigher, IsInclusionCall, IsGranted}
 use Rattle.pingora_lru.proofs.EvictionRuns.{take_take, run_long, longest_front}
 use Rattle.pingora_lru.proofs.CallLaws.{all_first, all_rest}
 use Rattle.pingora_lru.proofs.inclusion.inclusion_law.Goals as goal
@@ -84,12 +84,14 @@ module _ {T : Type 0} where
 
   keyed : (old : Core T) (k : ℕ) (new : Core T) (edit : List (Row T) → List (Row T)) → length old.lists ≡ 1 → new ≡ with_list old (home old k) (edit (list_at old (home old k))) → Keeps old new × (list_at new 0 ≡ edit (list_at old 0))
   keyed old k new edit one e =
-      let at : new ≡ with_list old 0 (edit (list_at old 0)) = e ∙ ap (λ s. with_list old s (edit (list_at old s))) (home_zero old k one) in
-      (record {
-        long = ap (λ (c : Core T). length c.lists) at ∙ length-set old.lists 0 (edit (list_at old 0));
-        limit = ap (λ (c : Core T). c.weight_limit) at;
-        mark = ap (λ (c : Core T). c.watermark) at;
-      }, ap (λ (c : Core T). list_at c 0) at ∙ get_or-set_same old.lists 0 (edit (list_at old 0)) [] (omega (arith, one)))
+      let at : new ≡ with_list old 0 (edit (list_at old 0)) = e ∙ ap (λ s. with_list old s (edit (list_at old s))) (home_zero old k one) in (
+        record {
+          long = ap (λ (c : Core T). length c.lists) at ∙ length-set old.lists 0 (edit (list_at old 0));
+          limit = ap (λ (c : Core T). c.weight_limit) at;
+          mark = ap (λ (c : Core T). c.watermark) at;
+        },
+        ap (λ (c : Core T). list_at c 0) at ∙ get_or-set_same old.lists 0 (edit (list_at old 0)) [] (omega (arith, one)),
+      )
 
   run_keeps : (old : Core T) (pairs : List (T × ℕ)) (new : Core T) → EvictionRun old pairs new → Keeps old new
   run_keeps old [] new run = subst (λ c. Keeps old c) (sym run) (record { long = refl; limit = refl; mark = refl })
@@ -102,7 +104,7 @@ module _ {T : Type 0} where
         mark = rest.mark ∙ ap (λ (c : Core T). c.watermark) left;
       }
 
-  moves : (old : Core T) (call : Call T) (reply : Reply T) (new : Core T) → length old.lists ≡ 1 → IsStackCall call → IsGranted reply → Gives old call reply new → Keeps old new × Moves call old new
+  moves : (old : Core T) (call : Call T) (reply : Reply T) (new : Core T) → length old.lists ≡ 1 → IsInclusionCall call → IsGranted reply → Gives old call reply new → Keeps old new × Moves call old new
   moves old (Admit k d w) (Shard (Ok s)) new one c g h =
       let acts = h.1.1 in
       keyed old k new (λ rows. first rows (row k d (max w 1))) one (acts.left ∙ ap (λ z. with_list old (home old k) z.rows) acts.acts.1.left)
@@ -142,7 +144,7 @@ module _ {T : Type 0} where
         | inr le ↦ subst (λ zs. IsFrontOf zs (list_at d 0)) same (subst (λ zs. IsFrontOf (take s.kept ys) zs) (sym l.rows) (front-take s.kept l.kept ys le))
       ]
 
-  moved_front : (call : Call T) (a b c d : Core T) → IsStackCall call → Includes a b → Keeps a c → Moves call a c → Moves call b d → IsFrontOf (list_at c 0) (list_at d 0)
+  moved_front : (call : Call T) (a b c d : Core T) → IsInclusionCall call → Includes a b → Keeps a c → Moves call a c → Moves call b d → IsFrontOf (list_at c 0) (list_at d 0)
   moved_front (Admit k v w) a b c d s i ka m n =
       subst (λ xs. IsFrontOf xs (list_at d 0)) (sym m) (subst (λ ys. IsFrontOf (first (list_at a 0) (row k v (max w 1))) ys) (sym n)
       (front-cons _ _ _ (front-filter _ _ _ i.front)))
@@ -153,7 +155,7 @@ module _ {T : Type 0} where
   moved_front EvictToLimit a b c d s i ka m n = evict_front a b c d i ka m.0 m.1 n.0
   moved_front _ a b c d s i ka m n = absurd s
 
-  includes_more : (call : Call T) (r s : Reply T) (a b c d : Core T) → IsStackCall call → IsGranted r → IsGranted s → Gives a call r c → Gives b call s d → Includes a b → Includes c d
+  includes_more : (call : Call T) (r s : Reply T) (a b c d : Core T) → IsInclusionCall call → IsGranted r → IsGranted s → Gives a call r c → Gives b call s d → Includes a b → Includes c d
   includes_more call r s a b c d stack gr gs ga gb i =
       let m = moves a call r c i.one_a stack gr ga in
       let n = moves b call s d i.one_b stack gs gb in
@@ -165,17 +167,17 @@ module _ {T : Type 0} where
         front = moved_front call a b c d stack i m.0 m.1 n.1;
       }
 
-  includes_all : (calls : List (Call T)) (rs ss : List (Reply T)) (a b c d : Core T) → All IsStackCall calls → All IsGranted rs → All IsGranted ss → Run a calls rs c → Run b calls ss d → Includes a b → Includes c d
+  includes_all : (calls : List (Call T)) (rs ss : List (Reply T)) (a b c d : Core T) → All IsInclusionCall calls → All IsGranted rs → All IsGranted ss → Run a calls rs c → Run b calls ss d → Includes a b → Includes c d
   includes_all [] [] [] a b c d stack gr gs ra rb i = subst (λ x. Includes x d) (sym ra) (subst (λ y. Includes a y) (sym rb) i)
   includes_all [] (r ∷ rs) ss a b c d stack gr gs ra rb i = absurd ra
   includes_all [] [] (s ∷ ss) a b c d stack gr gs ra rb i = absurd rb
   includes_all (call ∷ calls) [] ss a b c d stack gr gs ra rb i = absurd ra
   includes_all (call ∷ calls) (r ∷ rs) [] a b c d stack gr gs ra rb i = absurd rb
   includes_all (call ∷ calls) (r ∷ rs) (s ∷ ss) a b c d stack gr gs ra rb i =
-      includes_all calls rs ss ra.0 rb.0 c d (all_rest IsStackCall call calls stack) (all_rest IsGranted r rs gr) (all_rest IsGranted s ss gs) ra.1.1 rb.1.1
-          (includes_more call r s a b ra.0 rb.0 (all_first IsStackCall call calls stack) (all_first IsGranted r rs gr) (all_first IsGranted s ss gs) ra.1.0 rb.1.0 i)
+      includes_all calls rs ss ra.0 rb.0 c d (all_rest IsInclusionCall call calls stack) (all_rest IsGranted r rs gr) (all_rest IsGranted s ss gs) ra.1.1 rb.1.1
+      (includes_more call r s a b ra.0 rb.0 (all_first IsInclusionCall call calls stack) (all_first IsGranted r rs gr) (all_first IsGranted s ss gs) ra.1.0 rb.1.0 i)
 
 pub returns : goal.returns
 returns g c calls limit greater mark higher small large stack le no_higher a b =
     (includes_all calls a.replies b.replies _ _ small large stack a.granted b.granted a.run b.run
-        (record { one_a = refl; one_b = refl; limit = le; mark = no_higher; front = ([], refl) })).front
+    (record { one_a = refl; one_b = refl; limit = omega arith; mark = no_higher; front = ([], refl) })).front
