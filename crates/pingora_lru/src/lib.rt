@@ -6,7 +6,7 @@
 #![tactic(auto)]
 
 pub mod calls;
-pub mod inclusion;
+mod inclusion;
 pub mod linked_list;
 pub mod lru;
 pub mod lru_core;

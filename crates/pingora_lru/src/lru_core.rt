@@ -4,6 +4,7 @@ ghost use Rattle.pingora_lru.specs.Shard.{shard};
 ghost use Rattle.pingora_lru.specs.Eviction.{IsVictim};
 ghost use Rattle.pingora_lru.specs.Units.{lists_of};
 
+pub use crate::inclusion::inclusion_law;
 use crate::unit::{Cause, LruUnit, LruUnitIter, Refused};
 use rand::RngExt;
 use rand_core::Rng;

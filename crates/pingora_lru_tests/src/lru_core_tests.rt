@@ -1,7 +1,7 @@
 //! N shards under one limit, by their worked rows, and each of a core's calls.
 ghost use Rattle.std.specs.Prelude.{◌<◌};
 
-use pingora_lru::lru_core::LruCore;
+use pingora_lru::lru_core::{LruCore, inclusion_law};
 use pingora_lru::unit::{Cause, Refused};
 use rand::rngs::StdRng;
 use rand_core::{Rng, SeedableRng};
@@ -135,14 +135,77 @@ fn evicts_the_oldest_of_one_shard(rt: HostRuntime) -> Result<(), Fail> {
     core.set_weight_limit(20);
     assert_eq!(rt; core.evict_to_limit(rt.alloc(), &mut rng)?.len(), 0);
     assert_eq!(rt; rng.next_u64(), StdRng::seed_from_u64(7).next_u64());
-    for (limit, kept) in [(3, [4].as_slice()), (5, [4, 1].as_slice())] {
-        let mut core = LruCore::<u64, 1>::with_capacity(rt.alloc(), limit, 0)?;
-        for key in [1, 2, 3, 1, 4] {
-            core.admit(key, key, 2)?;
-            core.evict_to_limit(rt.alloc(), &mut rng)?;
+    Ok(())
+}
+
+// Whether the rows of the first core, data and weight, are a beginning of the second's.
+fn is_front(small: &LruCore<u64, 1>, large: &LruCore<u64, 1>) -> bool {
+    let mut rest = large.iter_shard(0);
+    for (data, weight) in small.iter_shard(0) {
+        match rest.next() {
+            Some((found, found_weight)) if found == data && found_weight == weight => {}
+            _ => return false,
         }
-        assert!(rt; shows(&core, 0, kept), "under {limit}");
     }
+    true
+}
+
+#[test]
+fn keeps_a_front_under_a_smaller_limit(rt: HostRuntime) -> Result<(), Fail> {
+    inclusion_law::<u64>();
+    let mut rng = StdRng::seed_from_u64(7);
+    let mut small = LruCore::<u64, 1>::with_capacity(rt.alloc(), 3, 0)?;
+    let mut large = LruCore::<u64, 1>::with_capacity(rt.alloc(), 5, 0)?;
+    for (key, few, more) in [
+        (1, [1].as_slice(), [1].as_slice()),
+        (2, [2].as_slice(), [2, 1].as_slice()),
+        (3, [3].as_slice(), [3, 2].as_slice()),
+        (1, [1].as_slice(), [1, 3].as_slice()),
+        (4, [4].as_slice(), [4, 1].as_slice()),
+    ] {
+        small.admit(key, key, 2)?;
+        large.admit(key, key, 2)?;
+        assert!(rt; is_front(&small, &large), "with {key}");
+        small.evict_to_limit(rt.alloc(), &mut rng)?;
+        large.evict_to_limit(rt.alloc(), &mut rng)?;
+        assert!(rt; shows(&small, 0, few), "after {key}");
+        assert!(rt; shows(&large, 0, more), "after {key}");
+        assert!(rt; is_front(&small, &large), "after {key}");
+    }
+    Ok(())
+}
+
+#[test]
+fn keeps_a_front_under_a_watermark(rt: HostRuntime) -> Result<(), Fail> {
+    let mut rng = StdRng::seed_from_u64(7);
+    let mut small = LruCore::<u64, 1>::with_capacity_and_watermark(rt.alloc(), 10, 0, Some(2))?;
+    let mut large = LruCore::<u64, 1>::with_capacity(rt.alloc(), 10, 0)?;
+    for key in 1..=3u64 {
+        small.admit(key, key, 3)?;
+        large.admit(key, key, 3)?;
+        small.evict_to_limit(rt.alloc(), &mut rng)?;
+        large.evict_to_limit(rt.alloc(), &mut rng)?;
+        assert!(rt; is_front(&small, &large), "after {key}");
+    }
+    assert!(rt; shows(&small, 0, &[3, 2]));
+    assert!(rt; shows(&large, 0, &[3, 2, 1]));
+    // The first core has no key 1 any more: its weight, its row and its place are the second's alone.
+    assert_eq!(rt;
+        (small.set_weight(1, 4)?, large.set_weight(1, 4)?),
+        (None, Some(3))
+    );
+    assert!(rt; is_front(&small, &large));
+    assert_eq!(rt;
+        (small.remove(3), large.remove(3)),
+        (Some((3, 3)), Some((3, 3)))
+    );
+    assert!(rt; shows(&small, 0, &[2]));
+    assert!(rt; shows(&large, 0, &[2, 1]));
+    small.admit(1, 11, 5)?;
+    large.admit(1, 11, 5)?;
+    assert!(rt; shows(&small, 0, &[11, 2]));
+    assert!(rt; shows(&large, 0, &[11, 2]));
+    assert!(rt; is_front(&small, &large));
     Ok(())
 }
 
