@@ -1,7 +1,7 @@
 // A folder for tests, which answers as it is told to.
 ghost use Rattle.std.specs.FinMap.{empty};
 ghost use Rattle.std.specs.FinSet.{empty as nothing};
-ghost use Rattle.std.specs.Prelude.{◌≡◌, [], if◌then◌else◌};
+ghost use Rattle.std.specs.Prelude.{◌≡◌, [], false, if◌then◌else◌};
 ghost use Rattle.pingora_lru_files.specs.Folder.{Opened, Closed, Lost, Writing};
 
 use pingora_lru_files::persistence::{Folder, FolderFault, Listed};

@@ -1,0 +1,115 @@
+//! Seeded traces, and the phases that go through them.
+
+/// What a phase does with each of its keys.
+#[derive(Clone, Copy)]
+pub enum Work {
+    Admit,
+    Promote,
+    Peek,
+    PeekWeight,
+    AdmitAndEvict,
+    Remove,
+    Iterate,
+    GetOrAdmit,
+}
+
+/// A phase: its name in the table, what it does, and its part of the keys.
+#[derive(Clone, Copy)]
+pub struct Phase {
+    pub name: &'static str,
+    pub work: Work,
+    pub from: usize,
+    pub to: usize,
+}
+
+impl Phase {
+    pub fn numbers(&self) -> [u64; 3] {
+        [self.work as u64, self.from as u64, self.to as u64]
+    }
+}
+
+/// A plan over its keys, and the number of calls that a phase's time is spread over.
+pub struct Plan {
+    pub keys: Vec<u64>,
+    pub phases: Vec<Phase>,
+}
+
+/// Numbers that look random: the generator that is known as splitmix64.
+struct Draws(u64);
+
+impl Draws {
+    fn next(&mut self) -> u64 {
+        self.0 = self.0.wrapping_add(0x9e37_79b9_7f4a_7c15);
+        let mut word = self.0;
+        word = (word ^ (word >> 30)).wrapping_mul(0xbf58_476d_1ce4_e5b9);
+        word = (word ^ (word >> 27)).wrapping_mul(0x94d0_49bb_1331_11eb);
+        word ^ (word >> 31)
+    }
+
+    fn below(&mut self, count: usize) -> usize {
+        (self.next() % count as u64) as usize
+    }
+}
+
+/// Places below `rows`, each drawn as often as 1 in its rank: the law of Zipf.
+struct Zipf(Vec<f64>);
+
+impl Zipf {
+    fn new(rows: usize) -> Self {
+        let mut sum = 0.0;
+        Zipf(
+            (1..=rows)
+                .map(|rank| {
+                    sum += 1.0 / rank as f64;
+                    sum
+                })
+                .collect(),
+        )
+    }
+
+    fn draw(&self, draws: &mut Draws) -> usize {
+        let all = self.0.last().copied().unwrap_or(1.0);
+        let at = (draws.next() >> 11) as f64 / (1u64 << 53) as f64 * all;
+        self.0.partition_point(|sum| *sum < at).min(self.0.len() - 1)
+    }
+}
+
+/// The plan whose phases follow one another: all counts are the same for every exact order and every core.
+pub fn main_plan(rows: usize) -> Plan {
+    let mut draws = Draws(11);
+    let first: Vec<u64> = (0..rows).map(|_| draws.next()).collect();
+    let second: Vec<u64> = (0..rows).map(|_| draws.next()).collect();
+    let zipf = Zipf::new(rows);
+    let mut plan = Plan { keys: Vec::new(), phases: Vec::new() };
+    plan.add("admit new", Work::Admit, first.iter().copied());
+    plan.add("promote uniform", Work::Promote, (0..rows).map(|_| first[draws.below(rows)]));
+    plan.add("promote zipf", Work::Promote, (0..rows).map(|_| first[zipf.draw(&mut draws)]));
+    plan.add("peek", Work::Peek, (0..rows).map(|_| first[draws.below(rows)]));
+    plan.add("peek_weight", Work::PeekWeight, (0..rows).map(|_| first[draws.below(rows)]));
+    plan.add("iterate", Work::Iterate, first.iter().copied());
+    plan.add("admit and evict", Work::AdmitAndEvict, second.iter().copied());
+    // each second one of these is there
+    let both: Vec<u64> = first.iter().zip(&second).flat_map(|(a, b)| [*a, *b]).collect();
+    plan.add("remove", Work::Remove, both.into_iter());
+    plan
+}
+
+/// Gets or admits by the law of Zipf from empty, within the limit.
+pub fn get_or_admit_plan(rows: usize) -> Plan {
+    let mut draws = Draws(12);
+    let keys: Vec<u64> = (0..rows).map(|_| draws.next()).collect();
+    let zipf = Zipf::new(rows);
+    let mut plan = Plan { keys: Vec::new(), phases: Vec::new() };
+    let drawn: Vec<u64> = (0..rows).map(|_| keys[zipf.draw(&mut draws)]).collect();
+    plan.add("get or admit, zipf", Work::GetOrAdmit, drawn.into_iter());
+    plan
+}
+
+impl Plan {
+    fn add(&mut self, name: &'static str, work: Work, keys: impl Iterator<Item = u64>) {
+        let from = self.keys.len();
+        self.keys.extend(keys);
+        let to = self.keys.len();
+        self.phases.push(Phase { name, work, from, to });
+    }
+}
