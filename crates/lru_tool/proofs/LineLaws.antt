@@ -1,6 +1,6 @@
 -- Laws of numbers and of parts of a text.
-use Rattle.std.proofs.Common.{◌≡◌, ℕ, ◌+◌, ◌-◌, ◌*◌, ◌<◌, ◌≤◌, Bool, true, false, cond, leb, ◌&&◌, List, [], ◌∷◌, ◌++◌, length, take, drop, get_or, Some, None, refl, sym, ap, ◌∙◌, arith, suc, eqb, append_assoc, length-drop}
-use Rattle.std.specs.Prelude.{fold, map, Option}
+use Rattle.std.proofs.Common.{◌≡◌, ℕ, ◌+◌, ◌-◌, ◌*◌, ◌<◌, ◌≤◌, true, false, cond, leb, ◌&&◌, List, [], ◌∷◌, ◌++◌, length, take, drop, get_or, Some, None, refl, sym, ap, ◌∙◌, arith, eqb, append_assoc, append-nil, length-drop}
+use Rattle.std.specs.Prelude.{fold, map, Option, Result, Ok, Err, OnOk}
 use Rattle.std.specs.Borrow.{Bor}
 use Rattle.std.specs.Io.KnownBytes.{Appends}
 use Rattle.std.specs.List.{list_all}
@@ -51,12 +51,21 @@ part_goes_on s text start at le lt ne =
     ∙ ap (λ part. parts_from s part (drop (at + 1) text)) (sym (ap (λ n. take n (drop start text)) (let e : at + 1 - start ≡ at - start + 1 = omega arith in e) ∙ take_more (drop start text) (at - start) 0 (omega (arith, length-drop start text))
     ∙ ap (λ b. take (at - start) (drop start text) ++ b ∷ []) (get_or-drop start text (at - start) 0 ∙ ap (λ n. get_or text n 0) (let e : start + (at - start) ≡ at = omega arith in e))))
 
+-- nothing is written
+pub appends_none : (a : Option (List ℕ)) → Appends a a []
+appends_none None = tt
+appends_none (Some ws) = sym (append-nil ws)
+
 -- writes one after the other
 pub appends_then : (a b c : Option (List ℕ)) (x y : List ℕ) → Appends a b x → Appends b c y → Appends a c (x ++ y)
 appends_then None b c x y h k = tt
 appends_then (Some ws) None c x y h k = absurd h
 appends_then (Some ws) (Some bs) None x y h k = absurd k
 appends_then (Some ws) (Some bs) (Some cs) x y h k = k ∙ ap (λ zs. zs ++ y) h ∙ append_assoc ws x y
+
+pub on_ok_then : {E : Type 0} (r : Result (Unit {0}) E) (a b c : Option (List ℕ)) (x y : List ℕ) → Appends a b x → OnOk r (Appends b c y) → OnOk r (Appends a c (x ++ y))
+on_ok_then (Ok u) a b c x y h k = appends_then a b c x y h k
+on_ok_then (Err e) a b c x y h k = tt
 
 -- a part that ends is put behind the others
 pub cut : (parts : List (Bor (List ℕ))) (x : Bor (List ℕ)) (s : ℕ) (text : List ℕ) (start at : ℕ) (all : List (List ℕ)) → x.now ≡ take (at - start) (drop start text) → at < length text → get_or text at 0 ≡ s →

@@ -1,6 +1,7 @@
 -- Numbers, words and lines of an input.
-use Rattle.std.specs.Prelude.{◌≡◌, ℕ, ◌+◌, ◌-◌, ◌*◌, ◌<◌, ◌≤◌, ◌==◌, ◌&&◌, Bool, nat_le, List, [], ◌∷◌, ◌++◌, length, take, fold, slice_index_or, Option, Some, None, if◌then◌else◌}
+use Rattle.std.specs.Prelude.{ℕ, ◌+◌, ◌-◌, ◌*◌, ◌==◌, ◌&&◌, Bool, nat_le, List, [], ◌∷◌, ◌++◌, length, take, fold, codes, slice_index_or, Option, Some, None, option_map, if◌then◌else◌}
 use Rattle.std.specs.List.{list_all}
+use Rattle.std.specs.Str.{bytes_eq}
 use Rattle.std.specs.Borrow.{Bor}
 
 abbrev pub is_digit : ℕ → Bool
@@ -14,6 +15,10 @@ value_of digits = fold (λ n byte. n * 10 + (byte - 48)) 0 digits
 abbrev pub number_of : List ℕ → Option ℕ
 number_of word =
     if nat_le 1 (length word) && nat_le (length word) 20 && list_all is_digit word && nat_le (value_of word) 18446744073709551615 then Some (value_of word) else None
+
+-- a number, or `-` for none
+abbrev pub most_of : List ℕ → Option (Option ℕ)
+most_of word = if bytes_eq word (codes "-") then Some None else option_map (λ n. Some n) (number_of word)
 
 -- the parts of a text between the bytes that are this one, where the first part begins so
 abbrev pub parts_from : ℕ → List ℕ → List ℕ → List (List ℕ)

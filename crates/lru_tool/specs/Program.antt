@@ -1,22 +1,17 @@
 -- The whole program: what its arguments mean, and what it writes for an input.
-use Rattle.std.specs.Prelude.{◌≡◌, ℕ, List, [], ◌∷◌, map, codes, replicate, is_some, Option, Some, None, option_and_then, option_map, if◌then◌else◌}
-use Rattle.std.specs.Str.{bytes_eq}
+use Rattle.std.specs.Prelude.{ℕ, List, [], ◌∷◌, map, replicate, is_some, Option, Some, None, option_and_then, if◌then◌else◌}
 use Rattle.std.specs.List.{list_all}
 use Rattle.lru_tool.specs.declared.command.Command.{Command}
 use Rattle.lru_tool.specs.declared.keyed.Keyed.{Keyed}
 use Rattle.lru_tool.specs.declared.settings.Settings.{Settings}
-use Rattle.lru_tool.specs.Lines.{number_of, lines_of}
+use Rattle.lru_tool.specs.Lines.{number_of, most_of, lines_of}
 use Rattle.lru_tool.specs.Commands.{command_of}
 use Rattle.pingora_lru.specs.Core.{Core}
-
--- a number, or `-` for none
-abbrev pub mark_of : List ℕ → Option (Option ℕ)
-mark_of word = if bytes_eq word (codes "-") then Some None else option_map (λ n. Some n) (number_of word)
 
 -- the arguments: a limit, a watermark or `-`, and a seed; anything else is none
 abbrev pub settings_of : List (List ℕ) → Option Settings
 settings_of (limit ∷ mark ∷ seed ∷ []) =
-    option_and_then (λ l. option_and_then (λ m. option_and_then (λ s. Some (record { limit = l; watermark = m; seed = s })) (number_of seed)) (mark_of mark)) (number_of limit)
+    option_and_then (λ l. option_and_then (λ m. option_and_then (λ s. Some (record { limit = l; watermark = m; seed = s })) (number_of seed)) (most_of mark)) (number_of limit)
 settings_of _ = None
 
 -- the core that the program begins with

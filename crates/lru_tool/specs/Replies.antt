@@ -1,16 +1,15 @@
 -- What the program writes.
-use Rattle.std.specs.Prelude.{◌≡◌, ℕ, ◌+◌, ◌<◌, List, [], ◌∷◌, ◌++◌, length, map, codes, decimal, replicate, Option, Some, None, option_and_then, Result, Ok, Err}
+use Rattle.std.specs.Prelude.{◌≡◌, ℕ, ◌+◌, ◌<◌, Bool, List, [], ◌∷◌, ◌++◌, length, map, codes, decimal, Option, Some, None, Ok, Err, if◌then◌else◌}
 use Rattle.lru_tool.specs.declared.command.Command.{Command}
-use Rattle.lru_tool.specs.declared.command.Command.TheVariants.{Admit, Step, Total, List as ListRows}
+use Rattle.lru_tool.specs.declared.command.Command.TheVariants.{Do, List as ListRows}
 use Rattle.lru_tool.specs.declared.keyed.Keyed.{Keyed}
-use Rattle.lru_tool.specs.Lines.{number_of}
-use Rattle.pingora_lru.specs.declared.unit.Refused.{Refused}
+use Rattle.pingora_lru.specs.declared.calls.Reply.{Reply}
+use Rattle.pingora_lru.specs.declared.calls.Reply.TheVariants.{Shard, Inserted, Weight as NewWeight, Updated, Was, Held, Left, Evicted, Known, Last, Totals, Done}
 use Rattle.pingora_lru.specs.declared.unit.Cause.{Cause}
 use Rattle.pingora_lru.specs.declared.unit.Cause.TheVariants.{Memory, Weight, Length}
-use Rattle.pingora_lru.specs.Row.{Row, pair_of}
-use Rattle.pingora_lru.specs.Core.{Core, list_at, core_len, core_weight}
-use Rattle.pingora_lru.specs.CoreCalls.{CoreAdmits}
-use Rattle.pingora_lru.specs.Eviction.{EvictsWhereOver}
+use Rattle.pingora_lru.specs.Row.{pair_of}
+use Rattle.pingora_lru.specs.Core.{Core, list_at}
+use Rattle.pingora_lru.specs.Calls.{IsAllowed, Gives}
 
 abbrev pub line : List ℕ → List ℕ
 line text = text ++ 10 ∷ []
@@ -20,15 +19,21 @@ cause_text Memory = codes "refused memory"
 cause_text Weight = codes "refused weight"
 cause_text Length = codes "refused length"
 
--- `admit`: the shard
-abbrev pub admit_text : Result ℕ (Refused Keyed) → List ℕ
-admit_text (Ok shard) = line (decimal shard)
-admit_text (Err refused) = line (cause_text refused.cause)
+abbrev pub refused_text : Cause → List ℕ
+refused_text cause = line (cause_text cause)
 
--- a row that left: its key, value and weight
-abbrev pub left_text : Option (Keyed × ℕ) → List ℕ
-left_text None = line (codes "none")
-left_text (Some pair) = line (decimal pair.0.key ++ (32 ∷ decimal pair.0.value ++ (32 ∷ decimal pair.1)))
+abbrev pub flag_text : Bool → List ℕ
+flag_text held = line (if held then codes "true" else codes "false")
+
+-- a weight, if there is one
+abbrev pub weight_text : Option ℕ → List ℕ
+weight_text None = line (codes "none")
+weight_text (Some weight) = line (decimal weight)
+
+-- a row, if there is one: its key, value and weight
+abbrev pub row_text : Option (Keyed × ℕ) → List ℕ
+row_text None = line (codes "none")
+row_text (Some pair) = line (decimal pair.0.key ++ (32 ∷ decimal pair.0.value ++ (32 ∷ decimal pair.1)))
 
 -- ` K:V:W`
 abbrev pub pair_text : Keyed × ℕ → List ℕ
@@ -38,13 +43,36 @@ abbrev pub pairs_text : List (Keyed × ℕ) → List ℕ
 pairs_text [] = []
 pairs_text (pair ∷ pairs) = pair_text pair ++ pairs_text pairs
 
--- the rows of a shard, with their count in front
+-- rows in their order, with their count in front
 abbrev pub rows_text : List (Keyed × ℕ) → List ℕ
 rows_text pairs = decimal (length pairs) ++ (pairs_text pairs ++ 10 ∷ [])
 
-abbrev pub total_text : Core Keyed → List ℕ
-total_text core =
-    line (decimal (core_len core) ++ (32 ∷ decimal (core_weight core) ++ (32 ∷ decimal core.evicted_len ++ (32 ∷ decimal core.evicted_weight))))
+-- an eviction that was cut short still tells the rows that left
+abbrev pub cut_short_text : List (Keyed × ℕ) → List ℕ
+cut_short_text pairs = codes "refused memory " ++ rows_text pairs
+
+-- the line of a reply
+abbrev pub reply_text : Reply Keyed → List ℕ
+reply_text (Shard (Ok shard)) = line (decimal shard)
+reply_text (Shard (Err refused)) = refused_text refused.cause
+reply_text (Inserted (Ok added)) = flag_text added
+reply_text (Inserted (Err refused)) = refused_text refused.cause
+reply_text (NewWeight (Ok weight)) = line (decimal weight)
+reply_text (NewWeight (Err cause)) = refused_text cause
+reply_text (Updated (Ok was)) = weight_text was
+reply_text (Updated (Err refused)) = refused_text refused.cause
+reply_text (Was (Ok was)) = weight_text was
+reply_text (Was (Err cause)) = refused_text cause
+reply_text (Held held) = flag_text held
+reply_text (Left row) = row_text row
+reply_text (Evicted (Ok pairs)) = rows_text pairs.items
+reply_text (Evicted (Err stopped)) = cut_short_text stopped.evicted.items
+reply_text (Known weight) = weight_text weight
+reply_text (Last (Ok row)) = row_text row
+reply_text (Last (Err refused)) = refused_text Memory
+reply_text (Totals len weight evicted_len evicted_weight) =
+    line (decimal len ++ (32 ∷ decimal weight ++ (32 ∷ decimal evicted_len ++ (32 ∷ decimal evicted_weight))))
+reply_text Done = line (codes "ok")
 
 abbrev pub error_line_text : ℕ → List ℕ
 error_line_text n = line (codes "error line " ++ decimal n)
@@ -54,10 +82,7 @@ usage_text = line (codes "usage: lru_tool LIMIT WATERMARK SEED")
 
 -- a command may write this text, and leave this core
 abbrev pub Answers : Core Keyed → Command → List ℕ → Core Keyed → Type 0
-Answers old (Admit k v w) text new =
-    (answer : Result ℕ (Refused Keyed)) × (CoreAdmits old k (record { key = k; value = v }) w answer new × (text ≡ admit_text answer))
-Answers old (Step a b) text new = (answer : Option (Keyed × ℕ)) × (EvictsWhereOver old a b answer new × (text ≡ left_text answer))
-Answers old Total text new = (text ≡ total_text old) × (new ≡ old)
+Answers old (Do call) text new = (reply : Reply Keyed) × (Gives old call reply new × (text ≡ reply_text reply))
 Answers old (ListRows s) text new = (text ≡ rows_text (map pair_of (list_at old s))) × (new ≡ old)
 
 -- the lines, from number n on, may write this text: each command's reply in turn, up to and with the first bad line
@@ -69,9 +94,8 @@ Serves core (Some command ∷ lines) n text =
 
 -- the shards that a command names are there
 abbrev pub IsPossible : Command → Type 0
-IsPossible (Step a b) = (a < 2) × (b < 2)
+IsPossible (Do call) = IsAllowed 2 call
 IsPossible (ListRows s) = s < 2
-IsPossible _ = Unit {0}
 
 abbrev pub Possible : Option Command → Type 0
 Possible None = Unit {0}

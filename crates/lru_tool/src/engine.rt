@@ -12,6 +12,8 @@ use crate::parts::{lines, parts};
 use crate::replies::answer;
 use crate::settings::{Settings, settings_from};
 use pingora_lru::lru_core::LruCore;
+use rand::rngs::StdRng;
+use rand_core::{Rng, SeedableRng};
 use std::alloc::{AllocError, Global};
 use std::io;
 use std::io::{ErrorKind, Read, Write};
@@ -37,20 +39,24 @@ fn commands(alloc: Global, input: &[u8]) -> Result<Vec<Option<Command>>, AllocEr
 }
 
 // Answers line after line, up to and with a bad one; whether there was none.
-fn serve<W: Write>(
+fn serve<R: Rng, W: Write>(
     core: &mut LruCore<Keyed, 2>,
-    lines: &[Option<Command>],
+    alloc: Global,
+    rng: &mut R,
+    lines: Vec<Option<Command>>,
     writer: &mut W,
 ) -> io::Result<bool>
-    requires { All Possible lines.now }
-    ensures text { OnOk result ((text : List ℕ) × (Serves core.old lines.now 1 text × Appends (W.contents writer.old) (W.contents writer.new) text)) }
-    ensures good { IfOk result (λ good. good ≡ list_all is_some lines.now) }
+    requires { All Possible lines.items }
+    ensures text { OnOk result ((text : List ℕ) × (Serves core.old lines.items 1 text × Appends (W.contents writer.old) (W.contents writer.new) text)) }
+    ensures good { IfOk result (λ good. good ≡ list_all is_some lines.items) }
 {
-    for (index, line) in lines.iter().enumerate() {
-        match *line {
-            Some(command) => answer(core, command, writer)?,
+    let count = lines.len();
+    let mut rest = lines.into_iter();
+    while let Some(line) = rest.next() {
+        match line {
+            Some(command) => answer(core, alloc, rng, command, writer)?,
             None => {
-                let number = index + 1;
+                let number = count - rest.len();
                 writeln!(writer, "error line {number}")?;
                 return Ok(false);
             }
@@ -100,7 +106,8 @@ pub fn run<R: Read, W: Write>(
     let Ok(mut core) = make_core(alloc, settings) else {
         return memory_error(writer);
     };
-    match serve(&mut core, &lines, writer) {
+    let mut rng = StdRng::seed_from_u64(settings.seed);
+    match serve(&mut core, alloc, &mut rng, lines, writer) {
         Ok(true) => 0,
         Ok(false) => 2,
         Err(_) => 1,

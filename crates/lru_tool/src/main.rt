@@ -1,8 +1,13 @@
 //! `lru_tool LIMIT WATERMARK SEED`: a core of two shards that answers the lines of standard input.
 #![tactic(auto)]
 
+mod arguments;
 mod command;
+#[cfg(test)]
+mod draw_tests;
 mod engine;
+#[cfg(test)]
+mod fault_tests;
 mod keyed;
 mod numbers;
 mod parts;
@@ -11,18 +16,12 @@ mod replies;
 mod run_tests;
 mod settings;
 
-use std::env;
 use std::process::ExitCode;
 
-// An argument that is not UTF-8 is as wrong as one word too few.
 fn main(rt: HostRuntime) -> ExitCode {
-    let mut words = Vec::new(rt.alloc());
-    if let Ok(arguments) = env::args(&rt) {
-        for argument in arguments.skip(1) {
-            if let Err(_) = words.push(argument) {
-                return ExitCode::from(1);
-            }
-        }
-    }
+    let Ok(words) = arguments::words(&rt) else {
+        let _ = println!(rt; "error memory");
+        return ExitCode::from(1);
+    };
     ExitCode::from(engine::run(rt.alloc(), &words, &mut rt.stdin(), &mut rt.stdout()))
 }

@@ -1,13 +1,16 @@
 // What the program writes for each command.
-ghost use Rattle.std.specs.Prelude.{◌≡◌, OnOk, List, ℕ, map};
+ghost use Rattle.std.specs.Prelude.{◌≡◌, OnOk, List, ℕ};
 ghost use Rattle.std.specs.Io.KnownBytes.{Appends};
-ghost use Rattle.lru_tool.specs.Replies.{Answers, IsPossible, rows_text, cause_text};
-ghost use Rattle.pingora_lru.specs.Row.{pair_of};
+ghost use Rattle.lru_tool.specs.Replies.{Answers, IsPossible, cause_text, refused_text, flag_text, weight_text, row_text, pair_text, rows_text, cut_short_text, reply_text};
 
 use crate::command::Command;
 use crate::keyed::Keyed;
+use pingora_lru::calls;
+use pingora_lru::calls::Reply;
 use pingora_lru::lru_core::LruCore;
 use pingora_lru::unit::{Cause, LruUnitIter};
+use rand_core::Rng;
+use std::alloc::Global;
 use std::io;
 use std::io::Write;
 
@@ -21,6 +24,47 @@ fn cause_text(cause: Cause) -> &'static str
     }
 }
 
+fn write_refused<W: Write>(writer: &mut W, cause: Cause) -> io::Result<()>
+    ensures { OnOk result (Appends (W.contents writer.old) (W.contents writer.new) (refused_text cause)) }
+{
+    let text = cause_text(cause);
+    writeln!(writer, "{text}")
+}
+
+fn write_flag<W: Write>(writer: &mut W, flag: bool) -> io::Result<()>
+    ensures { OnOk result (Appends (W.contents writer.old) (W.contents writer.new) (flag_text flag)) }
+{
+    writeln!(writer, "{flag}")
+}
+
+fn write_weight<W: Write>(writer: &mut W, weight: Option<usize>) -> io::Result<()>
+    ensures { OnOk result (Appends (W.contents writer.old) (W.contents writer.new) (weight_text weight)) }
+{
+    match weight {
+        Some(weight) => writeln!(writer, "{weight}"),
+        None => writeln!(writer, "none"),
+    }
+}
+
+fn write_row<W: Write>(writer: &mut W, row: Option<(Keyed, usize)>) -> io::Result<()>
+    ensures { OnOk result (Appends (W.contents writer.old) (W.contents writer.new) (row_text row)) }
+{
+    match row {
+        Some((data, weight)) => {
+            let (key, value) = (data.key, data.value);
+            writeln!(writer, "{key} {value} {weight}")
+        }
+        None => writeln!(writer, "none"),
+    }
+}
+
+fn write_pair<W: Write>(writer: &mut W, data: Keyed, weight: usize) -> io::Result<()>
+    ensures { OnOk result (Appends (W.contents writer.old) (W.contents writer.new) (pair_text («data», weight))) }
+{
+    let (key, value) = (data.key, data.value);
+    write!(writer, " {key}:{value}:{weight}")
+}
+
 fn write_rows<W: Write>(writer: &mut W, rows: LruUnitIter<'_, Keyed>) -> io::Result<()>
     ensures { OnOk result (Appends (W.contents writer.old) (W.contents writer.new) (rows_text rows.entry)) }
 {
@@ -28,15 +72,66 @@ fn write_rows<W: Write>(writer: &mut W, rows: LruUnitIter<'_, Keyed>) -> io::Res
     write!(writer, "{count}")?;
     let mut rest = rows;
     while let Some((data, weight)) = rest.next() {
-        let (key, value) = (data.key, data.value);
-        write!(writer, " {key}:{value}:{weight}")?;
+        write_pair(writer, *data, weight)?;
     }
     write!(writer, "\n")
 }
 
-/// Does a command, and writes its reply.
-pub fn answer<W: Write>(
+fn write_pairs<W: Write>(writer: &mut W, pairs: &[(Keyed, usize)]) -> io::Result<()>
+    ensures { OnOk result (Appends (W.contents writer.old) (W.contents writer.new) (rows_text pairs.now)) }
+{
+    let count = pairs.len();
+    write!(writer, "{count}")?;
+    for (data, weight) in pairs {
+        write_pair(writer, *data, *weight)?;
+    }
+    write!(writer, "\n")
+}
+
+// The rows that left before memory ended an eviction.
+fn write_cut_short<W: Write>(writer: &mut W, pairs: &[(Keyed, usize)]) -> io::Result<()>
+    ensures { OnOk result (Appends (W.contents writer.old) (W.contents writer.new) (cut_short_text pairs.now)) }
+{
+    write!(writer, "refused memory ")?;
+    write_pairs(writer, pairs)
+}
+
+fn write_reply<W: Write>(writer: &mut W, reply: Reply<Keyed>) -> io::Result<()>
+    ensures { OnOk result (Appends (W.contents writer.old) (W.contents writer.new) (reply_text reply)) }
+{
+    match reply {
+        Reply::Shard(Ok(shard)) => writeln!(writer, "{shard}"),
+        Reply::Shard(Err(refused)) => write_refused(writer, refused.cause),
+        Reply::Inserted(Ok(added)) => write_flag(writer, added),
+        Reply::Inserted(Err(refused)) => write_refused(writer, refused.cause),
+        Reply::Weight(Ok(weight)) => writeln!(writer, "{weight}"),
+        Reply::Weight(Err(cause)) => write_refused(writer, cause),
+        Reply::Updated(Ok(was)) => write_weight(writer, was),
+        Reply::Updated(Err(refused)) => write_refused(writer, refused.cause),
+        Reply::Was(Ok(was)) => write_weight(writer, was),
+        Reply::Was(Err(cause)) => write_refused(writer, cause),
+        Reply::Held(held) => write_flag(writer, held),
+        Reply::Left(row) => write_row(writer, row),
+        Reply::Evicted(Ok(pairs)) => write_pairs(writer, &pairs),
+        Reply::Evicted(Err(stopped)) => write_cut_short(writer, &stopped.evicted),
+        Reply::Known(weight) => write_weight(writer, weight),
+        Reply::Last(Ok(row)) => write_row(writer, row),
+        Reply::Last(Err(_)) => write_refused(writer, Cause::Memory),
+        Reply::Totals {
+            len,
+            weight,
+            evicted_len,
+            evicted_weight,
+        } => writeln!(writer, "{len} {weight} {evicted_len} {evicted_weight}"),
+        Reply::Done => writeln!(writer, "ok"),
+    }
+}
+
+/// Does a command, with its draws from the generator, and writes its reply.
+pub fn answer<R: Rng, W: Write>(
     core: &mut LruCore<Keyed, 2>,
+    alloc: Global,
+    rng: &mut R,
     command: Command,
     writer: &mut W,
 ) -> io::Result<()>
@@ -44,29 +139,10 @@ pub fn answer<W: Write>(
     ensures { OnOk result ((text : List ℕ) × (Answers core.old command text core.new × Appends (W.contents writer.old) (W.contents writer.new) text)) }
 {
     match command {
-        Command::Admit { key, value, weight } => {
-            match core.admit(key, Keyed { key, value }, weight as usize) {
-                Ok(shard) => writeln!(writer, "{shard}"),
-                Err(refused) => {
-                    let text = cause_text(refused.cause);
-                    writeln!(writer, "{text}")
-                }
-            }
+        Command::Do(call) => {
+            let reply = calls::answer(core, alloc, rng, call);
+            write_reply(writer, reply)
         }
-        Command::Step { a, b } => match core.evict_step(a as usize, b as usize) {
-            Some((data, weight)) => {
-                let (key, value) = (data.key, data.value);
-                writeln!(writer, "{key} {value} {weight}")
-            }
-            None => writeln!(writer, "none"),
-        },
-        Command::Total => {
-            let len = core.len();
-            let weight = core.weight();
-            let evicted_len = core.evicted_len();
-            let evicted_weight = core.evicted_weight();
-            writeln!(writer, "{len} {weight} {evicted_len} {evicted_weight}")
-        }
-        Command::List { shard } => write_rows(writer, core.iter_shard(shard as usize)),
+        Command::List { shard } => write_rows(writer, core.iter_shard(shard)),
     }
 }

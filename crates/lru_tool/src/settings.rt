@@ -1,8 +1,8 @@
 // The arguments of the program.
 ghost use Rattle.std.specs.Prelude.{◌≡◌, map, string_bytes};
-ghost use Rattle.lru_tool.specs.Program.{mark_of, settings_of};
+ghost use Rattle.lru_tool.specs.Program.{settings_of};
 
-use crate::numbers::number;
+use crate::numbers::{number, number_or_dash};
 
 /// The limits of the core, and the seed of its draws.
 #[derive(Clone, Copy, Debug)]
@@ -12,16 +12,6 @@ pub struct Settings {
     pub seed: u64,
 }
 
-fn watermark(word: &[u8]) -> Option<Option<u64>>
-    ensures { result ≡ mark_of word.now }
-{
-    if word == b"-".as_slice() {
-        return Some(None);
-    }
-    let most = number(word)?;
-    Some(Some(most))
-}
-
 /// What the arguments say, if they are a limit, a watermark or `-`, and a seed.
 pub fn settings_from(arguments: &[String]) -> Option<Settings>
     ensures { result ≡ settings_of (map string_bytes arguments.now) }
@@ -29,7 +19,7 @@ pub fn settings_from(arguments: &[String]) -> Option<Settings>
     match arguments {
         [limit, mark, seed] => {
             let limit = number(limit.as_bytes())?;
-            let watermark = watermark(mark.as_bytes())?;
+            let watermark = number_or_dash(mark.as_bytes())?;
             let seed = number(seed.as_bytes())?;
             Some(Settings {
                 limit,

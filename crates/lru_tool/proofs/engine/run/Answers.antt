@@ -1,9 +1,8 @@
-use Rattle.std.proofs.Common.{◌≡◌, ◌∙◌, sym, subst}
+use Rattle.std.proofs.Common.{sym, subst}
 use Rattle.std.specs.Prelude.{All}
 use Rattle.lru_tool.specs.Replies.{Possible}
-use Rattle.lru_tool.specs.Program.{commands_of}
 use Rattle.lru_tool.proofs.Possibles.{all_possible}
 use Rattle.lru_tool.proofs.engine.run.Goals as goal
 
 pub serve-requires : goal.serve-requires
-serve-requires g c = subst (All Possible) (sym (c.deref-2.ensures.value ∙ c.in-Ok.ensures)) (all_possible c.deref.result.now)
+serve-requires g c = subst (All Possible) (sym (c.in-Ok.ensures)) (all_possible c.deref.result.now)

@@ -1,6 +1,5 @@
-use Rattle.std.proofs.Common.{◌≡◌, ◌+◌, ◌-◌, ◌≤◌, ◌++◌, ◌∷◌, [], List, length, take, drop, get_or, map, refl, sym, ap, ◌∙◌, arith, append_assoc}
-use Rattle.std.proofs.lemmas.List.{map-append}
-use Rattle.lru_tool.specs.Lines.{parts_from, parts_of, now_of}
+use Rattle.std.proofs.Common.{◌++◌, map, refl, sym, ap, ◌∙◌, arith}
+use Rattle.lru_tool.specs.Lines.{parts_of, now_of}
 use Rattle.lru_tool.proofs.LineLaws.{cut, part_goes_on}
 use Rattle.lru_tool.proofs.parts.parts.Goals as goal
 use Rattle.lru_tool.proofs.parts.parts.Goals.{then-byte-separator+in_ok-push, else-byte-separator}

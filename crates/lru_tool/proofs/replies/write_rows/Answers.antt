@@ -1,6 +1,6 @@
-use Rattle.std.proofs.Common.{◌≡◌, ◌++◌, ◌∷◌, [], List, ℕ, sym, ap, ◌∙◌, append_assoc}
+use Rattle.std.proofs.Common.{◌++◌, ◌∷◌, [], ℕ, sym, ap, ◌∙◌, append_assoc}
 use Rattle.lru_tool.specs.declared.keyed.Keyed.{Keyed}
-use Rattle.lru_tool.specs.Replies.{rows_text, pairs_text, pair_text}
+use Rattle.lru_tool.specs.Replies.{pairs_text, pair_text}
 use Rattle.lru_tool.proofs.LineLaws.{appends_then}
 use Rattle.lru_tool.proofs.replies.write_rows.Goals as goal
 
@@ -11,7 +11,7 @@ loop-data-preserved g c =
     let rest = c.next.new.self in (
       inv.0 ++ pair_text pair,
       (
-        appends_then (g.W.Write.contents c.args.writer.now) (g.W.Write.contents c.loop-data.writer) (g.W.Write.contents c.write-in-Some.new.self) inv.0 (pair_text pair) inv.1.0 c.in_ok-write-2.ensures.bytes,
+        appends_then (g.W.Write.contents c.args.writer.now) (g.W.Write.contents c.loop-data.writer) (g.W.Write.contents c.write_pair.new.writer) inv.0 (pair_text pair) inv.1.0 c.in_ok-write_pair.ensures,
         append_assoc inv.0 (pair_text pair) (pairs_text rest ++ 10 ∷ [])
             ∙ ap (λ xs. inv.0 ++ xs) (sym (append_assoc (pair_text pair) (pairs_text rest) (10 ∷ [])) ∙ ap (λ ps. pairs_text ps ++ 10 ∷ []) (sym c.in-Some.ensures.steps))
             ∙ inv.1.1,
