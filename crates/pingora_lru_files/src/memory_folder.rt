@@ -1,5 +1,5 @@
 // A folder in memory, which can be made to fail, and which knows what a stop could have left.
-ghost use Rattle.std.specs.Prelude.{◌≡◌, ◌≢◌, ◌<◌, ◌++◌, ◌∷◌, [], ℕ, List, None, Some, IfOk, IsErrOf, IsTrue, MatchOption, MatchResult, OnOk, length, map, vec_len, vec_capacity};
+ghost use Rattle.std.specs.Prelude.{◌≡◌, ◌≢◌, ◌<◌, ◌++◌, ◌∷◌, [], ℕ, List, None, Some, IfOk, IsErrOf, IsTrue, MatchOption, MatchResult, OnOk, length, map, take, vec_len, vec_capacity};
 ghost use Rattle.std.specs.FinMap.{empty, get, insert};
 ghost use Rattle.pingora_lru_files.specs.declared.calls.Plan.TheVariants.{Works, FailsAt, StopsAt};
 ghost use Rattle.pingora_lru_files.specs.Files.{created, appended, renamed, removed, AllOrNone, SomeFront, Same};
@@ -341,6 +341,7 @@ impl Folder for MemoryFolder {
         ensures mode { IsReading self.new.opened }
         ensures done { (left : List ℕ) → self.old.opened ≡ mode.Reading left →
             IfOk result (λ piece. (rest : List ℕ) × (self.new.opened ≡ mode.Reading rest) × Reads max left piece.items rest) }
+        ensures whole { (left : List ℕ) → self.old.opened ≡ mode.Reading left → IfOk result (λ piece. piece.items ≡ take max left) }
         ensures places { folders_of self.new ≡ folders_of self.old }
         ensures time { Passes clock_of stopped_since_of files_of Same self.old self.new }
         ensures cause { HasCause (faults_of self.old) (faults_of self.new) result }

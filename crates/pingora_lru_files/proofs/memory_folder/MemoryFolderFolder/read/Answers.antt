@@ -56,6 +56,15 @@ returns-clause-done c left is =
       subst (λ l. Reads c.args.max l c.in_ok-piece.piece.items (drop (place + length c.in_ok-piece.piece.items) bytes)) (sym left_is) (reads_on c.args.max place bytes c.in_ok-piece.piece.items piece_is),
     )
 
+pub returns-clause-whole : goal.returns-clause-whole
+returns-clause-whole c left is =
+    let files = files_in c.self.inside.held.entries in
+    let bytes = bytes_at files (string_bytes c.in-Reading.path) in
+    let place = c.in-Reading.at in
+    let was : Reading left ≡ Reading (drop place bytes) = sym is ∙ ap (λ m. m.opened) (sym c.self.view_is) ∙ ap (opened_in files) c.in-Reading.is in
+    let left_is : left ≡ drop place bytes = cc in
+    c.in_ok-piece.ensures.piece ∙ ap (λ p. take c.args.max (drop place (bytes_at files p))) c.as_str.ensures.value ∙ ap (take c.args.max) (sym left_is)
+
 pub returns-then-is_some-clause-planned : goal.returns-then-is_some-clause-planned
 returns-then-is_some-clause-planned c =
     let n : Noted = record { call = Look; end = Failed 0 } in
