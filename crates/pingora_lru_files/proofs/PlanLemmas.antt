@@ -1,6 +1,5 @@
 -- A call of a folder in memory that was made to fail.
-use Rattle.std.proofs.Common.{◌≡◌, ℕ, Bool, true, List, [], ◌∷◌, ◌++◌, Option, Some, None, Result, Err, is_some, MatchOption, inl, inr, refl, sym, ◌∙◌, ap, subst}
-use Rattle.std.specs.FinMap.{from_entries}
+use Rattle.std.proofs.Common.{◌≡◌, ℕ, true, [], ◌∷◌, ◌++◌, Option, Some, None, Result, Err, is_some, MatchOption, inl, refl, ◌∙◌, ap, subst}
 use Rattle.std.specs.FinSet.{from_list}
 use Rattle.pingora_lru_files.specs.declared.calls.Noted.{Noted}
 use Rattle.pingora_lru_files.specs.declared.calls.Plan.{Plan}
