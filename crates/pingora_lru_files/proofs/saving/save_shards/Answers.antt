@@ -48,6 +48,6 @@ loop-shard-preserved g c =
         λ k. saves_one F.clock F.stopped_since F.files F.faults F.folders c.args.dir_path.now c.args.file_name.now c.args.folder.now
             turns turn c.loop-shard.folder c.put.new.folder small short (so_far.run.3 k)
             (saves_next F.clock F.stopped_since F.files F.faults F.folders c.args.dir_path.now c.args.file_name.now c.args.shards
-                turns turn c.loop-shard.saver c.loop-shard.folder c.put.new.folder so_far.run.2 (put.4 (so_far.kept.0 k))),
+            turns turn c.loop-shard.saver c.loop-shard.folder c.put.new.folder so_far.run.2 (put.4 (so_far.kept.0 k))),
       );
     }
