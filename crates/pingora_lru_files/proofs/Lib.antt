@@ -8,6 +8,7 @@ pub mod HeldLemmas
 pub mod MadeLemmas
 pub mod ListingLemmas
 pub mod MemoryLemmas
+pub mod PlanLemmas
 mod CleanupLemmas
 mod CleanupNames
 mod LoadingLemmas

@@ -52,6 +52,19 @@ next_some p shard e = go (nat_lt p.next p.shards) refl e
     go true is some = (cc, ltb-true p.next p.shards is)
     go false is none = absurd (let f : ⊥ = cc in f)
 
+-- the saver is at the turn after these
+pub knows_next : {E : Type 0} (dir file_name : List ℕ) (shards : ℕ) (turns : List (Turn E)) (saver : Progress E) → IsSoFar dir file_name shards turns saver
+    → (saver.next ≡ length turns) × (saver.shards ≡ shards)
+knows_next dir file_name shards turns saver so_far = (ap (λ p. p.next) so_far.saver_is, ap (λ p. p.shards) so_far.saver_is)
+
+-- what its turn does is what that turn does
+pub saves_next : {F E : Type 0} (clock : F → ℕ) (stopped_since : F → ℕ → Files → Type 0) (files : F → Files) (faults : F → ℕ) (folders : F → Folders)
+    (dir file_name : List ℕ) (shards : ℕ) (turns : List (Turn E)) (turn : Turn E) (saver : Progress E) (old new : F) → IsSoFar dir file_name shards turns saver
+    → SavesOne clock stopped_since files faults folders saver.dir saver.file_name saver.next turn old new
+    → SavesOne clock stopped_since files faults folders dir file_name (length turns) turn old new
+saves_next {E = E} clock stopped_since files faults folders dir file_name shards turns turn saver old new so_far saves =
+    subst (λ (p : Progress E). SavesOne clock stopped_since files faults folders p.dir p.file_name p.next turn old new) so_far.saver_is saves
+
 -- no turn yet
 pub knows_none : {E : Type 0} (dir file_name : List ℕ) (shards : ℕ) (saver : Progress E)
     → saver ≡ record { dir = dir; file_name = file_name; shards = shards; next = 0; failures = [] } → IsSoFar dir file_name shards [] saver

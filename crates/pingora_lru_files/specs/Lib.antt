@@ -22,4 +22,5 @@ pub mod Held
 pub mod Made
 pub mod Memory
 pub mod MemoryInside
+pub mod Plans
 pub mod Host

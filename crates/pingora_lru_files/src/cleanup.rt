@@ -73,11 +73,12 @@ fn remove_each<F: Folder>(
 {
     let mut removed_files = 0;
     for path in paths {
-        match folder.remove(&path) {
-            Ok(()) => removed_files += 1,
-            Err(source) => failures
+        if let Err(source) = folder.remove(&path) {
+            failures
                 .push(ShardFileError::Remove { path, source })
-                .unwrap(),
+                .unwrap();
+        } else {
+            removed_files += 1;
         }
     }
     removed_files

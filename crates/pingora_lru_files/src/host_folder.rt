@@ -19,7 +19,7 @@ use std::{fs, io};
 #[derive(Drop)]
 pub struct HostFolder<R: Files> {
     rt: R,
-    open: HostOpen<R::File>,
+    file: HostOpen<R::File>,
 }
 
 impl<R: Files> Model for HostFolder<R> {
@@ -29,7 +29,7 @@ impl<R: Files> Model for HostFolder<R> {
 
     ghost use Rattle.pingora_lru_files.specs.Host.{mode_of};
 
-    ghost view = { λ h. mode_of h.open };
+    ghost view = { λ h. mode_of h.file };
 }
 
 impl<R: Files> HostFolder<R> {
@@ -39,7 +39,7 @@ impl<R: Files> HostFolder<R> {
     {
         HostFolder {
             rt,
-            open: HostOpen::Closed,
+            file: HostOpen::Closed,
         }
     }
 }
@@ -99,15 +99,15 @@ impl<R: Files + AllocGlobal + Clone + Drop> Folder for HostFolder<R> {
     ghost only_now = { λ h m k s. absurd k };
 
     fn make(&mut self, dir: &str) -> Result<(), FolderFault> {
-        self.open = HostOpen::Closed;
+        self.file = HostOpen::Closed;
         fs::create_dir_all(&self.rt, dir).map_err(fault)
     }
 
     fn create(&mut self, path: &str) -> Result<(), FolderFault> {
-        self.open = HostOpen::Closed;
+        self.file = HostOpen::Closed;
         match fs::create(&self.rt, path) {
             Ok(file) => {
-                self.open = HostOpen::Writing(file);
+                self.file = HostOpen::Writing(file);
                 Ok(())
             }
             Err(error) => Err(fault(error)),
@@ -115,33 +115,33 @@ impl<R: Files + AllocGlobal + Clone + Drop> Folder for HostFolder<R> {
     }
 
     fn write(&mut self, piece: &[u8]) -> Result<(), FolderFault> {
-        let HostOpen::Writing(file) = &mut self.open else {
+        let HostOpen::Writing(file) = &mut self.file else {
             unreachable!()
         };
         file.write_all(piece).map_err(fault)
     }
 
     fn flush(&mut self) -> Result<(), FolderFault> {
-        let HostOpen::Writing(file) = &mut self.open else {
+        let HostOpen::Writing(file) = &mut self.file else {
             unreachable!()
         };
         file.flush().map_err(fault)
     }
 
     fn rename(&mut self, from: &str, to: &str) -> Result<(), FolderFault> {
-        self.open = HostOpen::Closed;
+        self.file = HostOpen::Closed;
         fs::rename(&self.rt, from, to).map_err(fault)
     }
 
     fn open(&mut self, path: &str) -> Result<u64, FolderFault> {
-        self.open = HostOpen::Closed;
+        self.file = HostOpen::Closed;
         let file = match fs::open(&self.rt, path) {
             Ok(file) => file,
             Err(error) => return Err(fault(error)),
         };
         match file.metadata() {
             Ok(metadata) => {
-                self.open = HostOpen::Reading(file);
+                self.file = HostOpen::Reading(file);
                 Ok(metadata.len())
             }
             Err(error) => Err(fault(error)),
@@ -150,7 +150,7 @@ impl<R: Files + AllocGlobal + Clone + Drop> Folder for HostFolder<R> {
 
     fn read(&mut self, max: usize) -> Result<Vec<u8>, FolderFault> {
         let alloc = self.rt.alloc();
-        let HostOpen::Reading(file) = &mut self.open else {
+        let HostOpen::Reading(file) = &mut self.file else {
             unreachable!()
         };
         let mut piece = vec![in alloc; 0u8; max]?;
@@ -164,7 +164,7 @@ impl<R: Files + AllocGlobal + Clone + Drop> Folder for HostFolder<R> {
     }
 
     fn list(&mut self, dir: &str) -> Result<Vec<Listed>, FolderFault> {
-        self.open = HostOpen::Closed;
+        self.file = HostOpen::Closed;
         if dir.is_empty() {
             return Err(FolderFault::NotFound);
         }
@@ -183,7 +183,7 @@ impl<R: Files + AllocGlobal + Clone + Drop> Folder for HostFolder<R> {
     }
 
     fn remove(&mut self, path: &str) -> Result<(), FolderFault> {
-        self.open = HostOpen::Closed;
+        self.file = HostOpen::Closed;
         fs::remove_file(&self.rt, path).map_err(fault)
     }
 }

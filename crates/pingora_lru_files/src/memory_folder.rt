@@ -1,10 +1,14 @@
 // A folder in memory, which can be made to fail, and which knows what a stop could have left.
-ghost use Rattle.std.specs.Prelude.{◌≡◌, ◌<◌, ◌++◌, ◌∷◌, [], None, Some, IfOk, MatchOption, vec_len, vec_capacity};
+ghost use Rattle.std.specs.Prelude.{◌≡◌, ◌≢◌, ◌<◌, ◌++◌, ◌∷◌, [], ℕ, List, None, Some, IfOk, IsErrOf, IsTrue, MatchOption, MatchResult, OnOk, length, map, take, vec_len, vec_capacity};
 ghost use Rattle.std.specs.FinMap.{empty, get, insert};
 ghost use Rattle.pingora_lru_files.specs.declared.calls.Plan.TheVariants.{Works, FailsAt, StopsAt};
+ghost use Rattle.pingora_lru_files.specs.Files.{created, appended, renamed, removed, AllOrNone, SomeFront, Same};
 ghost use Rattle.pingora_lru_files.specs.Folder as mode;
-ghost use Rattle.pingora_lru_files.specs.Memory.{files_of, folders_of};
-ghost use Rattle.pingora_lru_files.specs.Places.{folder_of, MakesAll};
+ghost use Rattle.pingora_lru_files.specs.Folder.{HasCause, IsReading, IsWriting, Passes, Reads, written_path};
+ghost use Rattle.pingora_lru_files.specs.Listings.{name_of};
+ghost use Rattle.pingora_lru_files.specs.Memory.{files_of, folders_of, clock_of, faults_of, stopped_since_of};
+ghost use Rattle.pingora_lru_files.specs.Places.{folder_of, is_there, can_list, listing, MakesAll, MakesSome};
+ghost use Rattle.pingora_lru_files.specs.Plans.{fate, front_of, nothing, GoesAsPlanned, MovesOn};
 
 use crate::calls::{Call, End, Noted, Plan};
 use crate::fault::FolderFault;
@@ -122,7 +126,10 @@ impl MemoryFolder {
 }
 
 /// Whether the next call fails, and after how many bytes of a piece. The call counts.
-fn next_fate(plan: &mut Plan) -> Option<usize> {
+fn next_fate(plan: &mut Plan) -> Option<usize>
+    ensures fate { result ≡ fate plan.old 0 }
+    ensures counted { MovesOn plan.old plan.new }
+{
     match *plan {
         Plan::Works => None,
         Plan::FailsAt(0, part) => {
@@ -150,7 +157,7 @@ fn note(calls: &mut Vec<Noted>, call: Call, end: End)
 }
 
 impl Folder for MemoryFolder {
-    ghost use Rattle.pingora_lru_files.specs.Memory.{files_of, folders_of, clock_of, faults_of, stopped_since_of, memory_counts_now, memory_only_now};
+    ghost use Rattle.pingora_lru_files.specs.Memory.{memory_counts_now, memory_only_now};
 
     ghost files = { files_of };
 
@@ -170,7 +177,15 @@ impl Folder for MemoryFolder {
 
     ghost only_now = { λ m f k s. memory_only_now m f s };
 
-    fn make(&mut self, dir: &str) -> Result<(), FolderFault> {
+    fn make(&mut self, dir: &str) -> Result<(), FolderFault>
+        ensures closed { self.new.opened ≡ mode.Closed }
+        ensures done { OnOk result (MakesAll dir.now (folders_of self.old) (folders_of self.new)) }
+        ensures part { MakesSome dir.now (folders_of self.old) (folders_of self.new) }
+        ensures time { Passes clock_of stopped_since_of files_of Same self.old self.new }
+        ensures cause { HasCause (faults_of self.old) (faults_of self.new) result }
+        ensures found { IsErrOf result FolderFault.NotFound → ⊥ }
+        ensures planned { GoesAsPlanned nothing self.old self.new result }
+    {
         self.open = Open::Closed;
         let fate = next_fate(&mut self.plan);
         self.calls.reserve(1)?;
@@ -183,7 +198,16 @@ impl Folder for MemoryFolder {
         Ok(())
     }
 
-    fn create(&mut self, path: &str) -> Result<(), FolderFault> {
+    fn create(&mut self, path: &str) -> Result<(), FolderFault>
+        ensures mode { MatchResult result (λ _. IsWriting self.new.opened) (λ _. self.new.opened ≡ mode.Closed) }
+        ensures done { OnOk result (IsTrue (is_there (folders_of self.old) (folder_of path.now))
+            × (files_of self.new ≡ created path.now (files_of self.old)) × (self.new.opened ≡ mode.Writing path.now)) }
+        ensures places { folders_of self.new ≡ folders_of self.old }
+        ensures time { Passes clock_of stopped_since_of files_of (AllOrNone (created path.now)) self.old self.new }
+        ensures cause { HasCause (faults_of self.old) (faults_of self.new) result }
+        ensures found { IsErrOf result FolderFault.NotFound → ¬ IsTrue (is_there (folders_of self.old) (folder_of path.now)) }
+        ensures planned { GoesAsPlanned nothing self.old self.new result }
+    {
         self.open = Open::Closed;
         let fate = next_fate(&mut self.plan);
         self.calls.reserve(1)?;
@@ -204,7 +228,16 @@ impl Folder for MemoryFolder {
         Ok(())
     }
 
-    fn write(&mut self, piece: &[u8]) -> Result<(), FolderFault> {
+    fn write(&mut self, piece: &[u8]) -> Result<(), FolderFault>
+        requires { IsWriting self.old.opened }
+        ensures mode { self.new.opened ≡ self.old.opened }
+        ensures done { OnOk result (files_of self.new ≡ appended (written_path self.old.opened) piece.now (files_of self.old)) }
+        ensures places { folders_of self.new ≡ folders_of self.old }
+        ensures time { Passes clock_of stopped_since_of files_of (SomeFront (written_path self.old.opened) piece.now) self.old self.new }
+        ensures cause { HasCause (faults_of self.old) (faults_of self.new) result }
+        ensures found { IsErrOf result FolderFault.NotFound → ⊥ }
+        ensures planned { GoesAsPlanned (front_of self.old.opened piece.now) self.old self.new result }
+    {
         let Open::Writing(path) = &self.open else {
             unreachable!()
         };
@@ -226,7 +259,15 @@ impl Folder for MemoryFolder {
         Ok(())
     }
 
-    fn flush(&mut self) -> Result<(), FolderFault> {
+    fn flush(&mut self) -> Result<(), FolderFault>
+        requires { IsWriting self.old.opened }
+        ensures mode { self.new.opened ≡ self.old.opened }
+        ensures places { folders_of self.new ≡ folders_of self.old }
+        ensures time { Passes clock_of stopped_since_of files_of Same self.old self.new }
+        ensures cause { HasCause (faults_of self.old) (faults_of self.new) result }
+        ensures found { IsErrOf result FolderFault.NotFound → ⊥ }
+        ensures planned { GoesAsPlanned nothing self.old self.new result }
+    {
         let fate = next_fate(&mut self.plan);
         self.calls.reserve(1)?;
         if fate.is_some() {
@@ -237,7 +278,16 @@ impl Folder for MemoryFolder {
         Ok(())
     }
 
-    fn rename(&mut self, from: &str, to: &str) -> Result<(), FolderFault> {
+    fn rename(&mut self, from: &str, to: &str) -> Result<(), FolderFault>
+        ensures closed { self.new.opened ≡ mode.Closed }
+        ensures done { OnOk result ((get (files_of self.old) from.now ≢ None)
+            × (files_of self.new ≡ renamed from.now to.now (files_of self.old))) }
+        ensures places { folders_of self.new ≡ folders_of self.old }
+        ensures time { Passes clock_of stopped_since_of files_of (AllOrNone (renamed from.now to.now)) self.old self.new }
+        ensures cause { HasCause (faults_of self.old) (faults_of self.new) result }
+        ensures found { IsErrOf result FolderFault.NotFound → get (files_of self.old) from.now ≡ None }
+        ensures planned { GoesAsPlanned nothing self.old self.new result }
+    {
         self.open = Open::Closed;
         let fate = next_fate(&mut self.plan);
         self.calls.reserve(1)?;
@@ -258,7 +308,16 @@ impl Folder for MemoryFolder {
         Ok(())
     }
 
-    fn open(&mut self, path: &str) -> Result<u64, FolderFault> {
+    fn open(&mut self, path: &str) -> Result<u64, FolderFault>
+        ensures mode { MatchResult result (λ _. IsReading self.new.opened) (λ _. self.new.opened ≡ mode.Closed) }
+        ensures done { IfOk result (λ len. (bytes : List ℕ) × (get (files_of self.old) path.now ≡ Some bytes)
+            × (len ≡ length bytes) × (self.new.opened ≡ mode.Reading bytes)) }
+        ensures places { folders_of self.new ≡ folders_of self.old }
+        ensures time { Passes clock_of stopped_since_of files_of Same self.old self.new }
+        ensures cause { HasCause (faults_of self.old) (faults_of self.new) result }
+        ensures found { IsErrOf result FolderFault.NotFound → get (files_of self.old) path.now ≡ None }
+        ensures planned { GoesAsPlanned nothing self.old self.new result }
+    {
         self.open = Open::Closed;
         let fate = next_fate(&mut self.plan);
         self.calls.reserve(1)?;
@@ -277,7 +336,18 @@ impl Folder for MemoryFolder {
         Ok(len)
     }
 
-    fn read(&mut self, max: usize) -> Result<Vec<u8>, FolderFault> {
+    fn read(&mut self, max: usize) -> Result<Vec<u8>, FolderFault>
+        requires { IsReading self.old.opened }
+        ensures mode { IsReading self.new.opened }
+        ensures done { (left : List ℕ) → self.old.opened ≡ mode.Reading left →
+            IfOk result (λ piece. (rest : List ℕ) × (self.new.opened ≡ mode.Reading rest) × Reads max left piece.items rest) }
+        ensures whole { (left : List ℕ) → self.old.opened ≡ mode.Reading left → IfOk result (λ piece. piece.items ≡ take max left) }
+        ensures places { folders_of self.new ≡ folders_of self.old }
+        ensures time { Passes clock_of stopped_since_of files_of Same self.old self.new }
+        ensures cause { HasCause (faults_of self.old) (faults_of self.new) result }
+        ensures found { IsErrOf result FolderFault.NotFound → ⊥ }
+        ensures planned { GoesAsPlanned nothing self.old self.new result }
+    {
         let Open::Reading(path, at) = &mut self.open else {
             unreachable!()
         };
@@ -293,7 +363,16 @@ impl Folder for MemoryFolder {
         Ok(piece)
     }
 
-    fn list(&mut self, dir: &str) -> Result<Vec<Listed>, FolderFault> {
+    fn list(&mut self, dir: &str) -> Result<Vec<Listed>, FolderFault>
+        ensures closed { self.new.opened ≡ mode.Closed }
+        ensures done { IfOk result (λ listed. IsTrue (can_list (folders_of self.old) dir.now)
+            × (map name_of listed.items ≡ listing dir.now (files_of self.old))) }
+        ensures places { folders_of self.new ≡ folders_of self.old }
+        ensures time { Passes clock_of stopped_since_of files_of Same self.old self.new }
+        ensures cause { HasCause (faults_of self.old) (faults_of self.new) result }
+        ensures found { IsErrOf result FolderFault.NotFound → ¬ IsTrue (can_list (folders_of self.old) dir.now) }
+        ensures planned { GoesAsPlanned nothing self.old self.new result }
+    {
         self.open = Open::Closed;
         let fate = next_fate(&mut self.plan);
         self.calls.reserve(1)?;
@@ -310,7 +389,16 @@ impl Folder for MemoryFolder {
         Ok(listed)
     }
 
-    fn remove(&mut self, path: &str) -> Result<(), FolderFault> {
+    fn remove(&mut self, path: &str) -> Result<(), FolderFault>
+        ensures closed { self.new.opened ≡ mode.Closed }
+        ensures done { OnOk result ((get (files_of self.old) path.now ≢ None)
+            × (files_of self.new ≡ removed path.now (files_of self.old))) }
+        ensures places { folders_of self.new ≡ folders_of self.old }
+        ensures time { Passes clock_of stopped_since_of files_of (AllOrNone (removed path.now)) self.old self.new }
+        ensures cause { HasCause (faults_of self.old) (faults_of self.new) result }
+        ensures found { IsErrOf result FolderFault.NotFound → get (files_of self.old) path.now ≡ None }
+        ensures planned { GoesAsPlanned nothing self.old self.new result }
+    {
         self.open = Open::Closed;
         let fate = next_fate(&mut self.plan);
         self.calls.reserve(1)?;

@@ -8,6 +8,8 @@ mod loading_memory_tests;
 #[cfg(test)]
 mod loading_tests;
 #[cfg(test)]
+mod plan_tests;
+#[cfg(test)]
 mod saving_tests;
 #[cfg(test)]
 mod shelf;

@@ -9,8 +9,8 @@ use Rattle.pingora_lru_files.specs.FilesLemmas.{get-remove_same}
 use Rattle.pingora_lru_files.proofs.CleanupLemmas.{push_ok, EachSoFar, each_more, each_end}
 use Rattle.pingora_lru_files.proofs.cleanup.remove_each.Goals as goal
 
-pub loop-path-preserved-in-Ok-1 : goal.loop-path-preserved-in-Ok-1
-loop-path-preserved-in-Ok-1 g c =
+pub loop-path-preserved : goal.loop-path-preserved
+loop-path-preserved g c =
     let F = g.F.Folder in
     let so_far = c.loop-path.invariant in
     let path = string_bytes c.in-Some.path in
@@ -23,7 +23,7 @@ loop-path-preserved-in-Ok-1 g c =
     let start = c.args.folder.now in
     let mid = F.files c.loop-path.folder in
     let new = F.files c.remove.new.self in
-    let called = c.in-Ok.ensures {u = tt} in
+    let called = c.in_default.ensures {u = tt} in
     let counted = ap length parts in
     let each = subst (λ ps. EachSoFar kept paths (map string_bytes ps) (F.faults start < F.faults c.loop-path.folder) (F.files start) mid c.loop-path.removed_files before after) parts so_far.each in
     record {
@@ -42,8 +42,8 @@ loop-path-preserved-in-Ok-1 g c =
       kept = (λ k. called.kept.0 (so_far.kept.0 k), λ k. so_far.kept.1 (called.kept.1 k));
     }
 
-pub loop-path-preserved : goal.loop-path-preserved
-loop-path-preserved g c =
+pub loop-path-preserved-in-Err : goal.loop-path-preserved-in-Err
+loop-path-preserved-in-Err g c =
     let F = g.F.Folder in
     let so_far = c.loop-path.invariant in
     let path = string_bytes c.in-Some.path in

@@ -1,8 +1,6 @@
-use Rattle.std.proofs.Common.{◌≡◌, ◌<◌, ◌^◌, ◌∷◌, [], ◌++◌, length, refl, sym, ◌∙◌, ap, subst, arith}
-use Rattle.pingora_lru_files.specs.Turns.{SavesOne}
-use Rattle.pingora_lru_files.specs.Progress.{Progress}
+use Rattle.std.proofs.Common.{◌≡◌, ◌<◌, ◌^◌, ◌∷◌, [], ◌++◌, length, refl, sym, ◌∙◌, subst, arith}
 use denote.Param.Always.{mut_next}
-use Rattle.pingora_lru_files.proofs.SavesSoFar.{next_some, knows_none, knows_one, saves_none, saves_one}
+use Rattle.pingora_lru_files.proofs.SavesSoFar.{next_some, knows_next, knows_none, knows_one, saves_next, saves_none, saves_one}
 use Rattle.pingora_lru_files.proofs.TurnsLemmas.{RunsTo-push}
 use Rattle.pingora_lru_files.proofs.saving.save_shards.Goals as goal
 use Rattle.pingora_lru_files.proofs.saving.save_shards.Given as given
@@ -31,10 +29,10 @@ loop-shard-preserved g c =
     let turns = so_far.run.0 in
     let put = c.put.ensures.turn in
     let turn = put.0 in
-    let is = so_far.run.2.saver_is in
+    let known = knows_next c.args.dir_path.now c.args.file_name.now c.args.shards turns c.loop-shard.saver so_far.run.2 in
     let here = next_some c.loop-shard.saver c.in-Some.shard c.in-Some.ensures in
-    let at : c.in-Some.shard ≡ length turns = here.0 ∙ ap (λ p. p.next) is in
-    let left : c.loop-shard.saver.next < c.args.shards = omega (arith, here.1, ap (λ p. p.shards) is) in
+    let at : c.in-Some.shard ≡ length turns = here.0 ∙ known.0 in
+    let left : c.loop-shard.saver.next < c.args.shards = omega (arith, here.1, known.1) in
     let small : length turns < 2 ^ 64 = omega (arith, at, here.0, left, c.ranges.shards.fits) in
     let short : turn.word < 2 ^ 32 = omega (arith, put.1) in
     record {
@@ -49,6 +47,7 @@ loop-shard-preserved g c =
         knows_one c.args.dir_path.now c.args.file_name.now c.args.shards turns turn c.loop-shard.saver c.put.new.self so_far.run.2 left put.3,
         λ k. saves_one F.clock F.stopped_since F.files F.faults F.folders c.args.dir_path.now c.args.file_name.now c.args.folder.now
             turns turn c.loop-shard.folder c.put.new.folder small short (so_far.run.3 k)
-            (subst (λ (p : Progress _). SavesOne F.clock F.stopped_since F.files F.faults F.folders p.dir p.file_name p.next turn c.loop-shard.folder c.put.new.folder) is (put.4 (so_far.kept.0 k))),
+            (saves_next F.clock F.stopped_since F.files F.faults F.folders c.args.dir_path.now c.args.file_name.now c.args.shards
+            turns turn c.loop-shard.saver c.loop-shard.folder c.put.new.folder so_far.run.2 (put.4 (so_far.kept.0 k))),
       );
     }

@@ -1,10 +1,12 @@
-use Rattle.std.proofs.Common.{◌∷◌, [], ◌++◌, List, refl, ap, ◌∙◌}
+use Rattle.std.proofs.Common.{◌∷◌, [], ◌++◌, List, refl, ap, ◌∙◌, is_some, sym}
 use Rattle.pingora_lru_files.specs.declared.calls.Noted.{Noted}
 use Rattle.pingora_lru_files.specs.declared.calls.Call.TheVariants.{Look}
 use Rattle.pingora_lru_files.specs.declared.calls.End.TheVariants.{Done, Failed}
 use Rattle.pingora_lru_files.specs.Held.{files_in}
 use Rattle.pingora_lru_files.proofs.MemoryLemmas.{replayed, passes}
 use Rattle.pingora_lru_files.specs.Files.{Same}
+use Rattle.pingora_lru_files.proofs.PlanLemmas.{fails_as_planned}
+use Rattle.pingora_lru_files.specs.Plans.{nothing}
 use Rattle.pingora_lru_files.proofs.memory_folder.MemoryFolderFolder.make.Goals as goal
 
 pub invariant_of-self-then-is_some : goal.invariant_of-self-then-is_some
@@ -17,7 +19,7 @@ invariant_of-self-then-is_some c =
     }
 
 pub returns-then-is_some-clause-time : goal.returns-then-is_some-clause-time
-returns-then-is_some-clause-time c _ =
+returns-then-is_some-clause-time c =
     let n : Noted = record { call = Look; end = Failed 0 } in
     passes c.args.self.now _ n (Same) (refl) (ap (λ m. m.begun) c.self.view_is)
     (c.note.ensures ∙ ap (λ (l : List Noted). l ++ n ∷ []) (c.reserve.ensures.items ∙ ap (λ m. m.calls) c.self.view_is))
@@ -32,7 +34,14 @@ invariant_of-self-2 c =
     }
 
 pub returns-clause-time : goal.returns-clause-time
-returns-clause-time c _ =
+returns-clause-time c =
     let n : Noted = record { call = Look; end = Done } in
     passes c.args.self.now _ n (Same) (refl) (ap (λ m. m.begun) c.self.view_is)
     (c.note-2.ensures ∙ ap (λ (l : List Noted). l ++ n ∷ []) (c.reserve.ensures.items ∙ ap (λ m. m.calls) c.self.view_is))
+
+pub returns-then-is_some-clause-planned : goal.returns-then-is_some-clause-planned
+returns-then-is_some-clause-planned c =
+    let n : Noted = record { call = Look; end = Failed 0 } in
+    fails_as_planned nothing c.args.self.now _ _ c.self.inside.plan n (ap (λ m. m.plan) c.self.view_is) c.next_fate-fate.ensures.counted
+    (ap is_some (sym c.next_fate-fate.ensures.fate) ∙ sym c.is_some.ensures ∙ c.if-is_some.true) (ap (λ m. m.begun) c.self.view_is)
+    (c.note.ensures ∙ ap (λ (l : List Noted). l ++ n ∷ []) (c.reserve.ensures.items ∙ ap (λ m. m.calls) c.self.view_is)) (ap (λ m. m.made) c.self.view_is) (λ _ _. refl) refl

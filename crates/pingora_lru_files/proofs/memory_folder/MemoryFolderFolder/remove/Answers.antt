@@ -1,4 +1,4 @@
-use Rattle.std.proofs.Common.{◌∷◌, [], ◌++◌, List, refl, sym, ap, ◌∙◌}
+use Rattle.std.proofs.Common.{◌∷◌, [], ◌++◌, List, refl, sym, ap, ◌∙◌, is_some}
 use Rattle.pingora_lru_files.specs.declared.calls.Noted.{Noted}
 use Rattle.pingora_lru_files.specs.declared.calls.Call.TheVariants.{Remove}
 use Rattle.pingora_lru_files.specs.declared.calls.End.TheVariants.{Done, NotFound, Failed}
@@ -7,6 +7,8 @@ use Rattle.pingora_lru_files.proofs.MemoryLemmas.{replayed, passes, files_after,
 use Rattle.std.specs.FinMap.{get, remove}
 use Rattle.pingora_lru_files.specs.Files.{AllOrNone, removed}
 use Rattle.pingora_lru_files.specs.Memory.{files_of}
+use Rattle.pingora_lru_files.proofs.PlanLemmas.{fails_as_planned}
+use Rattle.pingora_lru_files.specs.Plans.{nothing}
 use Rattle.pingora_lru_files.proofs.memory_folder.MemoryFolderFolder.remove.Goals as goal
 
 pub invariant_of-self-then-is_some : goal.invariant_of-self-then-is_some
@@ -19,7 +21,7 @@ invariant_of-self-then-is_some c =
     }
 
 pub returns-then-is_some-clause-time : goal.returns-then-is_some-clause-time
-returns-then-is_some-clause-time c _ =
+returns-then-is_some-clause-time c =
     let n : Noted = record { call = Remove c.in_ok-from_str.field-0; end = Failed 0 } in
     passes c.args.self.now _ n (AllOrNone (removed c.args.path.now)) (ap (λ p. AllOrNone (removed p)) c.in_ok-from_str.ensures.ok) (ap (λ m. m.begun) c.self.view_is)
     (c.note.ensures ∙ ap (λ (l : List Noted). l ++ n ∷ []) (c.reserve.ensures.items ∙ ap (λ m. m.calls) c.self.view_is))
@@ -34,7 +36,7 @@ invariant_of-self-in_default c =
     }
 
 pub returns-in_default-clause-time : goal.returns-in_default-clause-time
-returns-in_default-clause-time c _ =
+returns-in_default-clause-time c =
     let n : Noted = record { call = Remove c.in_ok-from_str.field-0; end = NotFound } in
     passes c.args.self.now _ n (AllOrNone (removed c.args.path.now)) (ap (λ p. AllOrNone (removed p)) c.in_ok-from_str.ensures.ok) (ap (λ m. m.begun) c.self.view_is)
     (c.note-in_default.ensures ∙ ap (λ (l : List Noted). l ++ n ∷ []) (c.reserve.ensures.items ∙ ap (λ m. m.calls) c.self.view_is))
@@ -49,15 +51,22 @@ invariant_of-self-2 c =
     }
 
 pub returns-clause-time : goal.returns-clause-time
-returns-clause-time c _ =
+returns-clause-time c =
     let n : Noted = record { call = Remove c.in_ok-from_str.field-0; end = Done } in
     passes c.args.self.now _ n (AllOrNone (removed c.args.path.now)) (ap (λ p. AllOrNone (removed p)) c.in_ok-from_str.ensures.ok) (ap (λ m. m.begun) c.self.view_is)
     (c.note-2.ensures ∙ ap (λ (l : List Noted). l ++ n ∷ []) (c.reserve.ensures.items ∙ ap (λ m. m.calls) c.self.view_is))
 
 pub returns-clause-done : goal.returns-clause-done
-returns-clause-done c _ =
+returns-clause-done c =
     let n : Noted = record { call = Remove c.in_ok-from_str.field-0; end = Done } in
     let now_is = c.self.invariant.held ∙ ap files_of c.self.view_is in (
       is_here (files_of c.args.self.now) c.args.path.now _ (ap (λ m. get m c.args.path.now) (sym now_is) ∙ c.in-Some.ensures),
       (files_after c.args.self.now _ _ n (ap (λ m. m.begun) c.self.view_is) (c.note-2.ensures ∙ ap (λ (l : List Noted). l ++ n ∷ []) (c.reserve.ensures.items ∙ ap (λ m. m.calls) c.self.view_is))) ∙ ap (λ p. removed p (files_of c.args.self.now)) c.in_ok-from_str.ensures.ok,
     )
+
+pub returns-then-is_some-clause-planned : goal.returns-then-is_some-clause-planned
+returns-then-is_some-clause-planned c =
+    let n : Noted = record { call = Remove c.in_ok-from_str.field-0; end = Failed 0 } in
+    fails_as_planned nothing c.args.self.now _ _ c.self.inside.plan n (ap (λ m. m.plan) c.self.view_is) c.next_fate-fate.ensures.counted
+    (ap is_some (sym c.next_fate-fate.ensures.fate) ∙ sym c.is_some.ensures ∙ c.if-is_some.true) (ap (λ m. m.begun) c.self.view_is)
+    (c.note.ensures ∙ ap (λ (l : List Noted). l ++ n ∷ []) (c.reserve.ensures.items ∙ ap (λ m. m.calls) c.self.view_is)) (ap (λ m. m.made) c.self.view_is) (λ _ _. refl) refl

@@ -1,4 +1,4 @@
-use Rattle.std.proofs.Common.{◌≡◌, ◌∷◌, [], ◌++◌, List, sym, ap, ◌∙◌}
+use Rattle.std.proofs.Common.{◌≡◌, ◌∷◌, [], ◌++◌, List, Some, is_some, refl, sym, ap, ◌∙◌}
 use Rattle.pingora_lru_files.specs.declared.calls.Noted.{Noted}
 use Rattle.pingora_lru_files.specs.declared.calls.Call.TheVariants.{Write}
 use Rattle.pingora_lru_files.specs.declared.calls.End.TheVariants.{Done, Failed}
@@ -10,6 +10,8 @@ use Rattle.pingora_lru_files.specs.Files.{SomeFront, appended, bytes_at}
 use Rattle.pingora_lru_files.specs.Folder.{written_path}
 use Rattle.pingora_lru_files.specs.Memory.{files_of}
 use Rattle.pingora_lru_files.specs.MemoryInside.{opened_in}
+use Rattle.pingora_lru_files.proofs.PlanLemmas.{fails_as_planned}
+use Rattle.pingora_lru_files.specs.Plans.{fate, front_of}
 use Rattle.pingora_lru_files.proofs.memory_folder.MemoryFolderFolder.write.Goals as goal
 
 pub invariant_of-self-in-Some : goal.invariant_of-self-in-Some
@@ -28,7 +30,7 @@ invariant_of-self-in-Some c =
     }
 
 pub returns-in-Some-clause-time : goal.returns-in-Some-clause-time
-returns-in-Some-clause-time c _ =
+returns-in-Some-clause-time c =
     let n : Noted = record { call = Write c.in_ok-noted.noted c.in_ok-to_vec.field-0; end = Failed c.in-Some.part } in
     let same : c.in_ok-to_vec.field-0.items ≡ c.args.piece.now = search rules in
     let there = c.in_ok-noted.ensures.ok ∙ c.as_str.ensures.value ∙ ap (λ o. written_path (opened_in (files_in c.self.inside.held.entries) o)) (sym c.in-Writing.is) ∙ ap (λ m. written_path m.opened) c.self.view_is in
@@ -51,7 +53,7 @@ invariant_of-self-2 c =
     }
 
 pub returns-clause-time : goal.returns-clause-time
-returns-clause-time c _ =
+returns-clause-time c =
     let n : Noted = record { call = Write c.in_ok-noted.noted c.in_ok-to_vec.field-0; end = Done } in
     let same : c.in_ok-to_vec.field-0.items ≡ c.args.piece.now = search rules in
     let there = c.in_ok-noted.ensures.ok ∙ c.as_str.ensures.value ∙ ap (λ o. written_path (opened_in (files_in c.self.inside.held.entries) o)) (sym c.in-Writing.is) ∙ ap (λ m. written_path m.opened) c.self.view_is in
@@ -59,8 +61,19 @@ returns-clause-time c _ =
     (c.note-2.ensures ∙ ap (λ (l : List Noted). l ++ n ∷ []) (c.reserve.ensures.items ∙ ap (λ m. m.calls) c.self.view_is))
 
 pub returns-clause-done : goal.returns-clause-done
-returns-clause-done c _ =
+returns-clause-done c =
     let n : Noted = record { call = Write c.in_ok-noted.noted c.in_ok-to_vec.field-0; end = Done } in
     let same : c.in_ok-to_vec.field-0.items ≡ c.args.piece.now = search rules in
     let there = c.in_ok-noted.ensures.ok ∙ c.as_str.ensures.value ∙ ap (λ o. written_path (opened_in (files_in c.self.inside.held.entries) o)) (sym c.in-Writing.is) ∙ ap (λ m. written_path m.opened) c.self.view_is in
     (files_after c.args.self.now _ _ n (ap (λ m. m.begun) c.self.view_is) (c.note-2.ensures ∙ ap (λ (l : List Noted). l ++ n ∷ []) (c.reserve.ensures.items ∙ ap (λ m. m.calls) c.self.view_is))) ∙ (λ i. appended (there i) (same i) (files_of c.args.self.now))
+
+pub returns-in-Some-clause-planned : goal.returns-in-Some-clause-planned
+returns-in-Some-clause-planned c =
+    let n : Noted = record { call = Write c.in_ok-noted.noted c.in_ok-to_vec.field-0; end = Failed c.in-Some.part } in
+    let same : c.in_ok-to_vec.field-0.items ≡ c.args.piece.now = search rules in
+    let there = c.in_ok-noted.ensures.ok ∙ c.as_str.ensures.value ∙ ap (λ o. written_path (opened_in (files_in c.self.inside.held.entries) o)) (sym c.in-Writing.is) ∙ ap (λ m. written_path m.opened) c.self.view_is in
+    let planned : fate c.self.inside.plan 0 ≡ Some c.in-Some.part = sym c.next_fate-fate.ensures.fate ∙ c.in-Some.is in
+    fails_as_planned (front_of c.args.self.now.opened c.args.piece.now) c.args.self.now _ _ c.self.inside.plan n (ap (λ m. m.plan) c.self.view_is) c.next_fate-fate.ensures.counted
+    (ap is_some planned) (ap (λ m. m.begun) c.self.view_is)
+    (c.note.ensures ∙ ap (λ (l : List Noted). l ++ n ∷ []) (c.reserve.ensures.items ∙ ap (λ m. m.calls) c.self.view_is)) (ap (λ m. m.made) c.self.view_is)
+    (λ part here. let part_is : c.in-Some.part ≡ part = search rules in (λ i. appended (there i) (take (part_is i) (same i)) (files_of c.args.self.now))) refl
