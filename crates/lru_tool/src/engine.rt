@@ -56,6 +56,7 @@ fn serve<R: Rng, W: Write>(
         match line {
             Some(command) => answer(core, alloc, rng, command, writer)?,
             None => {
+                // how many lines were taken, this one with them
                 let number = count - rest.len();
                 writeln!(writer, "error line {number}")?;
                 return Ok(false);
@@ -65,6 +66,7 @@ fn serve<R: Rng, W: Write>(
     Ok(true)
 }
 
+// Where the input or the core finds no memory. A write that fails has no status of its own.
 fn memory_error<W: Write>(writer: &mut W) -> u8
     ensures { result ≡ 1 }
 {
