@@ -56,6 +56,7 @@ fn serve<R: Rng, W: Write>(
         match line {
             Some(command) => answer(core, alloc, rng, command, writer)?,
             None => {
+                // how many lines were taken, this one with them
                 let number = count - rest.len();
                 writeln!(writer, "error line {number}")?;
                 return Ok(false);
@@ -65,6 +66,7 @@ fn serve<R: Rng, W: Write>(
     Ok(true)
 }
 
+// Where the input or the core finds no memory. A write that fails has no status of its own.
 fn memory_error<W: Write>(writer: &mut W) -> u8
     ensures { result ≡ 1 }
 {
@@ -73,9 +75,11 @@ fn memory_error<W: Write>(writer: &mut W) -> u8
 }
 
 /// Reads the whole input, makes the core, and answers one line for each command; the answer is the exit status.
+/// A generator made of the seed draws the shards of each `limit`.
 ///
-/// Wrong arguments: the usage line, and status 2. A bad line: its error after the replies before it, and
-/// status 2. A read that fails, input or core that find no memory, and a write that fails: status 1.
+/// Wrong arguments: the usage line, and status 2, before anything is read. A bad line: its error after the
+/// replies before it, and status 2. A read that fails, input or core that find no memory, and a write that
+/// fails: status 1.
 pub fn run<R: Read, W: Write>(
     alloc: Global,
     arguments: &[String],
@@ -83,6 +87,7 @@ pub fn run<R: Read, W: Write>(
     writer: &mut W,
 ) -> u8
     ensures usage { settings_of (map string_bytes arguments.now) ≡ None → result ≢ 1 → (result ≡ 2) × Appends (W.contents writer.old) (W.contents writer.new) usage_text }
+    ensures unread { settings_of (map string_bytes arguments.now) ≡ None → reader.new ≡ reader.old }
     ensures served { IfSome (settings_of (map string_bytes arguments.now)) (λ settings. result ≢ 1 → IfSome (R.remaining reader.old) (λ input.
         (result ≡ status_of (commands_of input)) × ((text : List ℕ) × (Serves (fresh settings) (commands_of input) 1 text × Appends (W.contents writer.old) (W.contents writer.new) text)))) }
 {

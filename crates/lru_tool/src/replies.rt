@@ -37,6 +37,7 @@ fn write_flag<W: Write>(writer: &mut W, flag: bool) -> io::Result<()>
     writeln!(writer, "{flag}")
 }
 
+// A weight, where the key has one.
 fn write_weight<W: Write>(writer: &mut W, weight: Option<usize>) -> io::Result<()>
     ensures { OnOk result (Appends (W.contents writer.old) (W.contents writer.new) (weight_text weight)) }
 {
@@ -46,6 +47,7 @@ fn write_weight<W: Write>(writer: &mut W, weight: Option<usize>) -> io::Result<(
     }
 }
 
+// A row that left, or that was looked at.
 fn write_row<W: Write>(writer: &mut W, row: Option<(Keyed, usize)>) -> io::Result<()>
     ensures { OnOk result (Appends (W.contents writer.old) (W.contents writer.new) (row_text row)) }
 {
@@ -58,6 +60,7 @@ fn write_row<W: Write>(writer: &mut W, row: Option<(Keyed, usize)>) -> io::Resul
     }
 }
 
+// One of several rows on a line.
 fn write_pair<W: Write>(writer: &mut W, data: Keyed, weight: usize) -> io::Result<()>
     ensures { OnOk result (Appends (W.contents writer.old) (W.contents writer.new) (pair_text («data», weight))) }
 {
@@ -65,6 +68,7 @@ fn write_pair<W: Write>(writer: &mut W, data: Keyed, weight: usize) -> io::Resul
     write!(writer, " {key}:{value}:{weight}")
 }
 
+// The rows of a shard, with their count in front.
 fn write_rows<W: Write>(writer: &mut W, rows: LruUnitIter<'_, Keyed>) -> io::Result<()>
     ensures { OnOk result (Appends (W.contents writer.old) (W.contents writer.new) (rows_text rows.entry)) }
 {
@@ -77,6 +81,7 @@ fn write_rows<W: Write>(writer: &mut W, rows: LruUnitIter<'_, Keyed>) -> io::Res
     write!(writer, "\n")
 }
 
+// Rows that left, with their count in front.
 fn write_pairs<W: Write>(writer: &mut W, pairs: &[(Keyed, usize)]) -> io::Result<()>
     ensures { OnOk result (Appends (W.contents writer.old) (W.contents writer.new) (rows_text pairs.now)) }
 {
