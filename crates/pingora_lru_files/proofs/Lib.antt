@@ -11,3 +11,4 @@ pub mod MemoryLemmas
 mod CleanupLemmas
 mod CleanupNames
 mod LoadingLemmas
+pub mod SnapshotLemmas

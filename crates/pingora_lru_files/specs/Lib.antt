@@ -23,3 +23,5 @@ pub mod Made
 pub mod Memory
 pub mod MemoryInside
 pub mod Host
+pub mod Snapshot
+pub mod SnapshotTexts
