@@ -25,3 +25,4 @@ pub mod MemoryInside
 pub mod Host
 pub mod Snapshot
 pub mod SnapshotTexts
+pub mod SnapshotLoads

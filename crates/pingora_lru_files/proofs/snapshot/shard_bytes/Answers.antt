@@ -1,9 +1,8 @@
-use Rattle.std.proofs.Common.{◌≡◌, ℕ, ◌++◌, ◌∷◌, [], List, sym, ap, ◌∙◌, append_assoc, append-nil, arith, rules}
-use Rattle.std.specs.Prelude.{map}
+use Rattle.std.proofs.Common.{◌≡◌, ℕ, ◌++◌, ◌∷◌, [], List, sym, ap, ◌∙◌, append_assoc, append-nil, rules}
 use Rattle.std.specs.Int.{w64, to_le_bytes}
 use Rattle.pingora_lru_files.specs.declared.snapshot.Keyed.{Keyed}
-use Rattle.pingora_lru_files.specs.Snapshot.{bytes_of, pair_bytes, pairs_of}
-use Rattle.pingora_lru_files.proofs.SnapshotLemmas.{AreNarrow, IsNarrow, narrow-last, bytes_of-last, pairs_of-bytes_of}
+use Rattle.pingora_lru_files.specs.Snapshot.{pair_bytes, pairs_of}
+use Rattle.pingora_lru_files.proofs.SnapshotLemmas.{IsNarrow, narrow-last, bytes_of-last, pairs_of-bytes_of}
 use Rattle.pingora_lru_files.proofs.snapshot.shard_bytes.Goals as goal
 
 -- three pieces put at the end, one after the other
