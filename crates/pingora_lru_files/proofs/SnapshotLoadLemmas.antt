@@ -1,12 +1,14 @@
 -- Laws of rows that are put last in a shard of a core, and taken out again.
-use Rattle.std.proofs.Common.{◌≡◌, ℕ, ◌+◌, ◌<◌, false, List, [], ◌∷◌, ◌++◌, length, take, drop, get_or, Ok, Err, sym, ap, ◌∙◌}
+use Rattle.std.proofs.Common.{◌≡◌, ℕ, ◌+◌, ◌<◌, false, List, [], ◌∷◌, ◌++◌, length, take, drop, get_or, Ok, Err, suc, sym, ap, ◌∙◌, refl, arith}
 use Rattle.std.specs.Prelude.{Option, Bool, map, is_some}
 use Rattle.std.proofs.lemmas.List.{get_or-set_same, set-set, set-get_or, length-set, take-append-drop, drop_more, take_more, map-append}
 use Rattle.pingora_lru.specs.declared.unit.Refused.{Refused}
-use Rattle.pingora_lru.specs.Row.{Row, row, times, HasDistinctKeys, is_held, without}
+use Rattle.pingora_lru.specs.Row.{Row, row, pair_of, times, HasDistinctKeys, is_held, without}
 use Rattle.pingora_lru.specs.Shard.{Shard}
 use Rattle.pingora_lru.specs.Core.{Core, list_at, with_list, home}
 use Rattle.pingora_lru.specs.CoreCalls.{CoreInsertsTail}
+use Rattle.pingora_lru_files.specs.declared.snapshot.Keyed.{Keyed}
+use Rattle.pingora_lru_files.specs.SnapshotLoads.{row_of_pair, TellTheirKeys}
 use Rattle.pingora_lru.proofs.Rows.{without_there, row_of_absent}
 
 module _ {T : Type 0} where
@@ -65,3 +67,10 @@ map_take_more f xs i d lt = ap (λ ys. map f ys) (take_more xs i d lt) ∙ map-a
 
 pub map_drop_more : {X Y : Type 0} (f : X → Y) (xs : List X) (i : ℕ) (d : X) → i < length xs → map f (drop i xs) ≡ f (get_or xs i d) ∷ map f (drop (i + 1) xs)
 map_drop_more f xs i d lt = ap (λ ys. map f ys) (drop_more xs i d lt)
+
+-- rows whose data tell their keys are told by their pairs
+pub rows_of_pairs : (rows : List (Row Keyed)) → TellTheirKeys rows → map row_of_pair (map (λ (r : Row Keyed). pair_of r) rows) ≡ rows
+rows_of_pairs [] h = refl
+rows_of_pairs (r ∷ rows) h =
+    ap (λ k. row k r.value r.weight ∷ map row_of_pair (map (λ (q : Row Keyed). pair_of q) rows)) (h 0 r (omega arith))
+    ∙ ap (λ rs. r ∷ rs) (rows_of_pairs rows (λ k d lt. h (suc k) d (omega arith)))

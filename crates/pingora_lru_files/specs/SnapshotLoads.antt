@@ -1,5 +1,5 @@
 -- Loading the bytes of a shard.
-use Rattle.std.specs.Prelude.{◌≡◌, ℕ, ◌%◌, ◌<◌, nat_lt, List, ◌++◌, length, map, Option, Some, None, Result, Ok, Err, if◌then◌else◌}
+use Rattle.std.specs.Prelude.{◌≡◌, ℕ, ◌%◌, ◌<◌, nat_lt, List, ◌++◌, length, map, Option, Some, None, Result, Ok, Err, All, if◌then◌else◌}
 use Rattle.pingora_lru.specs.declared.unit.Cause.{Cause}
 use Rattle.pingora_lru.specs.declared.unit.Cause.TheVariants.{Memory, Weight, Length}
 use Rattle.pingora_lru.specs.Row.{Row, row, times, HasDistinctKeys, weight_of}
@@ -17,6 +17,10 @@ row_of_pair pair = row pair.0.key pair.0 pair.1
 -- the rows that bytes tell, in order
 abbrev pub rows_of : List ℕ → List (Row Keyed)
 rows_of bytes = map row_of_pair (pairs_of bytes)
+
+-- each row's data tell the key that it stands under
+abbrev pub TellTheirKeys : List (Row Keyed) → Type 0
+TellTheirKeys rows = All (λ r. r.value.key ≡ r.key) rows
 
 -- rows may stand behind those of a shard: each key is of this shard, and none stands twice or is held already
 pub record Joins (core : Core Keyed) (s : ℕ) (rows : List (Row Keyed)) : Type 0 where

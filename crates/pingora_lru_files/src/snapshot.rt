@@ -5,7 +5,7 @@ ghost use Rattle.pingora_lru.specs.Core.{list_at, with_list, cap_of};
 ghost use Rattle.pingora_lru.specs.Row.{Row, pair_of};
 ghost use Rattle.pingora_lru_files.specs.declared.snapshot.Keyed.{Keyed};
 ghost use Rattle.pingora_lru_files.specs.Snapshot.{bytes_of, pairs_of, pair_in, number_at};
-ghost use Rattle.pingora_lru_files.specs.SnapshotLoads.{row_of_pair, Joins, passed, Loads};
+ghost use Rattle.pingora_lru_files.specs.SnapshotLoads.{row_of_pair, rows_of, TellTheirKeys, Joins, passed, Loads};
 ghost use Rattle.pingora_lru_files.specs.declared.snapshot.LoadError.TheVariants as unloaded;
 ghost use Rattle.pingora_lru.specs.declared.unit.Cause.TheVariants.{Memory};
 
@@ -64,7 +64,8 @@ impl From<AllocError> for LoadError {
 }
 
 /// The bytes of a shard: key, value and weight of each row, most recent first, each as 8 bytes,
-/// the lowest first. The key is the one that the data tell.
+/// the lowest first. The key is the one that the data tell; where it is each row's own, the bytes
+/// tell the rows of the shard again.
 pub fn shard_bytes<const N: usize>(
     alloc: Global,
     core: &LruCore<Keyed, N>,
@@ -73,6 +74,7 @@ pub fn shard_bytes<const N: usize>(
     requires { shard < N }
     ensures bytes { IfOk result (λ bytes. bytes.items ≡ bytes_of (map pair_of (list_at core.now shard))) }
     ensures back { IfOk result (λ bytes. pairs_of bytes.items ≡ map pair_of (list_at core.now shard)) }
+    ensures rows { IfOk result (λ bytes. TellTheirKeys (list_at core.now shard) → rows_of bytes.items ≡ list_at core.now shard) }
 {
     let mut bytes = Vec::new(alloc);
     let mut rest = core.iter_shard(shard);
@@ -186,7 +188,8 @@ fn take_back<const N: usize>(core: &mut LruCore<Keyed, N>, shard: usize, pairs: 
     }
 }
 
-// Puts rows last in a shard, in order; where that is refused, none of them.
+// Puts rows last in a shard, in order; where that is refused, none of them. Rows that may stand
+// there and pass no limit are refused for want of memory alone.
 fn put_last<const N: usize>(
     core: &mut LruCore<Keyed, N>,
     shard: usize,

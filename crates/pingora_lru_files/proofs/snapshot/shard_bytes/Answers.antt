@@ -3,6 +3,10 @@ use Rattle.std.specs.Int.{w64, to_le_bytes}
 use Rattle.pingora_lru_files.specs.declared.snapshot.Keyed.{Keyed}
 use Rattle.pingora_lru_files.specs.Snapshot.{pair_bytes, pairs_of}
 use Rattle.pingora_lru_files.proofs.SnapshotLemmas.{IsNarrow, narrow-last, bytes_of-last, pairs_of-bytes_of}
+use Rattle.std.specs.Prelude.{map}
+use Rattle.pingora_lru.specs.Core.{list_at}
+use Rattle.pingora_lru_files.specs.SnapshotLoads.{row_of_pair}
+use Rattle.pingora_lru_files.proofs.SnapshotLoadLemmas.{rows_of_pairs}
 use Rattle.pingora_lru_files.proofs.snapshot.shard_bytes.Goals as goal
 
 -- three pieces put at the end, one after the other
@@ -34,3 +38,10 @@ pub returns-clause-back : goal.returns-clause-back
 returns-clause-back g c =
     let inv = c.loop-data.invariant in
     ap pairs_of inv.1.1.0 ∙ pairs_of-bytes_of inv.0 inv.1.1.1 ∙ sym (append-nil inv.0) ∙ ap (λ ps. inv.0 ++ ps) (sym c.in_default.ensures.steps.0) ∙ inv.1.0
+
+pub returns-clause-rows : goal.returns-clause-rows
+returns-clause-rows g c = λ tell.
+    let inv = c.loop-data.invariant in
+    ap (λ ps. map row_of_pair ps)
+    (ap pairs_of inv.1.1.0 ∙ pairs_of-bytes_of inv.0 inv.1.1.1 ∙ sym (append-nil inv.0) ∙ ap (λ ps. inv.0 ++ ps) (sym c.in_default.ensures.steps.0) ∙ inv.1.0)
+    ∙ rows_of_pairs (list_at c.args.core.now c.args.shard) tell
