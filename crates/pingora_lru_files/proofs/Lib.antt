@@ -12,3 +12,8 @@ pub mod PlanLemmas
 mod CleanupLemmas
 mod CleanupNames
 mod LoadingLemmas
+pub mod SnapshotLemmas
+pub mod SnapshotLoadLemmas
+pub mod SnapshotSteps
+pub mod SnapshotLimits
+pub mod SnapshotJoins

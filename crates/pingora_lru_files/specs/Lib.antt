@@ -24,3 +24,6 @@ pub mod Memory
 pub mod MemoryInside
 pub mod Plans
 pub mod Host
+pub mod Snapshot
+pub mod SnapshotTexts
+pub mod SnapshotLoads

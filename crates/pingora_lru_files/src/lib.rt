@@ -19,3 +19,4 @@ mod places;
 mod reports;
 mod saving;
 mod shard_saver;
+pub mod snapshot;
