@@ -16,3 +16,5 @@ pub mod SnapshotLoadLemmas
 pub mod SnapshotSteps
 pub mod SnapshotLimits
 pub mod SnapshotJoins
+pub mod SnapshotRuns
+pub mod SnapshotCalls
