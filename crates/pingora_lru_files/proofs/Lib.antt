@@ -17,3 +17,6 @@ pub mod SnapshotLoadLemmas
 pub mod SnapshotSteps
 pub mod SnapshotLimits
 pub mod SnapshotJoins
+pub mod SnapshotRuns
+pub mod SnapshotCalls
+pub mod SnapshotRestores
