@@ -14,4 +14,6 @@ mod saving_tests;
 #[cfg(test)]
 mod shelf;
 #[cfg(test)]
+mod snapshot_tests;
+#[cfg(test)]
 mod text_tests;
