@@ -17,6 +17,7 @@ pub enum Draw {
 }
 
 impl Draw {
+    /// Its name in what is printed.
     pub fn name(self) -> &'static str {
         match self {
             Draw::Uniform => "uniform",
