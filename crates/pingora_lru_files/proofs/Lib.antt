@@ -17,3 +17,5 @@ pub mod SnapshotLoadLemmas
 pub mod SnapshotSteps
 pub mod SnapshotLimits
 pub mod SnapshotJoins
+pub mod SnapshotRuns
+pub mod SnapshotCalls

@@ -27,3 +27,4 @@ pub mod Host
 pub mod Snapshot
 pub mod SnapshotTexts
 pub mod SnapshotLoads
+pub mod SnapshotSaves

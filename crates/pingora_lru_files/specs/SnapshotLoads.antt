@@ -1,5 +1,6 @@
 -- Loading the bytes of a shard.
 use Rattle.std.specs.Prelude.{◌≡◌, ℕ, ◌%◌, ◌<◌, nat_lt, List, ◌++◌, length, map, Option, Some, None, Result, Ok, Err, All, if◌then◌else◌}
+use Rattle.std.specs.Borrow.{Bor}
 use Rattle.pingora_lru.specs.declared.unit.Cause.{Cause}
 use Rattle.pingora_lru.specs.declared.unit.Cause.TheVariants.{Memory, Weight, Length}
 use Rattle.pingora_lru.specs.Row.{Row, row, times, HasDistinctKeys, weight_of}
@@ -53,3 +54,8 @@ Loads old s bytes (Err unloaded.Damaged) new = ¬ (IsSound old s bytes) × (new 
 Loads old s bytes (Err (unloaded.Unit Memory)) new = new ≡ old
 Loads old s bytes (Err (unloaded.Unit Weight)) new = IsSound old s bytes × ((passed_by old s bytes ≡ Some Weight) × (new ≡ old))
 Loads old s bytes (Err (unloaded.Unit Length)) new = IsSound old s bytes × ((passed_by old s bytes ≡ Some Length) × (new ≡ old))
+
+-- the same of bytes that are lent, where the count is not answered
+abbrev pub LoadsShard : Core Keyed → ℕ → Bor (List ℕ) → Result (Unit {0}) LoadError → Core Keyed → Type 0
+LoadsShard old s bytes (Ok done) new = (count : ℕ) × Loads old s bytes.now (Ok count) new
+LoadsShard old s bytes (Err error) new = Loads old s bytes.now (Err error) new

@@ -9,6 +9,10 @@ ghost use Rattle.pingora_lru_files.specs.SnapshotLoads.{row_of_pair, rows_of, Te
 ghost use Rattle.pingora_lru_files.specs.declared.snapshot.LoadError.TheVariants as unloaded;
 ghost use Rattle.pingora_lru.specs.declared.unit.Cause.TheVariants.{Memory};
 
+mod cores;
+
+/// Each shard of a core saved into its file, and loaded from it.
+pub use cores::{load_core, save_core};
 use pingora_lru::lru_core::LruCore;
 use pingora_lru::unit::Cause;
 use std::alloc::{AllocError, Global};

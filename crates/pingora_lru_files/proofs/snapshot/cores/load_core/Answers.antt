@@ -1,0 +1,24 @@
+use Rattle.std.proofs.Common.{◌<◌, subst, sym, rules}
+use Rattle.pingora_lru.specs.Core.{Core}
+use Rattle.pingora_lru_files.specs.declared.reports.ShardLoadReport.{ShardLoadReport}
+use Rattle.pingora_lru_files.specs.declared.snapshot.Keyed.{Keyed}
+use Rattle.pingora_lru_files.specs.declared.snapshot.LoadError.{LoadError}
+use Rattle.pingora_lru_files.specs.Loading.{IsLoad}
+use Rattle.pingora_lru_files.specs.SnapshotLoads.{LoadsShard}
+use Rattle.pingora_lru_files.proofs.SnapshotCalls.{if_ok, load_seen, calls_keep}
+use Rattle.pingora_lru_files.proofs.snapshot.cores.load_core.Goals as goal
+
+-- the closure keeps the reference to the core that it was given
+pub returns-clause-loads : goal.returns-clause-loads
+returns-clause-loads g c =
+    let Loaded : Core Keyed → ShardLoadReport LoadError → Type 0 = λ core report.
+    IsLoad LoadsShard (g.F.Folder.keeps c.args.folder.now) (g.F.Folder.faults c.args.folder.now < g.F.Folder.faults c.load_shards.new.folder) (g.F.Folder.files c.args.folder.now)
+    c.args.dir_path.now c.args.file_name.now c.args.core.now core g.row.N report.loaded_shards report.missing_shards report.failures.items in
+    if_ok {X = ShardLoadReport LoadError} _ (Loaded c.core-1.given.0)
+    (λ report h.
+    subst (λ core. Loaded core report)
+    (sym (c.core-1.given.1 (sym (calls_keep _ (λ f. f.1.ghost_name) (λ before after k shown answer st. search rules) 0 _ h.turns _ h.calls))))
+    (load_seen _ LoadsShard (λ f. f.1.now) g.row.N
+    (λ before after k shown answer lt st. (let loads : k < g.row.N → LoadsShard before.1.now k shown answer after.1.now = search rules in loads lt))
+    _ _ _ _ _ _ _ _ _ _ h))
+    c.load_shards.result c.load_shards.ensures.loads

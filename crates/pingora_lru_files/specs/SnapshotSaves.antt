@@ -1,0 +1,18 @@
+-- What the turns of a core's save are given.
+use Rattle.std.specs.Prelude.{◌≡◌, ℕ, List, [], ◌∷◌, IfOk, map}
+use Rattle.std.specs.declared.alloc.AllocError.{AllocError}
+use Rattle.rand_core.specs.Stream.{Stream, next_u32}
+use Rattle.pingora_lru.specs.Row.{pair_of}
+use Rattle.pingora_lru.specs.Core.{Core, list_at}
+use Rattle.pingora_lru_files.specs.declared.snapshot.Keyed.{Keyed}
+use Rattle.pingora_lru_files.specs.Snapshot.{bytes_of}
+use Rattle.pingora_lru_files.specs.Turns.{Turn}
+
+-- the turn was given the bytes of the shard's rows, unless memory was refused
+abbrev pub GivesShard : Core Keyed → ℕ → Turn AllocError → Type 0
+GivesShard core shard turn = IfOk turn.given (λ bytes. bytes.items ≡ bytes_of (map pair_of (list_at core shard)))
+
+-- each turn draws one word
+abbrev pub DrawsWords : {E : Type 0} → Stream → List (Turn E) → Stream → Type 0
+DrawsWords s [] rest = s ≡ rest
+DrawsWords s (turn ∷ turns) rest = (turn.word ≡ (next_u32 s).0) × DrawsWords (next_u32 s).1 turns rest
