@@ -8,7 +8,8 @@ mod draw_tests;
 mod engine;
 #[cfg(test)]
 mod fault_tests;
-mod keyed;
+#[cfg(test)]
+mod file_tests;
 mod numbers;
 mod parts;
 mod replies;
@@ -16,6 +17,8 @@ mod replies;
 mod run_tests;
 mod settings;
 
+use log::sink::Console;
+use pingora_lru_files::persistence::HostFolder;
 use std::process::ExitCode;
 
 fn main(rt: HostRuntime) -> ExitCode {
@@ -23,5 +26,13 @@ fn main(rt: HostRuntime) -> ExitCode {
         let _ = println!(rt; "error memory");
         return ExitCode::from(1);
     };
-    ExitCode::from(engine::run(rt.alloc(), &words, &mut rt.stdin(), &mut rt.stdout()))
+    let mut folder = HostFolder::new(rt);
+    ExitCode::from(engine::run(
+        rt.alloc(),
+        &mut folder,
+        &Console(rt),
+        &words,
+        &mut rt.stdin(),
+        &mut rt.stdout(),
+    ))
 }
