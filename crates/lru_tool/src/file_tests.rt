@@ -1,9 +1,10 @@
 //! Saves and loads by the program's commands, over a folder in memory.
 use crate::engine::run;
 use crate::run_tests::{answers, words};
+use crate::unlisted::Unlisted;
 use log::sink;
 use log::sink::Discard;
-use pingora_lru_files::persistence::MemoryFolder;
+use pingora_lru_files::persistence::{Folder, MemoryFolder};
 use rand::rngs::StdRng;
 use rand_core::{Rng, SeedableRng};
 use std::alloc::AllocError;
@@ -11,9 +12,9 @@ use std::io;
 use std::test::Fail;
 
 // Whether this input is answered so, with seed 7 and no watermark.
-fn answers_over(
+fn answers_over<F: Folder>(
     rt: &HostRuntime,
-    folder: &mut MemoryFolder,
+    folder: &mut F,
     input: &[u8],
     status: u8,
     text: &str,
@@ -79,6 +80,15 @@ fn tells_what_was_not_saved(rt: HostRuntime) -> Result<(), Fail> {
     folder.stop_at(1, 0);
     let text = "saved 0 failed 2\nloaded 0 missing 0 errored 2 removed 0\n";
     assert!(rt; answers_over(&rt, &mut folder, input, 0, text)?);
+    Ok(())
+}
+
+// A cleanup that found no memory has no count.
+#[test]
+fn tells_that_nothing_was_listed(rt: HostRuntime) -> Result<(), Fail> {
+    let input = b"load d c\nsave d c\n".as_slice();
+    let text = "loaded 0 missing 2 errored 0 removed -\nsaved 0 failed 2\n";
+    assert!(rt; answers_over(&rt, &mut Unlisted, input, 0, text)?);
     Ok(())
 }
 

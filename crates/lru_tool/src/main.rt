@@ -16,6 +16,8 @@ mod replies;
 #[cfg(test)]
 mod run_tests;
 mod settings;
+#[cfg(test)]
+mod unlisted;
 
 use log::sink::Console;
 use pingora_lru_files::persistence::HostFolder;
