@@ -83,8 +83,8 @@ fn memory_error<W: Write>(writer: &mut W) -> u8
 }
 
 /// Reads the whole input, makes the core, and answers one line for each command; the answer is the exit status.
-/// A generator made of the seed draws the shards of each `limit` and the words of each `save`, which writes into the
-/// folder; a `load` reads it, and both log there.
+/// A generator made of the seed draws the shards of each `limit` and the words of each `save`. A `save` writes into the
+/// folder, a `load` reads it and removes its temp files, and both tell the log how that went.
 ///
 /// Wrong arguments: the usage line, and status 2, before anything is read. A bad line: its error after the
 /// replies before it, and status 2. A read that fails, input or core that find no memory, and a write that
