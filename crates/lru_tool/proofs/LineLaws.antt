@@ -67,6 +67,11 @@ pub on_ok_then : {E : Type 0} (r : Result (Unit {0}) E) (a b c : Option (List �
 on_ok_then (Ok u) a b c x y h k = appends_then a b c x y h k
 on_ok_then (Err e) a b c x y h k = tt
 
+-- more is known where it is written
+pub on_ok_map : {E P Q : Type 0} (r : Result (Unit {0}) E) → (P → Q) → OnOk r P → OnOk r Q
+on_ok_map (Ok u) f h = f h
+on_ok_map (Err e) f h = tt
+
 -- a part that ends is put behind the others
 pub cut : (parts : List (Bor (List ℕ))) (x : Bor (List ℕ)) (s : ℕ) (text : List ℕ) (start at : ℕ) (all : List (List ℕ)) → x.now ≡ take (at - start) (drop start text) → at < length text → get_or text at 0 ≡ s →
     map now_of parts ++ parts_from s (take (at - start) (drop start text)) (drop at text) ≡ all →

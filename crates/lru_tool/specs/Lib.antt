@@ -1,4 +1,5 @@
 pub mod Lines
 pub mod Commands
+pub mod Storing
 pub mod Replies
 pub mod Program

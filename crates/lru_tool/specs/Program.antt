@@ -1,11 +1,10 @@
 -- The whole program: what its arguments mean, and what it writes for an input.
 use Rattle.std.specs.Prelude.{ℕ, List, [], ◌∷◌, map, replicate, is_some, Option, Some, None, option_and_then, if◌then◌else◌}
 use Rattle.std.specs.List.{list_all}
-use Rattle.lru_tool.specs.declared.command.Command.{Command}
-use Rattle.lru_tool.specs.declared.keyed.Keyed.{Keyed}
+use Rattle.pingora_lru_files.specs.declared.snapshot.Keyed.{Keyed}
 use Rattle.lru_tool.specs.declared.settings.Settings.{Settings}
 use Rattle.lru_tool.specs.Lines.{number_of, most_of, lines_of}
-use Rattle.lru_tool.specs.Commands.{command_of}
+use Rattle.lru_tool.specs.Commands.{Asked, command_of}
 use Rattle.pingora_lru.specs.Core.{Core}
 
 -- the arguments: a limit, a watermark or `-`, and a seed; anything else is none
@@ -19,9 +18,9 @@ abbrev pub fresh : Settings → Core Keyed
 fresh s = record { lists = replicate 2 []; weight_limit = s.limit; watermark = s.watermark; evicted_weight = 0; evicted_len = 0 }
 
 -- the commands of an input, a line each
-abbrev pub commands_of : List ℕ → List (Option Command)
+abbrev pub commands_of : List ℕ → List (Option Asked)
 commands_of input = map command_of (lines_of input)
 
 -- 0, or 2 where a line is bad
-abbrev pub status_of : List (Option Command) → ℕ
+abbrev pub status_of : List (Option Asked) → ℕ
 status_of lines = if list_all is_some lines then 0 else 2

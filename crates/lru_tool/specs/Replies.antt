@@ -1,15 +1,19 @@
 -- What the program writes.
-use Rattle.std.specs.Prelude.{◌≡◌, ℕ, ◌+◌, ◌<◌, Bool, List, [], ◌∷◌, ◌++◌, length, map, codes, decimal, Option, Some, None, Ok, Err, if◌then◌else◌}
-use Rattle.lru_tool.specs.declared.command.Command.{Command}
-use Rattle.lru_tool.specs.declared.command.Command.TheVariants.{Do, List as ListRows}
-use Rattle.lru_tool.specs.declared.keyed.Keyed.{Keyed}
+use Rattle.std.specs.declared.alloc.AllocError.{AllocError}
+use Rattle.std.specs.Prelude.{◌≡◌, ℕ, ◌+◌, ◌<◌, Bool, false, List, [], ◌∷◌, ◌++◌, length, map, codes, decimal, Option, Some, None, Result, Ok, Err, if◌then◌else◌}
+use Rattle.pingora_lru_files.specs.declared.snapshot.Keyed.{Keyed}
 use Rattle.pingora_lru.specs.declared.calls.Reply.{Reply}
 use Rattle.pingora_lru.specs.declared.calls.Reply.TheVariants.{Shard, Inserted, Weight as NewWeight, Updated, Was, Held, Left, Evicted, Known, Last, Totals, Done}
 use Rattle.pingora_lru.specs.declared.unit.Cause.{Cause}
 use Rattle.pingora_lru.specs.declared.unit.Cause.TheVariants.{Memory, Weight, Length}
 use Rattle.pingora_lru.specs.Row.{pair_of}
-use Rattle.pingora_lru.specs.Core.{Core, list_at}
+use Rattle.pingora_lru.specs.Core.{list_at}
 use Rattle.pingora_lru.specs.Calls.{IsAllowed, Gives}
+use Rattle.pingora_lru_files.specs.declared.errors.ShardSaveError.TheVariants.{Setup, AllShardsFailed}
+use Rattle.pingora_lru_files.specs.declared.reports.TempFileCleanupReport.{TempFileCleanupReport}
+use Rattle.pingora_lru_files.specs.Names.{has_slash}
+use Rattle.lru_tool.specs.Commands.{Asked, Do, ListRows, Save, Load}
+use Rattle.lru_tool.specs.Storing.{Meaning, State, SaveResult, LoadResult, SavesCore, LoadsCore}
 
 abbrev pub line : List ℕ → List ℕ
 line text = text ++ 10 ∷ []
@@ -74,29 +78,56 @@ reply_text (Totals len weight evicted_len evicted_weight) =
     line (decimal len ++ (32 ∷ decimal weight ++ (32 ∷ decimal evicted_len ++ (32 ∷ decimal evicted_weight))))
 reply_text Done = line (codes "ok")
 
+abbrev pub saved_text : ℕ → ℕ → List ℕ
+saved_text saved failed = line (codes "saved " ++ (decimal saved ++ (codes " failed " ++ decimal failed)))
+
+-- the line of a save
+abbrev pub save_text : SaveResult → List ℕ
+save_text (Ok report) = saved_text report.saved_shards report.failed_shards
+save_text (Err (AllShardsFailed shards failures)) = saved_text 0 shards
+save_text (Err (Setup error)) = line (codes "save refused")
+
+-- how many temp files were removed, `-` where cleanup found no memory
+abbrev pub removed_text : Result TempFileCleanupReport AllocError → List ℕ
+removed_text (Ok cleanup) = decimal cleanup.removed_files
+removed_text (Err refused) = codes "-"
+
+-- the line of a load
+abbrev pub load_text : LoadResult → List ℕ
+load_text (Ok report) =
+    line (codes "loaded " ++ (decimal report.loaded_shards ++ (codes " missing " ++ (decimal report.missing_shards
+    ++ (codes " errored " ++ (decimal report.error_shards ++ (codes " removed " ++ removed_text report.temp_cleanup)))))))
+load_text (Err refused) = refused_text Memory
+
 abbrev pub error_line_text : ℕ → List ℕ
 error_line_text n = line (codes "error line " ++ decimal n)
 
 abbrev pub usage_text : List ℕ
 usage_text = line (codes "usage: lru_tool LIMIT WATERMARK SEED")
 
--- a command may write this text, and leave this core
-abbrev pub Answers : Core Keyed → Command → List ℕ → Core Keyed → Type 0
-Answers old (Do call) text new = (reply : Reply Keyed) × (Gives old call reply new × (text ≡ reply_text reply))
-Answers old (ListRows s) text new = (text ≡ rows_text (map pair_of (list_at old s))) × (new ≡ old)
+-- a command may write this text, and leave this state
+abbrev pub Answers : {F : Type 0} → Meaning F → State F → Asked → List ℕ → State F → Type 0
+Answers m old (Do call) text new =
+    (reply : Reply Keyed) × (Gives old.core call reply new.core × ((text ≡ reply_text reply) × (new.folder ≡ old.folder)))
+Answers m old (ListRows s) text new = (text ≡ rows_text (map pair_of (list_at old.core s))) × (new ≡ old)
+Answers m old (Save dir file) text new =
+    (result : SaveResult) × (SavesCore m dir file old.core old.folder result new.folder × ((text ≡ save_text result) × (new.core ≡ old.core)))
+Answers m old (Load dir file) text new = (result : LoadResult) × (LoadsCore m dir file old result new × (text ≡ load_text result))
 
--- the lines, from number n on, may write this text: each command's reply in turn, up to and with the first bad line
-abbrev pub Serves : Core Keyed → List (Option Command) → ℕ → List ℕ → Type 0
-Serves core [] n text = text ≡ []
-Serves core (None ∷ lines) n text = text ≡ error_line_text n
-Serves core (Some command ∷ lines) n text =
-    (reply : List ℕ) × ((rest : List ℕ) × ((after : Core Keyed) × (Answers core command reply after × (Serves after lines (n + 1) rest × (text ≡ reply ++ rest)))))
+-- the lines, from number n on, may write this text, and leave this folder: each command's reply in turn, up to and with the first bad line
+abbrev pub Serves : {F : Type 0} → Meaning F → State F → List (Option Asked) → ℕ → List ℕ → F → Type 0
+Serves m state [] n text last = (text ≡ []) × (last ≡ state.folder)
+Serves m state (None ∷ lines) n text last = (text ≡ error_line_text n) × (last ≡ state.folder)
+Serves {F} m state (Some command ∷ lines) n text last =
+    (reply : List ℕ) × ((rest : List ℕ) × ((after : State F) × (Answers m state command reply after × (Serves m after lines (n + 1) rest last × (text ≡ reply ++ rest)))))
 
--- the shards that a command names are there
-abbrev pub IsPossible : Command → Type 0
+-- the shards that a command names are there, and a file's name has no slash
+abbrev pub IsPossible : Asked → Type 0
 IsPossible (Do call) = IsAllowed 2 call
 IsPossible (ListRows s) = s < 2
+IsPossible (Save dir file) = has_slash file ≡ false
+IsPossible (Load dir file) = has_slash file ≡ false
 
-abbrev pub Possible : Option Command → Type 0
+abbrev pub Possible : Option Asked → Type 0
 Possible None = Unit {0}
 Possible (Some command) = IsPossible command

@@ -1,29 +1,33 @@
 // The commands of the program.
-ghost use Rattle.std.specs.Prelude.{◌≡◌, map};
-ghost use Rattle.lru_tool.specs.Commands.{of_words, bare, with_one, with_two, with_three, with_four};
+ghost use Rattle.std.specs.Prelude.{◌≡◌, map, option_map};
+ghost use Rattle.lru_tool.specs.Commands.{asked, text_of, file_name_of, of_words, of_three, bare, with_one, with_two, with_three, with_four};
 ghost use Rattle.lru_tool.specs.Lines.{now_of};
 
-use crate::keyed::Keyed;
 use crate::numbers::{number, number_or_dash};
 use pingora_lru::calls::Call;
+use pingora_lru_files::snapshot::Keyed;
 
 /// What a line asks for.
 #[derive(Debug, Drop)]
-pub enum Command {
+pub enum Command<'a> {
     /// A call of the core.
     Do(Call<Keyed>),
     /// The rows of a shard, 0 or 1.
     List { shard: usize },
+    /// The core saved into the folder `dir`, each shard in a file under this name.
+    Save { dir: &'a str, file_name: &'a str },
+    /// The core loaded from there.
+    Load { dir: &'a str, file_name: &'a str },
 }
 
 /// The command that a line's words are, if they are one.
-pub fn command_from(words: &[&[u8]]) -> Option<Command>
-    ensures { result ≡ of_words (map now_of words.now) }
+pub fn command_from<'a>(words: &[&'a [u8]]) -> Option<Command<'a>>
+    ensures { option_map asked result ≡ of_words (map now_of words.now) }
 {
     match words {
         [name] => bare(name),
         [name, a] => with_one(name, number(a)?),
-        [name, a, b] => with_two(name, number(a)?, number(b)?),
+        [name, a, b] => of_three(name, a, b),
         [name, a, b, c] => with_three(name, number(a)?, number(b)?, number(c)?),
         [name, a, b, c, most] => with_four(
             name,
@@ -36,8 +40,46 @@ pub fn command_from(words: &[&[u8]]) -> Option<Command>
     }
 }
 
-fn bare(name: &[u8]) -> Option<Command>
-    ensures { result ≡ bare name.now }
+// A name with a folder and a file's name, or with two numbers.
+fn of_three<'a>(name: &[u8], a: &'a [u8], b: &'a [u8]) -> Option<Command<'a>>
+    ensures { option_map asked result ≡ of_three name.now a.now b.now }
+{
+    if name == b"save".as_slice() {
+        let (dir, file_name) = (text(a)?, file_name(b)?);
+        return Some(Command::Save { dir, file_name });
+    }
+    if name == b"load".as_slice() {
+        let (dir, file_name) = (text(a)?, file_name(b)?);
+        return Some(Command::Load { dir, file_name });
+    }
+    with_two(name, number(a)?, number(b)?)
+}
+
+// A word of UTF-8 that is not empty.
+fn text(word: &[u8]) -> Option<&str>
+    ensures { option_map now_of result ≡ text_of word.now }
+{
+    if word.is_empty() {
+        return None;
+    }
+    match str::from_utf8(word) {
+        Ok(text) => Some(text),
+        Err(_) => None,
+    }
+}
+
+// Such a word without a slash.
+fn file_name(word: &[u8]) -> Option<&str>
+    ensures { option_map now_of result ≡ file_name_of word.now }
+{
+    if word.contains(&b'/') {
+        return None;
+    }
+    text(word)
+}
+
+fn bare(name: &[u8]) -> Option<Command<'static>>
+    ensures { option_map asked result ≡ bare name.now }
 {
     let call = if name == b"limit".as_slice() {
         Call::EvictToLimit
@@ -49,8 +91,8 @@ fn bare(name: &[u8]) -> Option<Command>
     Some(Command::Do(call))
 }
 
-fn with_one(name: &[u8], a: u64) -> Option<Command>
-    ensures { result ≡ with_one name.now a }
+fn with_one(name: &[u8], a: u64) -> Option<Command<'static>>
+    ensures { option_map asked result ≡ with_one name.now a }
 {
     let call = if name == b"promote".as_slice() {
         Call::Promote { key: a }
@@ -74,8 +116,8 @@ fn with_one(name: &[u8], a: u64) -> Option<Command>
     Some(Command::Do(call))
 }
 
-fn with_two(name: &[u8], a: u64, b: u64) -> Option<Command>
-    ensures { result ≡ with_two name.now a b }
+fn with_two(name: &[u8], a: u64, b: u64) -> Option<Command<'static>>
+    ensures { option_map asked result ≡ with_two name.now a b }
 {
     let call = if name == b"setw".as_slice() {
         Call::SetWeight {
@@ -99,8 +141,8 @@ fn with_two(name: &[u8], a: u64, b: u64) -> Option<Command>
 }
 
 // Of `update`, a row that is there and a new one get the same value.
-fn with_three(name: &[u8], key: u64, value: u64, weight: u64) -> Option<Command>
-    ensures { result ≡ with_three name.now key value weight }
+fn with_three(name: &[u8], key: u64, value: u64, weight: u64) -> Option<Command<'static>>
+    ensures { option_map asked result ≡ with_three name.now key value weight }
 {
     let data = Keyed { key, value };
     let weight = weight as usize;
@@ -121,8 +163,14 @@ fn with_three(name: &[u8], key: u64, value: u64, weight: u64) -> Option<Command>
     Some(Command::Do(call))
 }
 
-fn with_four(name: &[u8], key: u64, value: u64, delta: u64, most: Option<u64>) -> Option<Command>
-    ensures { result ≡ with_four name.now key value delta most }
+fn with_four(
+    name: &[u8],
+    key: u64,
+    value: u64,
+    delta: u64,
+    most: Option<u64>,
+) -> Option<Command<'static>>
+    ensures { option_map asked result ≡ with_four name.now key value delta most }
 {
     if name != b"incr".as_slice() {
         return None;

@@ -1,8 +1,10 @@
 //! The seed's generator draws the shards of each eviction to the limit.
 use crate::engine::run;
-use crate::keyed::Keyed;
 use crate::run_tests::words;
+use log::sink::Discard;
 use pingora_lru::lru_core::LruCore;
+use pingora_lru_files::persistence::MemoryFolder;
+use pingora_lru_files::snapshot::Keyed;
 use rand::rngs::StdRng;
 use rand_core::SeedableRng;
 use std::alloc::Global;
@@ -47,7 +49,17 @@ fn draws_from_the_seed(rt: HostRuntime) -> Result<(), Fail> {
         let mut reader = input.as_bytes();
         let mut writer = Vec::new(rt.alloc());
         let text = expected(rt.alloc(), seed)?;
-        assert_eq!(rt; run(rt.alloc(), &arguments, &mut reader, &mut writer), 0);
+        assert_eq!(rt;
+            run(
+                rt.alloc(),
+                &mut MemoryFolder::new(rt.alloc()),
+                &Discard,
+                &arguments,
+                &mut reader,
+                &mut writer
+            ),
+            0
+        );
         assert!(rt; writer.as_slice() == text.as_bytes());
         differ = differ || text.as_str() != first.as_str();
     }

@@ -1,17 +1,19 @@
 // The engine: all of the program but where its arguments and its streams come from.
-ghost use Rattle.std.specs.Prelude.{◌≡◌, ◌≢◌, List, ℕ, All, Some, None, IfOk, IfSome, OnOk, map, is_some, string_bytes};
+ghost use Rattle.std.specs.Prelude.{◌≡◌, ◌≢◌, ◌↔◌, List, ℕ, All, Some, None, IfOk, IfSome, OnOk, map, option_map, is_some, string_bytes};
 ghost use Rattle.std.specs.List.{list_all};
 ghost use Rattle.std.specs.Io.KnownBytes.{Appends};
-ghost use Rattle.lru_tool.specs.Commands.{command_of};
+ghost use Rattle.lru_tool.specs.Commands.{asked, command_of};
 ghost use Rattle.lru_tool.specs.Replies.{Serves, Possible, usage_text};
 ghost use Rattle.lru_tool.specs.Program.{settings_of, fresh, commands_of, status_of};
 
 use crate::command::{Command, command_from};
-use crate::keyed::Keyed;
 use crate::parts::{lines, parts};
 use crate::replies::answer;
 use crate::settings::{Settings, settings_from};
+use log::Log;
 use pingora_lru::lru_core::LruCore;
+use pingora_lru_files::persistence::Folder;
+use pingora_lru_files::snapshot::Keyed;
 use rand::rngs::StdRng;
 use rand_core::{Rng, SeedableRng};
 use std::alloc::{AllocError, Global};
@@ -19,16 +21,16 @@ use std::io;
 use std::io::{ErrorKind, Read, Write};
 
 // The command of a line, if it is one.
-fn line_command(alloc: Global, line: &[u8]) -> Result<Option<Command>, AllocError>
-    ensures { IfOk result (λ command. command ≡ command_of line.now) }
+fn line_command(alloc: Global, line: &[u8]) -> Result<Option<Command<'_>>, AllocError>
+    ensures { IfOk result (λ command. option_map asked command ≡ command_of line.now) }
 {
     let words = parts(alloc, line, b' ')?;
     Ok(command_from(&words))
 }
 
 // The commands of an input, a line each.
-fn commands(alloc: Global, input: &[u8]) -> Result<Vec<Option<Command>>, AllocError>
-    ensures { IfOk result (λ commands. commands.items ≡ commands_of input.now) }
+fn commands(alloc: Global, input: &[u8]) -> Result<Vec<Option<Command<'_>>>, AllocError>
+    ensures { IfOk result (λ commands. map (option_map asked) commands.items ≡ commands_of input.now) }
 {
     let lines = lines(alloc, input)?;
     let mut commands = Vec::new(alloc);
@@ -39,22 +41,28 @@ fn commands(alloc: Global, input: &[u8]) -> Result<Vec<Option<Command>>, AllocEr
 }
 
 // Answers line after line, up to and with a bad one; whether there was none.
-fn serve<R: Rng, W: Write>(
+fn serve<F: Folder, R: Rng, L: Log, W: Write>(
     core: &mut LruCore<Keyed, 2>,
+    folder: &mut F,
     alloc: Global,
     rng: &mut R,
-    lines: Vec<Option<Command>>,
+    log: &L,
+    lines: Vec<Option<Command<'_>>>,
     writer: &mut W,
 ) -> io::Result<bool>
-    requires { All Possible lines.items }
-    ensures text { OnOk result ((text : List ℕ) × (Serves core.old lines.items 1 text × Appends (W.contents writer.old) (W.contents writer.new) text)) }
-    ensures good { IfOk result (λ good. good ≡ list_all is_some lines.items) }
+    requires { All Possible (map (option_map asked) lines.items) }
+    ensures text { OnOk result ((text : List ℕ)
+        × (Serves (record { files = F.files; folders = F.folders; clock = F.clock; stopped_since = F.stopped_since; faults = F.faults; keeps = F.keeps }) (record { core = core.old; folder = folder.old })
+        (map (option_map asked) lines.entry.items) 1 text folder.new
+        × Appends (W.contents writer.old) (W.contents writer.new) text)) }
+    ensures good { IfOk result (λ good. good ≡ list_all is_some (map (option_map asked) lines.entry.items)) }
+    ensures kept { F.keeps folder.old ↔ F.keeps folder.new }
 {
     let count = lines.len();
     let mut rest = lines.into_iter();
     while let Some(line) = rest.next() {
         match line {
-            Some(command) => answer(core, alloc, rng, command, writer)?,
+            Some(command) => answer(core, folder, alloc, rng, log, command, writer)?,
             None => {
                 // how many lines were taken, this one with them
                 let number = count - rest.len();
@@ -75,21 +83,29 @@ fn memory_error<W: Write>(writer: &mut W) -> u8
 }
 
 /// Reads the whole input, makes the core, and answers one line for each command; the answer is the exit status.
-/// A generator made of the seed draws the shards of each `limit`.
+/// A generator made of the seed draws the shards of each `limit` and the words of each `save`. A `save` writes into the
+/// folder, a `load` reads it and removes its temp files, and both tell the log how that went.
 ///
 /// Wrong arguments: the usage line, and status 2, before anything is read. A bad line: its error after the
 /// replies before it, and status 2. A read that fails, input or core that find no memory, and a write that
 /// fails: status 1.
-pub fn run<R: Read, W: Write>(
+pub fn run<F: Folder, L: Log, R: Read, W: Write>(
     alloc: Global,
+    folder: &mut F,
+    log: &L,
     arguments: &[String],
     reader: &mut R,
     writer: &mut W,
 ) -> u8
     ensures usage { settings_of (map string_bytes arguments.now) ≡ None → result ≢ 1 → (result ≡ 2) × Appends (W.contents writer.old) (W.contents writer.new) usage_text }
     ensures unread { settings_of (map string_bytes arguments.now) ≡ None → reader.new ≡ reader.old }
+    ensures unmoved { settings_of (map string_bytes arguments.now) ≡ None → folder.new ≡ folder.old }
     ensures served { IfSome (settings_of (map string_bytes arguments.now)) (λ settings. result ≢ 1 → IfSome (R.remaining reader.old) (λ input.
-        (result ≡ status_of (commands_of input)) × ((text : List ℕ) × (Serves (fresh settings) (commands_of input) 1 text × Appends (W.contents writer.old) (W.contents writer.new) text)))) }
+        (result ≡ status_of (commands_of input)) × ((text : List ℕ)
+        × (Serves (record { files = F.files; folders = F.folders; clock = F.clock; stopped_since = F.stopped_since; faults = F.faults; keeps = F.keeps }) (record { core = fresh settings; folder = folder.old })
+        (commands_of input) 1 text folder.new
+        × Appends (W.contents writer.old) (W.contents writer.new) text)))) }
+    ensures kept { F.keeps folder.old ↔ F.keeps folder.new }
 {
     let Some(settings) = settings_from(arguments) else {
         if let Err(_) = writeln!(writer, "usage: lru_tool LIMIT WATERMARK SEED") {
@@ -112,7 +128,7 @@ pub fn run<R: Read, W: Write>(
         return memory_error(writer);
     };
     let mut rng = StdRng::seed_from_u64(settings.seed);
-    match serve(&mut core, alloc, &mut rng, lines, writer) {
+    match serve(&mut core, folder, alloc, &mut rng, log, lines, writer) {
         Ok(true) => 0,
         Ok(false) => 2,
         Err(_) => 1,

@@ -2,6 +2,8 @@
 use crate::arguments;
 use crate::engine::run;
 use crate::run_tests::words;
+use log::sink::Discard;
+use pingora_lru_files::persistence::MemoryFolder;
 use std::env::{Env, FillError};
 use std::io;
 use std::test::Fail;
@@ -56,7 +58,17 @@ fn refuses_an_argument_that_is_not_text(rt: HostRuntime) -> Result<(), Fail> {
     let arguments = arguments::words(&(whole, rt.alloc()))?;
     let mut reader = b"total\n".as_slice();
     let mut writer = Vec::new(rt.alloc());
-    assert_eq!(rt; run(rt.alloc(), &arguments, &mut reader, &mut writer), 0);
+    assert_eq!(rt;
+        run(
+            rt.alloc(),
+            &mut MemoryFolder::new(rt.alloc()),
+            &Discard,
+            &arguments,
+            &mut reader,
+            &mut writer
+        ),
+        0
+    );
     assert!(rt; writer.as_slice() == b"0 0 0 0\n".as_slice());
     for last in [b"\xff".as_slice(), b"7\xc3".as_slice()] {
         let arguments = arguments::words(&(Given { last }, rt.alloc()))?;
@@ -64,7 +76,17 @@ fn refuses_an_argument_that_is_not_text(rt: HostRuntime) -> Result<(), Fail> {
             kind: io::ErrorKind::TimedOut,
         };
         let mut writer = Vec::new(rt.alloc());
-        assert_eq!(rt; run(rt.alloc(), &arguments, &mut reader, &mut writer), 2);
+        assert_eq!(rt;
+            run(
+                rt.alloc(),
+                &mut MemoryFolder::new(rt.alloc()),
+                &Discard,
+                &arguments,
+                &mut reader,
+                &mut writer
+            ),
+            2
+        );
         assert!(rt; writer.as_slice() == b"usage: lru_tool LIMIT WATERMARK SEED\n".as_slice());
     }
     Ok(())
@@ -78,7 +100,14 @@ fn tells_that_the_input_failed(rt: HostRuntime) -> Result<(), Fail> {
         (io::ErrorKind::OutOfMemory, "error memory\n"),
     ] {
         let mut writer = Vec::new(rt.alloc());
-        let status = run(rt.alloc(), &arguments, &mut Broken { kind }, &mut writer);
+        let status = run(
+            rt.alloc(),
+            &mut MemoryFolder::new(rt.alloc()),
+            &Discard,
+            &arguments,
+            &mut Broken { kind },
+            &mut writer,
+        );
         assert_eq!(rt; status, 1);
         assert!(rt; writer.as_slice() == text.as_bytes());
     }
@@ -92,13 +121,33 @@ fn ends_at_a_failed_write(rt: HostRuntime) -> Result<(), Fail> {
         let mut reader = input.as_bytes();
         let mut room = [0_u8; 3];
         let mut writer = room.as_mut_slice();
-        assert_eq!(rt; run(rt.alloc(), &arguments, &mut reader, &mut writer), 1);
+        assert_eq!(rt;
+            run(
+                rt.alloc(),
+                &mut MemoryFolder::new(rt.alloc()),
+                &Discard,
+                &arguments,
+                &mut reader,
+                &mut writer
+            ),
+            1
+        );
     }
     let arguments = words(rt.alloc(), "4 -")?;
     let mut reader = b"total\n".as_slice();
     let mut room = [0_u8; 3];
     let mut writer = room.as_mut_slice();
-    assert_eq!(rt; run(rt.alloc(), &arguments, &mut reader, &mut writer), 1);
+    assert_eq!(rt;
+        run(
+            rt.alloc(),
+            &mut MemoryFolder::new(rt.alloc()),
+            &Discard,
+            &arguments,
+            &mut reader,
+            &mut writer
+        ),
+        1
+    );
     Ok(())
 }
 
@@ -128,7 +177,14 @@ fn tells_where_memory_is_refused(rt: HostRuntime) -> Result<(), Fail> {
         b"admit 1 1 1\nadmit 3 3 1\nadmit 5 5 1\nadmit 7 7 1\nadmit 9 9 1\nlimit\ntotal\n".as_slice();
     let mut room = [0_u8; 128];
     let mut writer = io::Cursor::new(room.as_mut_slice());
-    let status = run(rt.alloc(), &arguments, &mut reader, &mut writer);
+    let status = run(
+        rt.alloc(),
+        &mut MemoryFolder::new(rt.alloc()),
+        &Discard,
+        &arguments,
+        &mut reader,
+        &mut writer,
+    );
     let written = writer.position() as usize;
     assert!(rt; written <= 128);
     let text = &room[..written];

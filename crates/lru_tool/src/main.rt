@@ -8,14 +8,19 @@ mod draw_tests;
 mod engine;
 #[cfg(test)]
 mod fault_tests;
-mod keyed;
+#[cfg(test)]
+mod file_tests;
 mod numbers;
 mod parts;
 mod replies;
 #[cfg(test)]
 mod run_tests;
 mod settings;
+#[cfg(test)]
+mod unlisted;
 
+use log::sink::Console;
+use pingora_lru_files::persistence::HostFolder;
 use std::process::ExitCode;
 
 fn main(rt: HostRuntime) -> ExitCode {
@@ -23,5 +28,13 @@ fn main(rt: HostRuntime) -> ExitCode {
         let _ = println!(rt; "error memory");
         return ExitCode::from(1);
     };
-    ExitCode::from(engine::run(rt.alloc(), &words, &mut rt.stdin(), &mut rt.stdout()))
+    let mut folder = HostFolder::new(rt);
+    ExitCode::from(engine::run(
+        rt.alloc(),
+        &mut folder,
+        &Console(rt),
+        &words,
+        &mut rt.stdin(),
+        &mut rt.stdout(),
+    ))
 }

@@ -1,16 +1,19 @@
 // What the program writes for each command.
-ghost use Rattle.std.specs.Prelude.{◌≡◌, OnOk, List, ℕ};
+ghost use Rattle.std.specs.Prelude.{◌≡◌, ◌↔◌, OnOk, List, ℕ};
 ghost use Rattle.std.specs.Io.KnownBytes.{Appends};
-ghost use Rattle.lru_tool.specs.Replies.{Answers, IsPossible, cause_text, refused_text, flag_text, weight_text, row_text, pair_text, rows_text, cut_short_text, reply_text};
+ghost use Rattle.lru_tool.specs.Replies.{Answers, IsPossible, cause_text, refused_text, flag_text, weight_text, row_text, pair_text, rows_text, cut_short_text, reply_text, saved_text, save_text, load_text};
+ghost use Rattle.lru_tool.specs.Commands.{asked};
 
 use crate::command::Command;
-use crate::keyed::Keyed;
+use log::Log;
 use pingora_lru::calls;
 use pingora_lru::calls::Reply;
 use pingora_lru::lru_core::LruCore;
 use pingora_lru::unit::{Cause, LruUnitIter};
+use pingora_lru_files::persistence::{Folder, ShardLoadReport, ShardSaveError, ShardSaveReport};
+use pingora_lru_files::snapshot::{Keyed, LoadError, load_core, save_core};
 use rand_core::Rng;
-use std::alloc::Global;
+use std::alloc::{AllocError, Global};
 use std::io;
 use std::io::Write;
 
@@ -132,16 +135,69 @@ fn write_reply<W: Write>(writer: &mut W, reply: Reply<Keyed>) -> io::Result<()>
     }
 }
 
-/// Does a command, with its draws from the generator, and writes its reply.
-pub fn answer<R: Rng, W: Write>(
+fn write_counts<W: Write>(writer: &mut W, saved: usize, failed: usize) -> io::Result<()>
+    ensures { OnOk result (Appends (W.contents writer.old) (W.contents writer.new) (saved_text saved failed)) }
+{
+    writeln!(writer, "saved {saved} failed {failed}")
+}
+
+// How many shards were saved, and how many failed.
+fn write_saved<W: Write>(
+    writer: &mut W,
+    outcome: &Result<ShardSaveReport<AllocError>, ShardSaveError<AllocError>>,
+) -> io::Result<()>
+    ensures { OnOk result (Appends (W.contents writer.old) (W.contents writer.new) (save_text outcome.now)) }
+{
+    match outcome {
+        Ok(report) => write_counts(writer, report.saved_shards, report.failed_shards),
+        Err(ShardSaveError::AllShardsFailed { shards, .. }) => write_counts(writer, 0, *shards),
+        Err(ShardSaveError::Setup(_)) => writeln!(writer, "save refused"),
+    }
+}
+
+// How many shards were loaded, have no file, and failed, and how many temp files were removed.
+fn write_loaded<W: Write>(
+    writer: &mut W,
+    outcome: &Result<ShardLoadReport<LoadError>, AllocError>,
+) -> io::Result<()>
+    ensures { OnOk result (Appends (W.contents writer.old) (W.contents writer.new) (load_text outcome.now)) }
+{
+    let Ok(report) = outcome else {
+        return write_refused(writer, Cause::Memory);
+    };
+    let (loaded, missing) = (report.loaded_shards, report.missing_shards);
+    let errored = report.error_shards;
+    match &report.temp_cleanup {
+        Ok(cleanup) => {
+            let removed = cleanup.removed_files;
+            writeln!(
+                writer,
+                "loaded {loaded} missing {missing} errored {errored} removed {removed}"
+            )
+        }
+        Err(_) => writeln!(
+            writer,
+            "loaded {loaded} missing {missing} errored {errored} removed -"
+        ),
+    }
+}
+
+/// Does a command on the core or between it and the folder, with its draws from the generator, and writes its reply.
+pub fn answer<F: Folder, R: Rng, L: Log, W: Write>(
     core: &mut LruCore<Keyed, 2>,
+    folder: &mut F,
     alloc: Global,
     rng: &mut R,
-    command: Command,
+    log: &L,
+    command: Command<'_>,
     writer: &mut W,
 ) -> io::Result<()>
-    requires { IsPossible command }
-    ensures { OnOk result ((text : List ℕ) × (Answers core.old command text core.new × Appends (W.contents writer.old) (W.contents writer.new) text)) }
+    requires { IsPossible (asked command) }
+    ensures text { OnOk result ((text : List ℕ)
+        × (Answers (record { files = F.files; folders = F.folders; clock = F.clock; stopped_since = F.stopped_since; faults = F.faults; keeps = F.keeps })
+        (record { core = core.old; folder = folder.old }) (asked command.entry) text (record { core = core.new; folder = folder.new })
+        × Appends (W.contents writer.old) (W.contents writer.new) text)) }
+    ensures kept { F.keeps folder.old ↔ F.keeps folder.new }
 {
     match command {
         Command::Do(call) => {
@@ -149,5 +205,13 @@ pub fn answer<R: Rng, W: Write>(
             write_reply(writer, reply)
         }
         Command::List { shard } => write_rows(writer, core.iter_shard(shard)),
+        Command::Save { dir, file_name } => {
+            let result = save_core(alloc, folder, rng, log, dir, file_name, core);
+            write_saved(writer, &result)
+        }
+        Command::Load { dir, file_name } => {
+            let result = load_core(alloc, folder, log, dir, file_name, core);
+            write_loaded(writer, &result)
+        }
     }
 }

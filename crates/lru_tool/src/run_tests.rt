@@ -1,5 +1,7 @@
 //! The program's answers, status and text, to inputs that its stored run does not have.
 use crate::engine::run;
+use log::sink::Discard;
+use pingora_lru_files::persistence::MemoryFolder;
 use std::alloc::{AllocError, Global};
 use std::test::Fail;
 
@@ -21,7 +23,14 @@ pub fn answers(
     let arguments = words(rt.alloc(), arguments)?;
     let mut reader = input.as_bytes();
     let mut writer = Vec::new(rt.alloc());
-    let answer = run(rt.alloc(), &arguments, &mut reader, &mut writer);
+    let answer = run(
+        rt.alloc(),
+        &mut MemoryFolder::new(rt.alloc()),
+        &Discard,
+        &arguments,
+        &mut reader,
+        &mut writer,
+    );
     Ok(answer == status && writer.as_slice() == text.as_bytes())
 }
 
