@@ -88,7 +88,7 @@ fn tells_what_was_not_saved(rt: HostRuntime) -> Result<(), Fail> {
 fn tells_that_nothing_was_listed(rt: HostRuntime) -> Result<(), Fail> {
     let input = b"load d c\nsave d c\n".as_slice();
     let text = "loaded 0 missing 2 errored 0 removed -\nsaved 0 failed 2\n";
-    assert!(rt; answers_over(&rt, &mut Unlisted, input, 0, text)?);
+    assert!(rt; answers_over(&rt, &mut Unlisted::new(), input, 0, text)?);
     Ok(())
 }
 

@@ -1,20 +1,41 @@
 //! A folder for tests, which cannot be listed.
 ghost use Rattle.std.specs.FinMap.{empty};
+ghost use Rattle.std.specs.Prelude.{◌≡◌, [], false, if◌then◌else◌};
 ghost use Rattle.std.specs.FinSet.{empty as nothing};
-ghost use Rattle.pingora_lru_files.specs.Folder.{Closed};
+ghost use Rattle.pingora_lru_files.specs.Folder.{Closed, Lost, Writing};
 
 use pingora_lru_files::persistence::{Folder, FolderFault, Listed};
 
 /// No file is there, none can be written, and memory is refused to a list.
 #[derive(Debug, Drop)]
-pub struct Unlisted;
+pub struct Unlisted {
+    is_read: bool,
+    is_written: bool,
+}
+
+impl Unlisted {
+    /// No file of it is open.
+    pub fn new() -> Self {
+        Unlisted {
+            is_read: false,
+            is_written: false,
+        }
+    }
+
+    fn close(&mut self)
+        ensures { self.new ≡ record self.old { is_read = false; is_written = false } }
+    {
+        self.is_read = false;
+        self.is_written = false;
+    }
+}
 
 impl Folder for Unlisted {
     ghost files = { λ _. empty };
 
     ghost folders = { λ _. nothing };
 
-    ghost opened = { λ _. Closed };
+    ghost opened = { λ folder. if folder.is_read then Lost else (if folder.is_written then Writing [] else Closed) };
 
     ghost clock = { λ _. 0 };
 
@@ -29,10 +50,12 @@ impl Folder for Unlisted {
     ghost only_now = { λ _ _ broken _. absurd broken };
 
     fn make(&mut self, _dir: &str) -> Result<(), FolderFault> {
+        self.close();
         Ok(())
     }
 
     fn create(&mut self, _path: &str) -> Result<(), FolderFault> {
+        self.close();
         Err(FolderFault::Memory)
     }
 
@@ -45,10 +68,12 @@ impl Folder for Unlisted {
     }
 
     fn rename(&mut self, _from: &str, _to: &str) -> Result<(), FolderFault> {
+        self.close();
         Err(FolderFault::Io)
     }
 
     fn open(&mut self, _path: &str) -> Result<u64, FolderFault> {
+        self.close();
         Err(FolderFault::NotFound)
     }
 
@@ -57,10 +82,12 @@ impl Folder for Unlisted {
     }
 
     fn list(&mut self, _dir: &str) -> Result<Vec<Listed>, FolderFault> {
+        self.close();
         Err(FolderFault::Memory)
     }
 
     fn remove(&mut self, _path: &str) -> Result<(), FolderFault> {
+        self.close();
         Err(FolderFault::Io)
     }
 }
