@@ -19,3 +19,4 @@ pub mod SnapshotLimits
 pub mod SnapshotJoins
 pub mod SnapshotRuns
 pub mod SnapshotCalls
+pub mod SnapshotRestores

@@ -1,12 +1,15 @@
 -- What the turns of a core's save are given.
-use Rattle.std.specs.Prelude.{◌≡◌, ℕ, List, [], ◌∷◌, IfOk, map}
+use Rattle.std.specs.Prelude.{◌≡◌, ◌<◌, ℕ, List, [], ◌∷◌, Some, IfOk, map}
+use Rattle.std.specs.FinMap.{get}
+use Rattle.pingora_lru_files.specs.Files.{Files}
+use Rattle.pingora_lru_files.specs.SnapshotLoads.{rows_of}
 use Rattle.std.specs.declared.alloc.AllocError.{AllocError}
 use Rattle.rand_core.specs.Stream.{Stream, next_u32}
 use Rattle.pingora_lru.specs.Row.{pair_of}
 use Rattle.pingora_lru.specs.Core.{Core, list_at}
 use Rattle.pingora_lru_files.specs.declared.snapshot.Keyed.{Keyed}
 use Rattle.pingora_lru_files.specs.Snapshot.{bytes_of}
-use Rattle.pingora_lru_files.specs.Turns.{Turn}
+use Rattle.pingora_lru_files.specs.Turns.{Turn, shard_path}
 
 -- the turn was given the bytes of the shard's rows, unless memory was refused
 abbrev pub GivesShard : Core Keyed → ℕ → Turn AllocError → Type 0
@@ -16,3 +19,8 @@ GivesShard core shard turn = IfOk turn.given (λ bytes. bytes.items ≡ bytes_of
 abbrev pub DrawsWords : {E : Type 0} → Stream → List (Turn E) → Stream → Type 0
 DrawsWords s [] rest = s ≡ rest
 DrawsWords s (turn ∷ turns) rest = (turn.word ≡ (next_u32 s).0) × DrawsWords (next_u32 s).1 turns rest
+
+-- the file of each of n shards tells the rows that a core has there
+abbrev pub TellCore : Files → List ℕ → List ℕ → ℕ → Core Keyed → Type 0
+TellCore files dir file_name n core =
+    (s : ℕ) → s < n → (bytes : List ℕ) × ((get files (shard_path dir file_name s) ≡ Some bytes) × (rows_of bytes ≡ list_at core s))

@@ -1,10 +1,11 @@
 // A core saved shard by shard, and loaded again.
-ghost use Rattle.std.specs.Prelude.{◌≡◌, ◌+◌, ◌<◌, ◌≤◌, ◌↔◌, List, true, false, length, IfErr, IfOk, IsErrOf, OnErr, MatchResult, map};
+ghost use Rattle.std.specs.Prelude.{◌≡◌, ℕ, [], ◌+◌, ◌<◌, ◌≤◌, ◌↔◌, List, true, false, length, IfErr, IfOk, IsErrOf, OnErr, MatchResult, map};
 ghost use Rattle.std.specs.List.Sorted.{IsStrictlyIncreasing};
 ghost use Rattle.pingora_lru_files.specs.Cleanup.{IsCleanup};
 ghost use Rattle.pingora_lru_files.specs.Loading.{failed_shard, IsLoad};
 ghost use Rattle.std.specs.declared.alloc.AllocError.{AllocError as Unallocated};
-ghost use Rattle.pingora_lru.specs.Core.{list_at};
+ghost use Rattle.pingora_lru.specs.Core.{Core, list_at};
+ghost use Rattle.pingora_lru_files.specs.declared.snapshot.Keyed.{Keyed};
 ghost use Rattle.pingora_lru.specs.Row.{pair_of};
 ghost use Rattle.pingora_lru_files.specs.Files.{Same};
 ghost use Rattle.pingora_lru_files.specs.Folder.{Passes};
@@ -12,7 +13,7 @@ ghost use Rattle.pingora_lru_files.specs.Names.{has_slash};
 ghost use Rattle.pingora_lru_files.specs.Progress.{IfCreateDir, IfSetup, IsBegun, IsSaveOf, NamesFolder};
 ghost use Rattle.pingora_lru_files.specs.Saving.{HasReason};
 ghost use Rattle.pingora_lru_files.specs.Snapshot.{bytes_of};
-ghost use Rattle.pingora_lru_files.specs.SnapshotSaves.{DrawsWords, GivesShard};
+ghost use Rattle.pingora_lru_files.specs.SnapshotSaves.{DrawsWords, GivesShard, TellCore};
 ghost use Rattle.pingora_lru_files.specs.SnapshotLoads.{LoadsShard};
 ghost use Rattle.pingora_lru_files.specs.Turns.{EachTurn, SavesEach, Turn};
 ghost use Rattle.pingora_lru_files.specs.declared.errors.ShardSaveError.TheVariants.{Setup};
@@ -88,6 +89,11 @@ pub fn load_core<F: Folder, L: Log, const N: usize>(
         dir_path.now file_name.now core.old core.new N report.loaded_shards report.missing_shards report.failures.items) }
     ensures errors { IfOk result (λ report. report.error_shards ≡ length report.failures.items) }
     ensures sum { IfOk result (λ report. report.loaded_shards + report.missing_shards + report.error_shards ≡ N) }
+
+    // An empty core that loads all shards from files that tell another's rows has its lists.
+    ensures restores { F.keeps folder.old → (saved : Core Keyed) → TellCore (F.files folder.old) dir_path.now file_name.now N saved
+        → ((s : ℕ) → list_at core.old s ≡ []) → length core.old.lists ≡ N
+        → IfOk result (λ report. report.loaded_shards ≡ N → (s : ℕ) → s < N → list_at core.new s ≡ list_at saved s) }
 
     // The failures name their shards, each once, from shard 0 up.
     ensures named { IfOk result (λ report. IsStrictlyIncreasing (map failed_shard report.failures.items)) }
