@@ -79,6 +79,7 @@ pub struct Core<const N: usize> {
 }
 
 impl<const N: usize> Core<N> {
+    /// A core, whose generator begins with the same seed in each run.
     pub fn new(core: LruCore<u64, N>) -> Self
         requires { 0 < N }
     {
