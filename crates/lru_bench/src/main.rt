@@ -1,24 +1,58 @@
 //! `lru_bench [time]`: what a promote costs in a short and in a long list, and what the calls of `Lru` cost
-//! to 1, 2 and 4 threads.
+//! to 1, 2 and 4 threads, among rows that a core's cache holds and among many more.
 //!
 //! It goes through seeded traces and prints what it counted, which is the same at each run. With the
 //! argument `time` each line ends with the nanoseconds that one call took, which are not.
 #![tactic(auto)]
+
+ghost use Rattle.std.specs.Prelude.{◌<◌};
 
 mod lists;
 mod shards;
 mod trace;
 mod watch;
 
+use shards::{Trial, Work};
 use std::{env, io};
+use trace::Draw;
 use watch::Watch;
+
+const FEW: u32 = 50_000;
+
+const MANY: u32 = 1_000_000;
 
 fn main(rt: HostRuntime) -> io::Result<()> {
     let is_timed = env::args(&rt)?.skip(1).any(|word| word.as_str() == "time");
     let watch = Watch { is_timed };
     lists::measure(&rt, rt.alloc(), watch, 1_000)?;
     lists::measure(&rt, rt.alloc(), watch, 1_000_000)?;
-    shards::measure::<_, 1>(&rt, rt.alloc(), watch)?;
-    shards::measure::<_, 8>(&rt, rt.alloc(), watch)?;
-    shards::measure::<_, 16>(&rt, rt.alloc(), watch)
+    for draw in [Draw::Uniform, Draw::Skewed] {
+        for work in [Work::Promote, Work::Peek, Work::AdmitAndEvict, Work::Mix] {
+            let few = Trial {
+                rows: FEW,
+                calls: 200_000,
+                work,
+                draw,
+            };
+            shards::measure::<_, 1>(&rt, rt.alloc(), watch, few)?;
+            shards::measure::<_, 8>(&rt, rt.alloc(), watch, few)?;
+            shards::measure::<_, 16>(&rt, rt.alloc(), watch, few)?;
+        }
+        for work in [Work::Promote, Work::PromoteApart, Work::AdmitAndEvict] {
+            let many = Trial {
+                rows: MANY,
+                calls: 1_000_000,
+                work,
+                draw,
+            };
+            shards::measure::<_, 16>(&rt, rt.alloc(), watch, many)?;
+        }
+    }
+    let apart = Trial {
+        rows: FEW,
+        calls: 200_000,
+        work: Work::PromoteApart,
+        draw: Draw::Uniform,
+    };
+    shards::measure::<_, 16>(&rt, rt.alloc(), watch, apart)
 }

@@ -4,6 +4,7 @@ ghost use Rattle.pingora_lru.specs.Core.{cap_of};
 
 use crate::lru_core::EvictError;
 use crate::unit::{Cause, LruUnit, Refused};
+use crossbeam_utils::CachePadded;
 use rand::RngExt;
 use rand_core::Rng;
 use std::alloc::{AllocError, Global};
@@ -236,25 +237,47 @@ impl<T: Drop, const N: usize> Locked<T, N> {
 fn empty_units<T: Drop, const N: usize>(
     alloc: Global,
     capacity: usize,
-) -> Result<Vec<RwLock<Locked<T, N>>>, AllocError>
+) -> Result<Vec<CachePadded<RwLock<Locked<T, N>>>>, AllocError>
     requires { 0 < N }
     ensures { IfOk result (λ units. vec_len units ≡ N) }
 {
     let mut units = Vec::with_capacity(alloc, N)?;
     for _ in 0..N {
-        units.push(RwLock::new(Locked::with_capacity(alloc, capacity)?))?;
+        let locked = Locked::with_capacity(alloc, capacity)?;
+        units.push(CachePadded::new(RwLock::new(locked)))?;
     }
     Ok(units)
 }
 
-fn zeros(alloc: Global, count: usize) -> Result<Vec<AtomicUsize>, AllocError>
+fn zeros(alloc: Global, count: usize) -> Result<Vec<CachePadded<AtomicUsize>>, AllocError>
     ensures { IfOk result (λ zeros. vec_len zeros ≡ count) }
 {
     let mut zeros = Vec::with_capacity(alloc, count)?;
     for _ in 0..count {
-        zeros.push(AtomicUsize::new(0))?;
+        zeros.push(CachePadded::new(AtomicUsize::new(0)))?;
     }
     Ok(zeros)
+}
+
+// What is counted over all shards. Calls write it, and so it has cache lines of its own: those of the shards' places,
+// which each call reads, stay as they are.
+#[derive(Drop)]
+struct Counters {
+    weight: AtomicUsize,
+    len: AtomicUsize,
+    evicted_weight: AtomicUsize,
+    evicted_len: AtomicUsize,
+}
+
+impl Counters {
+    fn zero() -> Self {
+        Counters {
+            weight: AtomicUsize::new(0),
+            len: AtomicUsize::new(0),
+            evicted_weight: AtomicUsize::new(0),
+            evicted_len: AtomicUsize::new(0),
+        }
+    }
 }
 
 /// N shards, each a list of rows, most recent first, behind a lock. A key's shard is the key modulo N.
@@ -266,15 +289,13 @@ fn zeros(alloc: Global, count: usize) -> Result<Vec<AtomicUsize>, AllocError>
 /// The counters are sums over all shards that other threads may change at any time.
 #[derive(Drop)]
 pub struct Lru<T, const N: usize> {
-    units: Vec<RwLock<Locked<T, N>>>,
+    // no two shards share a cache line, so that a thread at one doesn't slow a thread at another
+    units: Vec<CachePadded<RwLock<Locked<T, N>>>>,
     // how many rows each unit has
-    lens: Vec<AtomicUsize>,
-    weight: AtomicUsize,
-    len: AtomicUsize,
+    lens: Vec<CachePadded<AtomicUsize>>,
+    counters: CachePadded<Counters>,
     weight_limit: AtomicUsize,
     watermark: Option<usize>,
-    evicted_weight: AtomicUsize,
-    evicted_len: AtomicUsize,
     ghost some: { 0 < N },
     ghost has_units: { vec_len units ≡ N },
     ghost has_lens: { vec_len lens ≡ N },
@@ -342,12 +363,9 @@ impl<T, const N: usize> Lru<T, N> {
         Ok(Lru {
             units: empty_units(alloc, capacity)?,
             lens: zeros(alloc, N)?,
-            weight: AtomicUsize::new(0),
-            len: AtomicUsize::new(0),
+            counters: CachePadded::new(Counters::zero()),
             weight_limit: AtomicUsize::new(weight_limit),
             watermark,
-            evicted_weight: AtomicUsize::new(0),
-            evicted_len: AtomicUsize::new(0),
         })
     }
 
@@ -361,12 +379,12 @@ impl<T, const N: usize> Lru<T, N> {
 
     /// The sum of the weights of all rows.
     pub fn weight(&self) -> usize {
-        self.weight.load(Ordering::SeqCst)
+        self.counters.weight.load(Ordering::SeqCst)
     }
 
     /// The number of all rows.
     pub fn len(&self) -> usize {
-        self.len.load(Ordering::SeqCst)
+        self.counters.len.load(Ordering::SeqCst)
     }
 
     /// The number of rows of a shard. It takes no lock.
@@ -388,12 +406,12 @@ impl<T, const N: usize> Lru<T, N> {
 
     /// The sum of the weights of all rows evicted so far, modulo 2^64.
     pub fn evicted_weight(&self) -> usize {
-        self.evicted_weight.load(Ordering::SeqCst)
+        self.counters.evicted_weight.load(Ordering::SeqCst)
     }
 
     /// The number of all rows evicted so far, modulo 2^64.
     pub fn evicted_len(&self) -> usize {
-        self.evicted_len.load(Ordering::SeqCst)
+        self.counters.evicted_len.load(Ordering::SeqCst)
     }
 
     /// The sum of the weights of the rows of a shard.
@@ -468,8 +486,8 @@ impl<T, const N: usize> Lru<T, N> {
     fn note(&self, shard: usize, before: Totals, after: Totals)
         requires { shard < N }
     {
-        shift(&self.weight, before.weight, after.weight);
-        shift(&self.len, before.len, after.len);
+        shift(&self.counters.weight, before.weight, after.weight);
+        shift(&self.counters.len, before.len, after.len);
         shift(&self.lens[shard], before.len, after.len);
     }
 
@@ -669,8 +687,9 @@ impl<T: Drop, const N: usize> Lru<T, N> {
         let before = unit.totals();
         let (data, weight) = unit.evict()?;
         self.note(shard, before, unit.totals());
-        self.evicted_weight.fetch_add(weight, Ordering::SeqCst);
-        self.evicted_len.fetch_add(1, Ordering::SeqCst);
+        let counters = &self.counters;
+        counters.evicted_weight.fetch_add(weight, Ordering::SeqCst);
+        counters.evicted_len.fetch_add(1, Ordering::SeqCst);
         Some((data, weight))
     }
 
