@@ -1,16 +1,17 @@
 -- An empty core that loads all shards of another has its lists.
 use Rattle.std.proofs.Common.{◌≡◌, ℕ, ◌+◌, ◌<◌, ◌≤◌, ◌≢◌, suc, List, [], ◌∷◌, ◌++◌, length, Some, Ok, Err, sym, ap, ◌∙◌, arith, cond, inl, inr}
-use Rattle.std.specs.Prelude.{count_by}
+use Rattle.std.specs.Prelude.{count_by, IfOk}
 use Rattle.std.proofs.lemmas.Bool.{cases_eq}
 use Rattle.std.proofs.lemmas.List.Sums.{sum_by-cons}
 use Rattle.std.proofs.lemmas.List.{get_or-set_other, length-set}
 use Rattle.pingora_lru.specs.Core.{Core, list_at, with_list}
 use Rattle.pingora_lru_files.specs.Files.{Files}
-use Rattle.pingora_lru_files.specs.Loading.{Turn, Missing, Unread, Given, is_loaded, CallsFrom, AreTrueFrom}
+use Rattle.pingora_lru_files.specs.Loading.{Turn, Missing, Unread, Given, is_loaded, CallsFrom, AreTrueFrom, IsLoad}
 use Rattle.pingora_lru_files.specs.declared.snapshot.Keyed.{Keyed}
 use Rattle.pingora_lru_files.specs.declared.snapshot.LoadError.{LoadError}
 use Rattle.pingora_lru_files.specs.SnapshotLoads.{LoadsShard, rows_of}
 use Rattle.pingora_lru_files.specs.SnapshotSaves.{TellCore}
+use Rattle.pingora_lru_files.specs.Stores.{LoadResult}
 use Rattle.pingora_lru_files.proofs.SnapshotLoadLemmas.{list_at-with}
 
 counted : (bytes : List ℕ) (done : Unit {0}) (turns : List (Turn LoadError)) → count_by is_loaded (Given bytes (Ok done) ∷ turns) ≡ 1 + count_by is_loaded turns
@@ -46,3 +47,10 @@ module _ (kept rose : Type 0) (files : Files) (dir file_name : List ℕ) (n : �
       restored (suc shard) calls.0 after turns calls.2 so.1 all' count' long'
       (λ q h. elim (cases_eq q shard) [ inl e ↦ ap (λ p. list_at calls.0 p) e ∙ here ∙ ap (λ p. list_at saved p) (sym e) | inr ne ↦ other q ne ∙ done q (omega arith) ])
       (λ q h. other q (λ e. omega arith) ∙ rest q (omega arith)) s lt
+
+  -- the same of a whole load, whose report has room
+  pub restored_all : (old new : Core Keyed) (result : LoadResult) → ((s : ℕ) → list_at old s ≡ []) → length old.lists ≡ n → IfOk result (λ report. IsLoad LoadsShard kept rose files dir file_name old new n report.loaded_shards report.missing_shards report.failures.items) → IfOk result (λ report. report.loaded_shards ≡ n → (s : ℕ) → s < n → list_at new s ≡ list_at saved s)
+  restored_all old new (Err refused) none long loads = loads
+  restored_all old new (Ok report) none long loads = λ all s lt.
+      restored 0 old new loads.turns loads.calls loads.so (sym loads.loaded_shards ∙ all ∙ sym loads.each) (omega (arith, loads.each)) long
+      (λ q below. absurd (omega arith)) (λ q above. none q) s lt

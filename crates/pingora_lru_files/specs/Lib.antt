@@ -28,3 +28,4 @@ pub mod Snapshot
 pub mod SnapshotTexts
 pub mod SnapshotLoads
 pub mod SnapshotSaves
+pub mod Stores

@@ -6,7 +6,8 @@ use Rattle.std.proofs.lemmas.List.{nil_from_length}
 use Rattle.std.proofs.lemmas.List.Elements.{All-tail}
 use Rattle.lru_tool.specs.declared.command.Command.{Command}
 use Rattle.lru_tool.specs.Commands.{asked}
-use Rattle.lru_tool.specs.Storing.{Meaning, State}
+use Rattle.pingora_lru_files.specs.Stores.{Meaning}
+use Rattle.lru_tool.specs.Storing.{State}
 use Rattle.lru_tool.specs.Replies.{Serves, Possible, error_line_text}
 use Rattle.lru_tool.proofs.LineLaws.{appends_none, appends_then}
 use Rattle.lru_tool.proofs.engine.serve.Invariants.{asked_all}

@@ -5,7 +5,7 @@ use Rattle.std.specs.Io.KnownBytes.{Appends}
 use Rattle.std.specs.Vec.Iter.{into_iter_items, into_iter_len}
 use Rattle.lru_tool.specs.declared.command.Command.{Command}
 use Rattle.lru_tool.specs.Commands.{Asked, asked}
-use Rattle.lru_tool.specs.Storing.{Meaning}
+use Rattle.pingora_lru_files.specs.Stores.{Meaning}
 use Rattle.lru_tool.specs.Replies.{Serves, Possible}
 use Rattle.lru_tool.proofs.engine.serve.Given as goal
 

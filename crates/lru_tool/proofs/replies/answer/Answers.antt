@@ -3,7 +3,8 @@ use Rattle.std.specs.Prelude.{OnOk}
 use Rattle.std.specs.Io.KnownBytes.{Appends}
 use Rattle.lru_tool.specs.declared.command.Command.{Command}
 use Rattle.lru_tool.specs.Commands.{asked}
-use Rattle.lru_tool.specs.Storing.{Meaning, State, SavesCore, LoadsCore}
+use Rattle.pingora_lru_files.specs.Stores.{Meaning}
+use Rattle.lru_tool.specs.Storing.{State}
 use Rattle.lru_tool.specs.Replies.{Answers, save_text, load_text}
 use Rattle.lru_tool.proofs.LineLaws.{on_ok_map}
 use Rattle.lru_tool.proofs.replies.answer.Goals as goal
@@ -13,35 +14,15 @@ returns-in-Save-clause-text g c =
     let m : Meaning g.row.F.Denot = record { files = g.F.Folder.files; folders = g.F.Folder.folders; clock = g.F.Folder.clock; stopped_since = g.F.Folder.stopped_since; faults = g.F.Folder.faults; keeps = g.F.Folder.keeps } in
     let old : State g.row.F.Denot = record { core = c.args.core.now; folder = c.args.folder.now } in
     let new : State g.row.F.Denot = record { core = c.args.core.now; folder = c.save_core-result.new.folder } in
-    let saved = c.save_core-result.ensures in
-    let given : SavesCore m c.in-Save.dir.now c.in-Save.file_name.now old.core old.folder c.save_core-result.result new.folder = record {
-      saves = λ begun. let turns = saved.saves begun in (turns.0, turns.1, turns.2, turns.4);
-      names = saved.names;
-      early = saved.early;
-      reason = saved.reason;
-      time = saved.time;
-      kept = saved.kept;
-    } in
     subst (λ (command : Command). OnOk c.write_saved.result ((x : List ℕ) × (Answers m old (asked command) x new × Appends (g.W.Write.contents c.args.writer.now) (g.W.Write.contents c.write_saved.new.writer) x)))
     (sym c.in-Save.is)
-    (on_ok_map c.write_saved.result (λ appends. (save_text c.save_core-result.result, ((c.save_core-result.result, (given, (refl, refl))), appends))) c.write_saved.ensures)
+    (on_ok_map c.write_saved.result (λ appends. (save_text c.save_core-result.result, ((c.save_core-result.result, (_, (_, (c.save_core-result.ensures.saves, (refl, refl))))), appends))) c.write_saved.ensures)
 
 pub returns-in-Load-clause-text : goal.returns-in-Load-clause-text
 returns-in-Load-clause-text g c =
     let m : Meaning g.row.F.Denot = record { files = g.F.Folder.files; folders = g.F.Folder.folders; clock = g.F.Folder.clock; stopped_since = g.F.Folder.stopped_since; faults = g.F.Folder.faults; keeps = g.F.Folder.keeps } in
     let old : State g.row.F.Denot = record { core = c.args.core.now; folder = c.args.folder.now } in
     let new : State g.row.F.Denot = record { core = c.load_core-result.new.core; folder = c.load_core-result.new.folder } in
-    let loaded = c.load_core-result.ensures in
-    let given : LoadsCore m c.in-Load.dir.now c.in-Load.file_name.now old c.load_core-result.result new = record {
-      loads = loaded.loads;
-      errors = loaded.errors;
-      sum = loaded.sum;
-      cleaned = loaded.cleaned;
-      unmoved = loaded.unmoved;
-      later = loaded.later;
-      places = loaded.places;
-      kept = loaded.kept;
-    } in
     subst (λ (command : Command). OnOk c.write_loaded.result ((x : List ℕ) × (Answers m old (asked command) x new × Appends (g.W.Write.contents c.args.writer.now) (g.W.Write.contents c.write_loaded.new.writer) x)))
     (sym c.in-Load.is)
-    (on_ok_map c.write_loaded.result (λ appends. (load_text c.load_core-result.result, ((c.load_core-result.result, (given, refl)), appends))) c.write_loaded.ensures)
+    (on_ok_map c.write_loaded.result (λ appends. (load_text c.load_core-result.result, ((c.load_core-result.result, (c.load_core-result.ensures.loads, refl)), appends))) c.write_loaded.ensures)
