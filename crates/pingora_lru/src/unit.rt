@@ -55,6 +55,7 @@ fn make_room<T>(table: &mut HashMap<u64, Node<T>>) -> bool
 }
 
 // Puts the node of a new key into the room that was made for it.
+#[inline(always)]
 fn put_node<T: Drop>(table: &mut HashMap<u64, Node<T>>, key: u64, node: Node<T>)
     requires { 0 < hash.spare table.old }
     ensures { (k : ℕ) → hash.get nat_eq table.new k ≡ cond (eqb key k) (Some node) (hash.get nat_eq table.old k) }
@@ -395,6 +396,7 @@ impl<T: Drop> LruUnit<T> {
     /// A new key is refused for Length or Memory before `admit_data` is called, and for Weight after it: then
     /// what it gave is handed back, and nothing changes. A present key is refused for Weight alone: it keeps
     /// what `update` did to the data, at the old weight and place, and nothing is handed back.
+    #[inline(always)]
     pub fn update_or_admit<U, A>(
         &mut self,
         key: u64,
