@@ -65,26 +65,38 @@ impl<K> PushError<K> {
     }
 }
 
-fn set_next<K>(nodes: &mut Vec<Node<K>>, place: u32, link: u32)
-    requires { place < vec_len nodes.old }
-    ensures nexts { nexts nodes.new.items ≡ slice_set (nexts nodes.old.items) place link }
-    ensures prevs { prevs nodes.new.items ≡ prevs nodes.old.items }
-    ensures items { items nodes.new.items ≡ items nodes.old.items }
-    ensures len { vec_len nodes.new ≡ vec_len nodes.old }
+// (The two take a slice, so that several of them in turn find out once where the nodes lie.)
+fn set_next<K>(nodes: &mut [Node<K>], place: u32, link: u32)
+    requires { place < length nodes.old }
+    ensures nexts { nexts nodes.new ≡ slice_set (nexts nodes.old) place link }
+    ensures prevs { prevs nodes.new ≡ prevs nodes.old }
+    ensures items { items nodes.new ≡ items nodes.old }
+    ensures len { length nodes.new ≡ length nodes.old }
 {
     let node = &mut nodes[place as usize];
     node.next = link;
 }
 
-fn set_prev<K>(nodes: &mut Vec<Node<K>>, place: u32, link: u32)
+fn set_prev<K>(nodes: &mut [Node<K>], place: u32, link: u32)
+    requires { place < length nodes.old }
+    ensures nexts { nexts nodes.new ≡ nexts nodes.old }
+    ensures prevs { prevs nodes.new ≡ slice_set (prevs nodes.old) place link }
+    ensures items { items nodes.new ≡ items nodes.old }
+    ensures len { length nodes.new ≡ length nodes.old }
+{
+    let node = &mut nodes[place as usize];
+    node.prev = link;
+}
+
+// A freed slot leads to the one that was freed before it.
+fn set_freed_link<K>(nodes: &mut Vec<Node<K>>, place: u32, link: u32)
     requires { place < vec_len nodes.old }
     ensures nexts { nexts nodes.new.items ≡ nexts nodes.old.items }
     ensures prevs { prevs nodes.new.items ≡ slice_set (prevs nodes.old.items) place link }
     ensures items { items nodes.new.items ≡ items nodes.old.items }
     ensures len { vec_len nodes.new ≡ vec_len nodes.old }
 {
-    let node = &mut nodes[place as usize];
-    node.prev = link;
+    set_prev(nodes.as_mut_slice(), place, link);
 }
 
 fn replace_item<K>(nodes: &mut Vec<Node<K>>, place: u32, item: K) -> K
@@ -109,6 +121,7 @@ fn unlink<K>(nodes: &mut Vec<Node<K>>, place: u32)
     ensures items { items nodes.new.items ≡ items nodes.old.items }
     ensures len { vec_len nodes.new ≡ vec_len nodes.old }
 {
+    let nodes = nodes.as_mut_slice();
     let prev = nodes[place as usize].prev;
     let next = nodes[place as usize].next;
     set_next(nodes, prev, next);
@@ -126,6 +139,7 @@ fn link_between<K>(nodes: &mut Vec<Node<K>>, prev: u32, place: u32, next: u32)
     ensures items { items nodes.new.items ≡ items nodes.old.items }
     ensures len { vec_len nodes.new ≡ vec_len nodes.old }
 {
+    let nodes = nodes.as_mut_slice();
     set_next(nodes, prev, place);
     set_prev(nodes, place, prev);
     set_next(nodes, place, next);
@@ -279,7 +293,7 @@ impl<K: Default + Drop> LinkedList<K> {
         let freed_before = self.last_freed;
         let place = index as u32;
         unlink(&mut self.nodes, place);
-        set_prev(&mut self.nodes, place, freed_before);
+        set_freed_link(&mut self.nodes, place, freed_before);
         self.last_freed = place;
         self.len -= 1;
         replace_item(&mut self.nodes, place, K::default())

@@ -1,15 +1,15 @@
-use Rattle.std.proofs.Common.{refl, arith, ap}
+use Rattle.std.proofs.Common.{refl, arith}
 use Rattle.pingora_lru.specs.declared.linked_list.Node.{Node}
 use Rattle.pingora_lru.proofs.NodeFields.{written_field, kept_field}
 use Rattle.pingora_lru.proofs.linked_list.set_next.Goals as goal
 
 pub returns-clause-nexts : goal.returns-clause-nexts
-returns-clause-nexts g c = written_field (λ (n : Node g.row.K.Denot). n.next) c.args.nodes.now.items c.args.place _ c.args.link refl
+returns-clause-nexts g c = written_field (λ (n : Node g.row.K.Denot). n.next) c.args.nodes.now c.args.place _ c.args.link refl
 
 pub returns-clause-prevs : goal.returns-clause-prevs
 returns-clause-prevs g c =
-    kept_field (λ (n : Node g.row.K.Denot). n.prev) c.args.nodes.now.items c.args.place _ c.index_mut-node.result.now (omega arith) (ap (λ (n : Node g.row.K.Denot). n.prev) c.index_mut-node.ensures.value)
+    kept_field (λ (n : Node g.row.K.Denot). n.prev) c.args.nodes.now c.args.place _ c.index-nodes-place.result (omega arith) refl
 
 pub returns-clause-items : goal.returns-clause-items
 returns-clause-items g c =
-    kept_field (λ (n : Node g.row.K.Denot). n.item) c.args.nodes.now.items c.args.place _ c.index_mut-node.result.now (omega arith) (ap (λ (n : Node g.row.K.Denot). n.item) c.index_mut-node.ensures.value)
+    kept_field (λ (n : Node g.row.K.Denot). n.item) c.args.nodes.now c.args.place _ c.index-nodes-place.result (omega arith) refl
