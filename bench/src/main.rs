@@ -81,7 +81,18 @@ fn table(rows: usize, rounds: usize) {
     println!();
 }
 
+/// Runs the plans once on one subject, by its place above, for a profiler that counts: what it says comes out
+/// the same on a busy machine.
+fn once(subject: Subject, rows: usize) {
+    let plans = [plan::main_plan(rows), plan::get_or_admit_plan(rows)];
+    measure(subject, rows, &plans, &mut Vec::new());
+}
+
 fn main() {
+    let words: Vec<usize> = std::env::args().skip(1).filter_map(|word| word.parse().ok()).collect();
+    if let [place, rows] = words[..] {
+        return once(SUBJECTS[place], rows);
+    }
     table(100_000, 9);
     table(1_000_000, 3);
 }
