@@ -45,7 +45,7 @@ fn is_unloaded_for_memory(failure: &ShardLoadFailure<LoadError>) -> bool {
 }
 
 /// Whether the bytes of a shard were refused as damaged.
-pub fn is_damaged(failure: &ShardLoadFailure<LoadError>) -> bool {
+pub(crate) fn is_damaged(failure: &ShardLoadFailure<LoadError>) -> bool {
     match failure {
         ShardLoadFailure::Deserialize { source, .. } => *source == LoadError::Damaged,
         _ => false,
@@ -53,7 +53,7 @@ pub fn is_damaged(failure: &ShardLoadFailure<LoadError>) -> bool {
 }
 
 /// The shard that a failure names.
-pub fn unloaded_shard(failure: &ShardLoadFailure<LoadError>) -> usize {
+pub(crate) fn unloaded_shard(failure: &ShardLoadFailure<LoadError>) -> usize {
     match failure {
         ShardLoadFailure::Memory { shard } => *shard,
         ShardLoadFailure::Deserialize { shard, .. } => *shard,
@@ -62,7 +62,7 @@ pub fn unloaded_shard(failure: &ShardLoadFailure<LoadError>) -> usize {
 }
 
 /// Whether a save was refused memory. Asserts that it was not refused anything else, and that its counts are right.
-pub fn is_save_refused(rt: &impl Abort, saved: &Saved) -> bool {
+pub(crate) fn is_save_refused(rt: &impl Abort, saved: &Saved) -> bool {
     match saved {
         Ok(report) if report.failures.is_empty() => {
             assert_eq!(rt; (report.saved_shards, report.failed_shards), (2, 0));
@@ -107,7 +107,7 @@ fn is_cleanup_refused(
 
 /// Whether a load of two shards and a temp file was refused memory. Asserts that it was not refused anything else, and
 /// that its counts are right.
-pub fn is_load_refused(rt: &impl Abort, loaded: &Loaded) -> bool {
+pub(crate) fn is_load_refused(rt: &impl Abort, loaded: &Loaded) -> bool {
     let Ok(report) = loaded else {
         return true;
     };

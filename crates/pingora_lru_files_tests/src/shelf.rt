@@ -30,7 +30,7 @@ pub struct Shelf<'a> {
 
 impl<'a> Shelf<'a> {
     /// A folder with these files, whose listing is given too. The path `stuck` can be neither removed nor created.
-    pub fn new(
+    pub(crate) fn new(
         alloc: Global,
         files: &'a [(&'a str, File<'a>)],
         listing: Result<&'a [&'a str], FolderFault>,

@@ -18,7 +18,7 @@ pub const ODD_BYTES: [u8; 24] = [
 const TEMP: &str = "d/c.0.0000002a.tmp";
 
 /// The bytes of each of the two.
-pub fn bytes_of(alloc: Global, shard: usize) -> Result<Vec<u8>, AllocError> {
+pub(crate) fn bytes_of(alloc: Global, shard: usize) -> Result<Vec<u8>, AllocError> {
     if shard == 0 {
         EVEN_BYTES.as_slice().to_vec(alloc)
     } else {
@@ -27,7 +27,7 @@ pub fn bytes_of(alloc: Global, shard: usize) -> Result<Vec<u8>, AllocError> {
 }
 
 /// Whether these are the bytes of that one.
-pub fn is_bytes(shard: usize, bytes: &[u8]) -> bool {
+pub(crate) fn is_bytes(shard: usize, bytes: &[u8]) -> bool {
     if shard == 0 {
         bytes == EVEN_BYTES.as_slice()
     } else {
@@ -43,7 +43,7 @@ fn folder_with(alloc: Global, zero: &[u8], one: &[u8]) -> Result<MemoryFolder, A
 }
 
 /// A folder in which older files stand under both names.
-pub fn folder_to_save(alloc: Global) -> Result<MemoryFolder, AllocError> {
+pub(crate) fn folder_to_save(alloc: Global) -> Result<MemoryFolder, AllocError> {
     match folder_with(alloc, b"old", b"older") {
         Ok(folder) => Ok(folder),
         Err(AllocError) => folder_with(alloc, b"old", b"older"),
@@ -51,7 +51,7 @@ pub fn folder_to_save(alloc: Global) -> Result<MemoryFolder, AllocError> {
 }
 
 /// A folder with the files of both.
-pub fn folder_to_load(alloc: Global) -> Result<MemoryFolder, AllocError> {
+pub(crate) fn folder_to_load(alloc: Global) -> Result<MemoryFolder, AllocError> {
     match folder_with(alloc, &EVEN_BYTES, &ODD_BYTES) {
         Ok(folder) => Ok(folder),
         Err(AllocError) => folder_with(alloc, &EVEN_BYTES, &ODD_BYTES),
@@ -59,19 +59,19 @@ pub fn folder_to_load(alloc: Global) -> Result<MemoryFolder, AllocError> {
 }
 
 /// Whether the older files stand there.
-pub fn is_old(folder: &MemoryFolder) -> bool {
+pub(crate) fn is_old(folder: &MemoryFolder) -> bool {
     folder.get("d/c.0") == Some(b"old".as_slice())
         && folder.get("d/c.1") == Some(b"older".as_slice())
 }
 
 /// Whether both files have their bytes.
-pub fn is_saved(folder: &MemoryFolder) -> bool {
+pub(crate) fn is_saved(folder: &MemoryFolder) -> bool {
     folder.get("d/c.0") == Some(EVEN_BYTES.as_slice())
         && folder.get("d/c.1") == Some(ODD_BYTES.as_slice())
 }
 
 /// Asserts that each file is as it was or has its bytes.
-pub fn assert_old_or_new(rt: &impl Abort, folder: &MemoryFolder) {
+pub(crate) fn assert_old_or_new(rt: &impl Abort, folder: &MemoryFolder) {
     let zero = folder.get("d/c.0");
     let one = folder.get("d/c.1");
     assert!(rt; zero == Some(b"old".as_slice()) || zero == Some(EVEN_BYTES.as_slice()));
@@ -79,6 +79,6 @@ pub fn assert_old_or_new(rt: &impl Abort, folder: &MemoryFolder) {
 }
 
 /// Whether the temp file stands there.
-pub fn has_temp(folder: &MemoryFolder) -> bool {
+pub(crate) fn has_temp(folder: &MemoryFolder) -> bool {
     folder.get(TEMP).is_some()
 }
