@@ -81,18 +81,24 @@ fn table(rows: usize, rounds: usize) {
     println!();
 }
 
-/// Runs the plans once on one subject, by its place above, for a profiler that counts: what it says comes out
-/// the same on a busy machine.
+/// Runs the plans once on one subject, for a profiler that counts: what it says comes out the same on a busy
+/// machine.
 fn once(subject: Subject, rows: usize) {
     let plans = [plan::main_plan(rows), plan::get_or_admit_plan(rows)];
     measure(subject, rows, &plans, &mut Vec::new());
 }
 
 fn main() {
-    let words: Vec<usize> = std::env::args().skip(1).filter_map(|word| word.parse().ok()).collect();
-    if let [place, rows] = words[..] {
-        return once(SUBJECTS[place], rows);
+    let words: Vec<Option<usize>> = std::env::args().skip(1).map(|word| word.parse().ok()).collect();
+    match words[..] {
+        [] => {
+            table(100_000, 9);
+            table(1_000_000, 3);
+        }
+        [Some(column), Some(rows)] if column < SUBJECTS.len() => once(SUBJECTS[column], rows),
+        _ => {
+            eprintln!("usage: bench [COLUMN ROWS], with a column of the table, counted from 0");
+            std::process::exit(2);
+        }
     }
-    table(100_000, 9);
-    table(1_000_000, 3);
 }
