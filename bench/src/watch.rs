@@ -109,7 +109,10 @@ unsafe extern "C" fn __wrap_posix_memalign(to: *mut *mut c_void, align: usize, s
 
 /// Makes a mark from this side.
 pub fn mark() {
-    drop(std::hint::black_box(Vec::<u8>::with_capacity(MARK)));
+    let room = Vec::<u8>::with_capacity(MARK);
+    // Safety: it reads a pointer that is there. (So the compiler can't leave the request out; `black_box` is newer
+    // than Debian's compiler.)
+    unsafe { std::ptr::read_volatile(&room.as_ptr()) };
 }
 
 /// Does a piece of work, and answers the marks that were made meanwhile.
