@@ -2,14 +2,12 @@
 //!
 //! [`linked_list::LinkedList`] is the order of one shard, [`unit::LruUnit`] is one shard,
 //! [`lru_core::LruCore`] is N shards of one owner, and [`Lru`] is N shards for many threads;
-//! [`calls`] has the calls of a core as values.
+//! [`calls`] has the calls of a core as values. Each stands in a small crate beneath; these are the names for users.
 #![tactic(auto)]
 
-pub mod calls;
-mod inclusion;
-pub mod linked_list;
-pub mod lru;
-pub mod lru_core;
-pub mod unit;
-
-pub use lru::Lru;
+pub use lru_cores::calls;
+pub use lru_cores::lru_core;
+pub use lru_list::linked_list;
+pub use lru_locks::lru;
+pub use lru_locks::lru::Lru;
+pub use lru_shard::unit;

@@ -1,0 +1,24 @@
+-- Laws of one eviction.
+use Rattle.std.proofs.Common.{◌≡◌, ℕ, ◌+◌, ◌-◌, ◌%◌, ◌<◌, false, ◌||◌, List, [], ◌∷◌, ◌++◌, length, get_or, Some, None, refl, sym, ap, ◌∙◌, arith}
+use Rattle.std.specs.Prelude.{Option, option_map}
+use Rattle.std.proofs.lemmas.Bool.{le-ltb}
+use Rattle.std.proofs.lemmas.Option.{slice_get_within, slice_get-get_or}
+use Rattle.std.proofs.lemmas.List.{take_more, take_all, length_push}
+use Rattle.lru_shard.specs.Row.{Row, pair_of, weight_of, last_row, without_last}
+use Rattle.lru_cores.specs.Core.{Core, core_weight, core_len}
+use Rattle.lru_cores.specs.Eviction.{is_over, is_above}
+use Rattle.lru_shard.proofs.Rows.{weight-append}
+use Rattle.lru_cores.proofs.Circle.{all_empty, empty_sum}
+
+none_above : (n : ℕ) (mark : Option ℕ) → n ≡ 0 → is_above n mark ≡ false
+none_above n None z = refl
+none_above n (Some w) z = le-ltb w n (omega (arith, z))
+
+module _ {T : Type 0} where
+  -- an empty core isn't over
+  pub empty_under : (c : Core T) (from : ℕ) → from < length c.lists → ((k : ℕ) → k < length c.lists → get_or c.lists ((from + k) % length c.lists) [] ≡ []) → is_over c ≡ false
+  empty_under c from f h =
+      let each = all_empty c.lists from f h in
+      let w = empty_sum weight_of refl c.lists each in
+      let l = empty_sum (λ (rows : List (Row T)). length rows) refl c.lists each in
+      ap (λ b. b || is_above (core_len c) c.watermark) (le-ltb c.weight_limit (core_weight c) (omega (arith, w))) ∙ none_above (core_len c) c.watermark l

@@ -1,0 +1,6 @@
+pub mod Circle
+pub mod CoreEvicts
+pub mod Evicting
+pub mod EvictionRuns
+pub mod Units
+pub mod CallLaws

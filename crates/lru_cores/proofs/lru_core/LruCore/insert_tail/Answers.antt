@@ -1,0 +1,33 @@
+use Rattle.std.proofs.Common.{◌%◌, ◌<◌, refl, arith}
+use Rattle.lru_shard.specs.Unit.{InsertsTail}
+use Rattle.lru_cores.proofs.Units.{fits, kept_by, acts}
+use Rattle.lru_shard.proofs.EditsOf.{edits_tail}
+use Rattle.lru_cores.proofs.lru_core.LruCore.insert_tail.Goals as goal
+
+pub overflow_add-self : goal.overflow_add-self
+overflow_add-self g c =
+    let i = c.self.inside in
+    let lt : c.args.key % g.row.N < g.row.N = omega (arith, c.self.invariant.some) in
+    let edit = edits_tail c.index_mut-unit.result.now c.args.key c.args.«data» c.args.weight c.insert_tail-answer.result c.insert_tail-answer.new.self c.insert_tail-answer.ensures in
+    omega (arith, (fits g.row.N i.units.items i.weight i.len c.self.invariant (c.args.key % g.row.N) lt c.index_mut-unit.result.now c.index_mut-unit.ensures.value c.args.key refl c.insert_tail-answer.new.self c.len-len_after.ensures.valid edit).0, c.used_weight-weight_before.ensures.value, c.used_weight-weight_after.ensures.value)
+
+pub overflow_add-self-2 : goal.overflow_add-self-2
+overflow_add-self-2 g c =
+    let i = c.self.inside in
+    let lt : c.args.key % g.row.N < g.row.N = omega (arith, c.self.invariant.some) in
+    let edit = edits_tail c.index_mut-unit.result.now c.args.key c.args.«data» c.args.weight c.insert_tail-answer.result c.insert_tail-answer.new.self c.insert_tail-answer.ensures in
+    omega (arith, (fits g.row.N i.units.items i.weight i.len c.self.invariant (c.args.key % g.row.N) lt c.index_mut-unit.result.now c.index_mut-unit.ensures.value c.args.key refl c.insert_tail-answer.new.self c.len-len_after.ensures.valid edit).1, c.len-len_before.ensures.value, c.len-len_after.ensures.value)
+
+pub invariant_of-self : goal.invariant_of-self
+invariant_of-self g c =
+    let i = c.self.inside in
+    let lt : c.args.key % g.row.N < g.row.N = omega (arith, c.self.invariant.some) in
+    let edit = edits_tail c.index_mut-unit.result.now c.args.key c.args.«data» c.args.weight c.insert_tail-answer.result c.insert_tail-answer.new.self c.insert_tail-answer.ensures in
+    kept_by g.row.N i.units.items i.weight i.len c.self.invariant (c.args.key % g.row.N) lt c.index_mut-unit.result.now c.index_mut-unit.ensures.value c.args.key refl c.insert_tail-answer.new.self c.len-len_after.ensures.valid edit c.used_weight-weight_before.result c.len-len_before.result c.used_weight-weight_after.result c.len-len_after.result c.used_weight-weight_before.ensures.value c.len-len_before.ensures.value c.used_weight-weight_after.ensures.value c.len-len_after.ensures.value
+
+pub returns : goal.returns
+returns g c =
+    let i = c.self.inside in
+    let lt : c.args.key % g.row.N < g.row.N = omega (arith, c.self.invariant.some) in
+    let edit = edits_tail c.index_mut-unit.result.now c.args.key c.args.«data» c.args.weight c.insert_tail-answer.result c.insert_tail-answer.new.self c.insert_tail-answer.ensures in
+    rw (← c.self.view_is) (acts g.row.N i.units.items i.weight i.len c.self.invariant (c.args.key % g.row.N) lt c.index_mut-unit.result.now c.index_mut-unit.ensures.value c.args.key refl c.insert_tail-answer.new.self c.len-len_after.ensures.valid edit (λ a b. InsertsTail a c.args.key c.args.«data» c.args.weight c.insert_tail-answer.result b) c.insert_tail-answer.ensures i.weight_limit i.watermark i.evicted_weight i.evicted_len)

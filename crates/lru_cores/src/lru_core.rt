@@ -1,0 +1,581 @@
+//! N shards under one limit on their weight, of one owner.
+ghost use Rattle.std.specs.Prelude.{◌≡◌, ℕ, ◌+◌, ◌%◌, ◌<◌, [], length, vec_len, slice_index_or, IfOk, IfErr, IfSome, IfNone, OnOk, Option, option_map, map, replicate};
+ghost use Rattle.lru_shard.specs.Shard.{shard};
+ghost use Rattle.lru_cores.specs.Eviction.{IsVictim};
+ghost use Rattle.lru_cores.specs.Representation.Units.{lists_of};
+
+pub use crate::inclusion::inclusion_law;
+use lru_shard::unit::{Cause, LruUnit, LruUnitIter, Refused};
+use rand::RngExt;
+use rand_core::Rng;
+use std::alloc::{AllocError, Global};
+use std::marker::Model;
+
+/// An `evict_to_limit` that a refused growth cut short: number 1, Memory.
+#[derive(Debug, Drop)]
+pub struct EvictError<T> {
+    /// The data and the weight of each row that was evicted, in order.
+    pub evicted: Vec<(T, usize)>,
+}
+
+/// N shards, each a list of rows, most recent first. A key's shard is the key modulo N.
+///
+/// The core is over where the sum of all weights is above its weight limit, or where it has a
+/// watermark and more rows than that. Calls may make it over; evictions bring it back.
+#[derive(Drop)]
+pub struct LruCore<T, const N: usize> {
+    units: Vec<LruUnit<T>>,
+    weight: usize,
+    len: usize,
+    weight_limit: usize,
+    watermark: Option<usize>,
+    evicted_weight: usize,
+    evicted_len: usize,
+}
+
+impl<T, const N: usize> Model for LruCore<T, N> {
+    ghost use Rattle.lru_cores.specs.Core.{Core, core_code};
+
+    ghost Value = { Core T };
+
+    ghost coded = { core_code T.code };
+
+    ghost use Rattle.lru_cores.specs.Representation.Units.{lists_of, AreUnits};
+
+    ghost view = { λ c. record {
+      lists = lists_of c.units.items;
+      weight_limit = c.weight_limit;
+      watermark = c.watermark;
+      evicted_weight = c.evicted_weight;
+      evicted_len = c.evicted_len;
+    } };
+
+    ghost invariant = { λ c. AreUnits N c.units.items c.weight c.len };
+}
+
+// The first unit that holds a row, from this one on and round the circle.
+fn first_held<T>(units: &Vec<LruUnit<T>>, from: usize) -> Option<usize>
+    requires { from < vec_len units.now }
+    ensures held { IfSome result (λ at. IsVictim (lists_of units.now.items) from at) }
+    ensures at { IfSome result (λ at. at < vec_len units.now) }
+    ensures none { IfNone result ((k : ℕ) → k < length (lists_of units.now.items) → slice_index_or (lists_of units.now.items) ((from + k) % length (lists_of units.now.items)) [] ≡ []) }
+{
+    for steps in 0..units.len() {
+        let at = if steps < units.len() - from {
+            from + steps
+        } else {
+            steps - (units.len() - from)
+        };
+        if units[at].len() > 0 {
+            return Some(at);
+        }
+    }
+    None
+}
+
+// Empty units, each with room for `capacity` rows.
+fn empty_units<T: Drop>(
+    alloc: Global,
+    count: usize,
+    capacity: usize,
+    cap: usize,
+) -> Result<Vec<LruUnit<T>>, AllocError>
+    ensures { IfOk result (λ units. units.items ≡ replicate count (shard [] cap)) }
+{
+    let mut units = Vec::with_capacity(alloc, count)?;
+    for _ in 0..count {
+        units.push(LruUnit::with_capacity(alloc, capacity, cap)?)?;
+    }
+    Ok(units)
+}
+
+// Two shards, drawn a first and b second. Where there is one shard, nothing is drawn.
+fn drawn_shards<R: Rng, const N: usize>(rng: &mut R) -> (usize, usize)
+    requires { 0 < N }
+    ensures a { result.0 < N }
+    ensures b { result.1 < N }
+    ensures undrawn { N ≡ 1 → rng.new ≡ rng.old }
+{
+    if N == 1 {
+        return (0, 0);
+    }
+    let a = rng.random_range(0..N);
+    let b = rng.random_range(0..N);
+    (a, b)
+}
+
+impl<T, const N: usize> LruCore<T, N> {
+    ghost use Rattle.std.specs.Prelude.{List};
+    ghost use Rattle.std.specs.List.{FoldsTo};
+    ghost use Rattle.std.specs.Borrow.{Bor};
+    ghost use Rattle.lru_shard.specs.Row.{pair_of, row_of, is_held, last_row, weight_of};
+    ghost use Rattle.lru_shard.specs.Unit.{shown};
+    ghost use Rattle.lru_cores.specs.Core.{core_weight, core_len, list_at, home, IsCore};
+    ghost use Rattle.lru_cores.specs.Eviction.{is_over};
+
+    /// An empty core with a limit on its weight. Each shard has room for `capacity` rows, and may weigh
+    /// `usize::MAX / N`.
+    pub fn with_capacity(
+        alloc: Global,
+        weight_limit: usize,
+        capacity: usize,
+    ) -> Result<Self, AllocError>
+    where
+        T: Drop,
+        requires { 0 < N }
+        ensures { IfOk result (λ core. core ≡ record {
+          lists = replicate N [];
+          weight_limit = weight_limit;
+          watermark = None;
+          evicted_weight = 0;
+          evicted_len = 0;
+        }) }
+    {
+        Self::with_capacity_and_watermark(alloc, weight_limit, capacity, None)
+    }
+
+    /// An empty core with a limit on its weight and, where there is a watermark, on its length.
+    /// Each shard has room for `capacity` rows, and may weigh `usize::MAX / N`.
+    pub fn with_capacity_and_watermark(
+        alloc: Global,
+        weight_limit: usize,
+        capacity: usize,
+        watermark: Option<usize>,
+    ) -> Result<Self, AllocError>
+    where
+        T: Drop,
+        requires { 0 < N }
+        ensures { IfOk result (λ core. core ≡ record {
+          lists = replicate N [];
+          weight_limit = weight_limit;
+          watermark = watermark;
+          evicted_weight = 0;
+          evicted_len = 0;
+        }) }
+    {
+        Ok(LruCore {
+            units: empty_units(alloc, N, capacity, usize::MAX / N)?,
+            weight: 0,
+            len: 0,
+            weight_limit,
+            watermark,
+            evicted_weight: 0,
+            evicted_len: 0,
+        })
+    }
+
+    /// The number of shards, N.
+    pub fn shards(&self) -> usize
+        ensures value { result ≡ N }
+        ensures valid { IsCore N self.now }
+    {
+        let _units = &self.units;
+        N
+    }
+
+    /// The sum of the weights of all rows.
+    pub fn weight(&self) -> usize
+        ensures { result ≡ core_weight self.now }
+    {
+        self.weight
+    }
+
+    /// The number of all rows.
+    pub fn len(&self) -> usize
+        ensures { result ≡ core_len self.now }
+    {
+        self.len
+    }
+
+    /// The weight above which the core is over.
+    pub fn weight_limit(&self) -> usize
+        ensures { result ≡ self.now.weight_limit }
+    {
+        self.weight_limit
+    }
+
+    /// Sets the weight above which the core is over. It evicts nothing.
+    pub fn set_weight_limit(&mut self, limit: usize)
+        ensures { self.new ≡ record self.old { weight_limit = limit } }
+    {
+        self.weight_limit = limit;
+    }
+
+    /// The sum of the weights of all rows evicted so far, modulo 2^64.
+    pub fn evicted_weight(&self) -> usize
+        ensures { result ≡ self.now.evicted_weight }
+    {
+        self.evicted_weight
+    }
+
+    /// The number of all rows evicted so far, modulo 2^64.
+    pub fn evicted_len(&self) -> usize
+        ensures { result ≡ self.now.evicted_len }
+    {
+        self.evicted_len
+    }
+
+    /// The number of rows of a shard.
+    pub fn shard_len(&self, shard: usize) -> usize
+        requires { shard < N }
+        ensures { result ≡ length (list_at self.now shard) }
+    {
+        self.units[shard].len()
+    }
+
+    /// The sum of the weights of the rows of a shard.
+    pub fn shard_weight(&self, shard: usize) -> usize
+        requires { shard < N }
+        ensures { result ≡ weight_of (list_at self.now shard) }
+    {
+        self.units[shard].used_weight()
+    }
+
+    /// The rows of a shard as pairs of data and weight, most recent first.
+    pub fn iter_shard(&self, shard: usize) -> LruUnitIter<'_, T>
+        requires { shard < N }
+        ensures { result ≡ map pair_of (list_at self.now shard) }
+    {
+        self.units[shard].iter()
+    }
+
+    /// Calls a closure with the data and the weight of each row of a shard, most recent first.
+    pub fn iter_for_each<F: FnMut((&T, usize))>(&self, shard: usize, mut visit: F)
+        requires shard { shard < N }
+        requires visit { F.IsAlwaysCallable visit }
+        ensures { (items : List (Bor T × ℕ)) × ((last : F) × ((map shown items ≡ map pair_of (list_at self.now shard)) × FoldsTo (λ p x q. F.step p x tt q) visit items last)) }
+    {
+        let mut rest = self.iter_shard(shard);
+        while let Some(pair) = rest.next() {
+            visit(pair);
+        }
+    }
+
+    /// Whether a key has a row.
+    pub fn peek(&self, key: u64) -> bool
+        ensures { result ≡ is_held (list_at self.now (home self.now key)) key }
+    {
+        let _units = &self.units;
+        let shard = (key % N as u64) as usize;
+        self.units[shard].peek(key).is_some()
+    }
+
+    /// The weight of a key.
+    pub fn peek_weight(&self, key: u64) -> Option<usize>
+        ensures { result ≡ option_map (λ r. r.weight) (row_of (list_at self.now (home self.now key)) key) }
+    {
+        let _units = &self.units;
+        let shard = (key % N as u64) as usize;
+        self.units[shard].peek_weight(key)
+    }
+
+    /// The data, cloned, and the weight of the row of a shard that was used longest ago; `None` of an empty
+    /// shard, and past N. A clone has to equal its source.
+    pub fn peek_lru(&self, shard: usize) -> Result<Option<(T, usize)>, AllocError>
+    where
+        T: Clone,
+        requires { (d e : T) → T.is_clone d e → e ≡ d }
+        ensures { IfOk result (λ found. found ≡ option_map pair_of (last_row (list_at self.now shard))) }
+    {
+        let _units = &self.units;
+        if shard >= N {
+            return Ok(None);
+        }
+        let unit = &self.units[shard];
+        let Some((data, weight)) = unit.peek_lru() else {
+            return Ok(None);
+        };
+        Ok(Some((data.clone()?, weight)))
+    }
+
+    /// Makes room for `additional` more rows in a shard; past N it does nothing. Nothing else changes,
+    /// also where it is refused.
+    pub fn reserve_shard(&mut self, shard: usize, additional: usize) -> Result<(), AllocError>
+        ensures { self.new ≡ self.old }
+    {
+        if shard >= N {
+            return Ok(());
+        }
+        let unit = &mut self.units[shard];
+        unit.reserve(additional)
+    }
+
+    fn is_over(&self) -> bool
+        ensures { result ≡ is_over self.now }
+    {
+        self.weight > self.weight_limit
+            || match self.watermark {
+                None => false,
+                Some(most) => self.len > most,
+            }
+    }
+}
+
+impl<T: Drop, const N: usize> LruCore<T, N> {
+    ghost use Rattle.std.specs.Prelude.{Ok};
+    ghost use Rattle.lru_shard.specs.Row.{pair_of, row_of, is_held, without};
+    ghost use Rattle.lru_shard.specs.Unit.{Updates, accessed};
+    ghost use Rattle.lru_cores.specs.Core.{list_at, with_list, home};
+    ghost use Rattle.lru_cores.specs.CoreCalls.{CoreAdmits, CoreInsertsTail, CoreIncrements, CoreUpdates, CoreSetsWeight, promoted_past};
+    ghost use Rattle.lru_cores.specs.Eviction.{EvictsFrom, EvictsWhereOver, EvictsToLimit, IsCutShort, KeepsLongestFront};
+
+    /// Puts a row first in the shard of its key, in place of the key's, and answers that shard.
+    /// A weight of 0 counts as 1.
+    ///
+    /// It may make the core over, and evicts nothing. A refusal, for Length, Weight or Memory as a
+    /// shard refuses, hands the data back and changes nothing.
+    pub fn admit(&mut self, key: u64, data: T, weight: usize) -> Result<usize, Refused<T>>
+        ensures { CoreAdmits self.old key «data» weight result self.new }
+    {
+        let _units = &self.units;
+        let shard = (key % N as u64) as usize;
+        let unit = &mut self.units[shard];
+        let weight_before = unit.used_weight();
+        let len_before = unit.len();
+        let answer = unit.admit(key, data, weight.max(1));
+        let weight_after = unit.used_weight();
+        let len_after = unit.len();
+        self.weight = self.weight - weight_before + weight_after;
+        self.len = self.len - len_before + len_after;
+        if let Err(refused) = answer {
+            return Err(refused);
+        }
+        Ok(shard)
+    }
+
+    /// Puts a row last in the shard of its key where the key has none, and answers true; else it answers
+    /// false, and the data is dropped. A weight of 0 is kept.
+    ///
+    /// It may make the core over, and evicts nothing. A refusal, for Length, Weight or Memory as a
+    /// shard refuses, hands the data back and changes nothing.
+    pub fn insert_tail(&mut self, key: u64, data: T, weight: usize) -> Result<bool, Refused<T>>
+        ensures { CoreInsertsTail self.old key «data» weight result self.new }
+    {
+        let _units = &self.units;
+        let shard = (key % N as u64) as usize;
+        let unit = &mut self.units[shard];
+        let weight_before = unit.used_weight();
+        let len_before = unit.len();
+        let answer = unit.insert_tail(key, data, weight);
+        let weight_after = unit.used_weight();
+        let len_after = unit.len();
+        self.weight = self.weight - weight_before + weight_after;
+        self.len = self.len - len_before + len_after;
+        answer
+    }
+
+    /// Adds to a key's weight, puts its row first, and answers the new weight, as `LruUnit` does.
+    ///
+    /// It may make the core over, and evicts nothing. A refusal, for Length, Weight or Memory as a
+    /// shard refuses, comes before `admit_data` is called, and changes nothing.
+    pub fn increment_weight<F: FnOnce() -> T + Drop>(
+        &mut self,
+        key: u64,
+        admit_data: F,
+        delta: usize,
+        max_weight: Option<usize>,
+    ) -> Result<usize, Cause>
+        requires { F.IsAlwaysCallable admit_data }
+        ensures { CoreIncrements (F.post admit_data) self.old key delta max_weight result self.new }
+    {
+        let _units = &self.units;
+        let shard = (key % N as u64) as usize;
+        let unit = &mut self.units[shard];
+        let weight_before = unit.used_weight();
+        let len_before = unit.len();
+        let answer = unit.increment_weight(key, admit_data, delta, max_weight);
+        let weight_after = unit.used_weight();
+        let len_after = unit.len();
+        self.weight = self.weight - weight_before + weight_after;
+        self.len = self.len - len_before + len_after;
+        let (_, new_weight, _) = match answer {
+            Ok(done) => done,
+            Err(cause) => return Err(cause),
+        };
+        Ok(new_weight)
+    }
+
+    /// Updates a key's data and weight, or admits what `admit_data` gives, puts the row first, and answers
+    /// the weight that the key had, `None` for a new row, as `LruUnit` does.
+    ///
+    /// It may make the core over, and evicts nothing. A refusal is a shard's: a new key is refused for
+    /// Length or Memory before `admit_data` is called, and for Weight after it, which hands back what it
+    /// gave; a present one for Weight alone, which keeps what `update` wrote.
+    pub fn update_or_admit<U, A>(
+        &mut self,
+        key: u64,
+        update: U,
+        admit_data: A,
+    ) -> Result<Option<usize>, Refused<Option<(T, usize)>>>
+    where
+        U: FnOnce(&mut T, usize) -> usize + Drop,
+        A: FnOnce() -> (T, usize) + Drop,
+        requires update { U.IsAlwaysCallable update }
+        requires admit_data { A.IsAlwaysCallable admit_data }
+        ensures { CoreUpdates (Updates (U.post update)) (A.post admit_data) self.old key result self.new }
+    {
+        let _units = &self.units;
+        let shard = (key % N as u64) as usize;
+        let unit = &mut self.units[shard];
+        let weight_before = unit.used_weight();
+        let len_before = unit.len();
+        let answer = unit.update_or_admit(key, update, admit_data);
+        let weight_after = unit.used_weight();
+        let len_after = unit.len();
+        self.weight = self.weight - weight_before + weight_after;
+        self.len = self.len - len_before + len_after;
+        let (was, _) = match answer {
+            Ok(done) => done,
+            Err(refused) => return Err(refused),
+        };
+        Ok(was)
+    }
+
+    /// Gives a key another weight, in its place, and answers the weight that it had; `None` where it has
+    /// no row. A weight of 0 counts as 1. It takes no memory.
+    ///
+    /// It may make the core over, and evicts nothing. It is refused for Weight alone, and changes nothing
+    /// then.
+    pub fn set_weight(&mut self, key: u64, weight: usize) -> Result<Option<usize>, Cause>
+        ensures { CoreSetsWeight self.old key weight result self.new }
+    {
+        let _units = &self.units;
+        let shard = (key % N as u64) as usize;
+        let unit = &mut self.units[shard];
+        let weight_before = unit.used_weight();
+        let len_before = unit.len();
+        let answer = unit.set_weight(key, weight.max(1));
+        let weight_after = unit.used_weight();
+        let len_after = unit.len();
+        self.weight = self.weight - weight_before + weight_after;
+        self.len = self.len - len_before + len_after;
+        answer
+    }
+
+    /// Puts a key's row first, and answers whether there is one. It takes no memory.
+    pub fn promote(&mut self, key: u64) -> bool
+        ensures answer { result ≡ is_held (list_at self.old (home self.old key)) key }
+        ensures rows { self.new ≡ with_list self.old (home self.old key) (accessed (list_at self.old (home self.old key)) key) }
+    {
+        let _units = &self.units;
+        let shard = (key % N as u64) as usize;
+        let unit = &mut self.units[shard];
+        unit.access(key)
+    }
+
+    /// Puts a key's row first unless it is among the first `top`, and answers whether there is one.
+    /// With `top` 0 a row that is there is always put first. It takes no memory.
+    pub fn promote_top_n(&mut self, key: u64, top: usize) -> bool
+        ensures answer { result ≡ is_held (list_at self.old (home self.old key)) key }
+        ensures rows { self.new ≡ with_list self.old (home self.old key) (promoted_past (list_at self.old (home self.old key)) key top) }
+    {
+        let _units = &self.units;
+        let shard = (key % N as u64) as usize;
+        let unit = &mut self.units[shard];
+        if !unit.need_promote(key, top) {
+            return true;
+        }
+        unit.access(key)
+    }
+
+    /// Takes a key's row out, and answers its data and weight. It counts as no eviction, and takes no
+    /// memory.
+    pub fn remove(&mut self, key: u64) -> Option<(T, usize)>
+        ensures answer { result ≡ option_map pair_of (row_of (list_at self.old (home self.old key)) key) }
+        ensures rows { self.new ≡ with_list self.old (home self.old key) (without (list_at self.old (home self.old key)) key) }
+    {
+        let _units = &self.units;
+        let shard = (key % N as u64) as usize;
+        let unit = &mut self.units[shard];
+        let weight_before = unit.used_weight();
+        let len_before = unit.len();
+        let answer = unit.remove(key);
+        let weight_after = unit.used_weight();
+        let len_after = unit.len();
+        self.weight = self.weight - weight_before + weight_after;
+        self.len = self.len - len_before + len_after;
+        answer
+    }
+
+    // Evicts the last row of a shard, if it has one.
+    fn evict_from(&mut self, shard: usize) -> Option<(T, usize)>
+        requires { shard < N }
+        ensures { EvictsFrom self.old shard result self.new }
+    {
+        let unit = &mut self.units[shard];
+        let Some((data, weight)) = unit.evict() else {
+            return None;
+        };
+        self.weight -= weight;
+        self.len -= 1;
+        self.evicted_weight = self.evicted_weight.wrapping_add(weight);
+        self.evicted_len = self.evicted_len.wrapping_add(1);
+        Some((data, weight))
+    }
+
+    /// Evicts the last row of the shard `shard` modulo N, whatever the limits are, and answers its data
+    /// and weight. It takes no memory.
+    pub fn evict_shard(&mut self, shard: u64) -> Option<(T, usize)>
+        ensures { EvictsFrom self.old (home self.old shard) result self.new }
+    {
+        let _units = &self.units;
+        let index = (shard % N as u64) as usize;
+        self.evict_from(index)
+    }
+
+    /// Where the core is over, evicts the last row of the victim of two draws, and answers its data
+    /// and weight: the victim is the first shard that is not empty, from the longer of the two on
+    /// (the first where they are as long) and round the circle. Else it answers `None`, and nothing
+    /// changes. It takes no memory.
+    pub fn evict_step(&mut self, a: usize, b: usize) -> Option<(T, usize)>
+        requires a { a < N }
+        requires b { b < N }
+        ensures { EvictsWhereOver self.old a b result self.new }
+    {
+        if !self.is_over() {
+            return None;
+        }
+        let start = if self.units[b].len() <= self.units[a].len() {
+            a
+        } else {
+            b
+        };
+        let Some(victim) = first_held(&self.units, start) else {
+            unreachable!()
+        };
+        self.evict_from(victim)
+    }
+
+    /// Evicts while the core is over, and answers the data and the weight of each evicted row, in order.
+    /// For each it makes room for a pair, draws two shards, a and then b, from the generator, and does
+    /// an `evict_step`. With one shard nothing is drawn.
+    ///
+    /// Where a growth is refused, the pairs evicted so far are handed back, and the core is still over.
+    pub fn evict_to_limit<R: Rng>(
+        &mut self,
+        alloc: Global,
+        rng: &mut R,
+    ) -> Result<Vec<(T, usize)>, EvictError<T>>
+        ensures ok { IfOk result (λ pairs. EvictsToLimit self.old pairs.items self.new) }
+        ensures err { IfErr result (λ stopped. IsCutShort self.old stopped.evicted.items self.new) }
+        ensures longest { N ≡ 1 → OnOk result (KeepsLongestFront self.old self.new) }
+        ensures undrawn { N ≡ 1 → rng.new ≡ rng.old }
+    {
+        let mut evicted = Vec::new(alloc);
+        while self.is_over() {
+            let _units = &self.units;
+            if let Err(_) = evicted.reserve(1) {
+                return Err(EvictError { evicted });
+            }
+            let (a, b) = drawn_shards::<R, N>(rng);
+            let Some(pair) = self.evict_step(a, b) else {
+                unreachable!()
+            };
+            match evicted.push(pair) {
+                Ok(()) => {}
+                Err(_) => unreachable!(),
+            }
+        }
+        Ok(evicted)
+    }
+}

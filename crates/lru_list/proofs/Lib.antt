@@ -1,0 +1,10 @@
+pub mod Chains
+pub mod LinkedLaws
+pub mod LinkedModels
+pub mod LinkedReads
+pub mod LinkedSpans
+pub mod LinkedStates
+pub mod LinkedWrites
+pub mod NodeFields
+pub mod NodePairs
+pub mod Splices

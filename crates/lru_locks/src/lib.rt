@@ -1,0 +1,4 @@
+//! N shards for many threads, each behind a lock of its own.
+#![tactic(auto)]
+
+pub mod lru;

@@ -1,0 +1,757 @@
+//! N shards under one limit on their weight, shared by threads: each shard behind a lock of its own.
+ghost use Rattle.std.specs.Prelude.{◌≡◌, ℕ, ◌+◌, ◌-◌, ◌%◌, ◌^◌, ◌<◌, ◌≤◌, min, max, not, length, vec_len, IfOk, IfErr, IfSome, OnOk, Ok, None, All};
+ghost use Rattle.lru_cores.specs.Core.{cap_of};
+
+use lru_cores::lru_core::EvictError;
+use lru_shard::unit::{Cause, LruUnit, Refused};
+use crossbeam_utils::CachePadded;
+use rand::RngExt;
+use rand_core::Rng;
+use std::alloc::{AllocError, Global};
+use std::sync::atomic::{AtomicUsize, Ordering};
+use std::sync::{RwLock, Wait};
+
+// What a sum modulo 2^64 grows by where one of its numbers changes.
+fn growth(before: usize, after: usize) -> usize
+    ensures { (before + result) % 2 ^ 64 ≡ after }
+{
+    after.wrapping_sub(before)
+}
+
+// Brings a counter after one change, in one step.
+fn shift(counter: &AtomicUsize, before: usize, after: usize) {
+    if before != after {
+        counter.fetch_add(growth(before, after), Ordering::SeqCst);
+    }
+}
+
+// The place that lies so many steps on, in a circle of `count` places.
+fn place_after(from: usize, steps: usize, count: usize) -> usize
+    requires from { from < count }
+    requires steps { steps < count }
+    ensures { result ≡ (from + steps) % count }
+{
+    if steps < count - from {
+        from + steps
+    } else {
+        steps - (count - from)
+    }
+}
+
+// The two numbers of a shard that the counters sum up.
+#[derive(Clone, Copy)]
+struct Totals {
+    weight: usize,
+    len: usize,
+}
+
+// What lies behind a shard's lock. Its calls are all that is done under the lock, on the unit that it lends.
+#[derive(Drop)]
+struct Locked<T, const N: usize> {
+    unit: LruUnit<T>,
+    ghost capped: { unit.cap ≡ cap_of N },
+}
+
+impl<T, const N: usize> Locked<T, N> {
+    ghost use Rattle.std.specs.Prelude.{[], List, map, option_map};
+    ghost use Rattle.std.specs.List.{FoldsTo};
+    ghost use Rattle.std.specs.Borrow.{Bor};
+    ghost use Rattle.lru_shard.specs.Row.{weight_of, pair_of, row_of, is_held, last_row};
+    ghost use Rattle.lru_shard.specs.Shard.{shard};
+    ghost use Rattle.lru_shard.specs.Unit.{shown};
+    ghost use Rattle.lru_shard.specs.Unit.{needs_promote};
+
+    fn with_capacity(alloc: Global, capacity: usize) -> Result<Self, AllocError>
+    where
+        T: Drop,
+        requires { 0 < N }
+        ensures { IfOk result (λ locked. locked.unit ≡ shard [] (cap_of N)) }
+    {
+        Ok(Locked {
+            unit: LruUnit::with_capacity(alloc, capacity, usize::MAX / N)?,
+        })
+    }
+
+    fn totals(&self) -> Totals
+        ensures weight { result.weight ≡ weight_of self.now.unit.rows }
+        ensures len { result.len ≡ length self.now.unit.rows }
+        ensures light { result.weight ≤ cap_of N }
+    {
+        Totals {
+            weight: self.unit.used_weight(),
+            len: self.unit.len(),
+        }
+    }
+
+    fn holds(&self, key: u64) -> bool
+        ensures { result ≡ is_held self.now.unit.rows key }
+    {
+        self.unit.peek(key).is_some()
+    }
+
+    #[tactic(auto, using(crate::proofs::LruCaps::row_weight_light))]
+    fn weight_at(&self, key: u64) -> Option<usize>
+        ensures value { result ≡ option_map (λ r. r.weight) (row_of self.now.unit.rows key) }
+        ensures light { IfSome result (λ weight. weight ≤ cap_of N) }
+    {
+        let _weight = self.unit.used_weight();
+        self.unit.peek_weight(key)
+    }
+
+    fn cloned_last(&self) -> Result<Option<(T, usize)>, AllocError>
+    where
+        T: Clone,
+        requires { (d e : T) → T.is_clone d e → e ≡ d }
+        ensures value { IfOk result (λ found. found ≡ option_map pair_of (last_row self.now.unit.rows)) }
+        ensures light { IfOk result (λ found. IfSome found (λ pair. pair.1 ≤ cap_of N)) }
+    {
+        let _weight = self.unit.used_weight();
+        let Some((data, weight)) = self.unit.peek_lru() else {
+            return Ok(None);
+        };
+        Ok(Some((data.clone()?, weight)))
+    }
+
+    fn visit<F: FnMut((&T, usize))>(&self, mut visit: F)
+        requires { F.IsAlwaysCallable visit }
+        ensures { (items : List (Bor T × ℕ)) × ((last : F) × ((map shown items ≡ map pair_of self.now.unit.rows) × FoldsTo (λ p x q. F.step p x tt q) visit items last)) }
+    {
+        let mut rest = self.unit.iter();
+        while let Some(pair) = rest.next() {
+            visit(pair);
+        }
+    }
+
+    fn is_among_first(&self, key: u64, top: usize) -> bool
+        ensures { result ≡ not (needs_promote self.now.unit.rows key top) }
+    {
+        !self.unit.need_promote(key, top)
+    }
+
+    fn reserve(&mut self, additional: usize) -> Result<(), AllocError>
+        ensures { self.new.unit ≡ self.old.unit }
+    {
+        self.unit.reserve(additional)
+    }
+}
+
+impl<T: Drop, const N: usize> Locked<T, N> {
+    ghost use Rattle.std.specs.Prelude.{option_map};
+    ghost use Rattle.lru_shard.specs.Row.{pair_of, row_of, is_held, without, last_row, without_last};
+    ghost use Rattle.lru_shard.specs.Shard.{shard};
+    ghost use Rattle.lru_shard.specs.Unit.{Admits, InsertsTail, SetsWeight, Updates, accessed};
+    ghost use Rattle.lru_locks.specs.LruCalls.{Increments, Replaces};
+
+    // A weight of 0 counts as 1.
+    #[tactic(auto, using(crate::proofs::LruCaps::admit_light))]
+    fn admit(&mut self, key: u64, data: T, weight: usize) -> Result<usize, Refused<T>>
+        ensures row { Admits self.old.unit key «data» (max weight 1) result self.new.unit }
+        ensures light { OnOk result (max weight 1 ≤ cap_of N) }
+    {
+        let answer = self.unit.admit(key, data, weight.max(1));
+        let _weight = self.unit.used_weight();
+        answer
+    }
+
+    fn insert_tail(&mut self, key: u64, data: T, weight: usize) -> Result<bool, Refused<T>>
+        ensures { InsertsTail self.old.unit key «data» weight result self.new.unit }
+    {
+        self.unit.insert_tail(key, data, weight)
+    }
+
+    // It answers the new weight.
+    #[tactic(auto, using(crate::proofs::LruCaps::increment_light))]
+    fn increment_weight<F: FnOnce() -> T + Drop>(
+        &mut self,
+        key: u64,
+        admit_data: F,
+        delta: usize,
+        max_weight: Option<usize>,
+    ) -> Result<usize, Cause>
+        requires { F.IsAlwaysCallable admit_data }
+        ensures row { Increments (F.post admit_data) self.old.unit key delta max_weight result self.new.unit }
+        ensures light { IfOk result (λ weight. weight ≤ cap_of N) }
+    {
+        let answer = self
+            .unit
+            .increment_weight(key, admit_data, delta, max_weight);
+        let _weight = self.unit.used_weight();
+        let (_, new_weight, _) = answer?;
+        Ok(new_weight)
+    }
+
+    // It answers the weight that the key had.
+    fn update_or_admit<U, A>(
+        &mut self,
+        key: u64,
+        update: U,
+        admit_data: A,
+    ) -> Result<Option<usize>, Refused<Option<(T, usize)>>>
+    where
+        U: FnOnce(&mut T, usize) -> usize + Drop,
+        A: FnOnce() -> (T, usize) + Drop,
+        requires update { U.IsAlwaysCallable update }
+        requires admit_data { A.IsAlwaysCallable admit_data }
+        ensures { Replaces (Updates (U.post update)) (A.post admit_data) self.old.unit key result self.new.unit }
+    {
+        let (was, _) = self.unit.update_or_admit(key, update, admit_data)?;
+        Ok(was)
+    }
+
+    // A weight of 0 counts as 1.
+    fn set_weight(&mut self, key: u64, weight: usize) -> Result<Option<usize>, Cause>
+        ensures { SetsWeight self.old.unit key (max weight 1) result self.new.unit }
+    {
+        self.unit.set_weight(key, weight.max(1))
+    }
+
+    fn promote(&mut self, key: u64) -> bool
+        ensures answer { result ≡ is_held self.old.unit.rows key }
+        ensures rows { self.new.unit ≡ shard (accessed self.old.unit.rows key) self.old.unit.cap }
+    {
+        self.unit.access(key)
+    }
+
+    #[tactic(auto, using(crate::proofs::LruCaps::removed_light))]
+    fn remove(&mut self, key: u64) -> Option<(T, usize)>
+        ensures answer { result ≡ option_map pair_of (row_of self.old.unit.rows key) }
+        ensures rows { self.new.unit ≡ shard (without self.old.unit.rows key) self.old.unit.cap }
+        ensures light { IfSome result (λ pair. pair.1 ≤ cap_of N) }
+    {
+        let _weight = self.unit.used_weight();
+        self.unit.remove(key)
+    }
+
+    #[tactic(auto, using(crate::proofs::LruCaps::last_light))]
+    fn evict(&mut self) -> Option<(T, usize)>
+        ensures answer { result ≡ option_map pair_of (last_row self.old.unit.rows) }
+        ensures rows { self.new.unit ≡ shard (without_last self.old.unit.rows) self.old.unit.cap }
+        ensures light { IfSome result (λ pair. pair.1 ≤ cap_of N) }
+    {
+        let _weight = self.unit.used_weight();
+        self.unit.evict()
+    }
+}
+
+// Empty units behind locks, each with room for `capacity` rows.
+fn empty_units<T: Drop, const N: usize>(
+    alloc: Global,
+    capacity: usize,
+) -> Result<Vec<CachePadded<RwLock<Locked<T, N>>>>, AllocError>
+    requires { 0 < N }
+    ensures { IfOk result (λ units. vec_len units ≡ N) }
+{
+    let mut units = Vec::with_capacity(alloc, N)?;
+    for _ in 0..N {
+        let locked = Locked::with_capacity(alloc, capacity)?;
+        units.push(CachePadded::new(RwLock::new(locked)))?;
+    }
+    Ok(units)
+}
+
+fn zeros(alloc: Global, count: usize) -> Result<Vec<CachePadded<AtomicUsize>>, AllocError>
+    ensures { IfOk result (λ zeros. vec_len zeros ≡ count) }
+{
+    let mut zeros = Vec::with_capacity(alloc, count)?;
+    for _ in 0..count {
+        zeros.push(CachePadded::new(AtomicUsize::new(0)))?;
+    }
+    Ok(zeros)
+}
+
+// What is counted over all shards. Calls write it, and so it has cache lines of its own: those of the shards' places,
+// which each call reads, stay as they are.
+#[derive(Drop)]
+struct Counters {
+    weight: AtomicUsize,
+    len: AtomicUsize,
+    evicted_weight: AtomicUsize,
+    evicted_len: AtomicUsize,
+}
+
+impl Counters {
+    fn zero() -> Self {
+        Counters {
+            weight: AtomicUsize::new(0),
+            len: AtomicUsize::new(0),
+            evicted_weight: AtomicUsize::new(0),
+            evicted_len: AtomicUsize::new(0),
+        }
+    }
+}
+
+/// N shards, each a list of rows, most recent first, behind a lock. A key's shard is the key modulo N.
+///
+/// It answers as an `LruCore` does, for many threads at once: a call on a key takes the lock of that
+/// key's shard and no other, so calls on other shards don't wait for it. A closure that is handed in is
+/// called under the lock, and must make no call that waits for the same shard.
+///
+/// The counters are sums over all shards that other threads may change at any time.
+#[derive(Drop)]
+pub struct Lru<T, const N: usize> {
+    // no two shards share a cache line, so that a thread at one doesn't slow a thread at another
+    units: Vec<CachePadded<RwLock<Locked<T, N>>>>,
+    // how many rows each unit has
+    lens: Vec<CachePadded<AtomicUsize>>,
+    counters: CachePadded<Counters>,
+    weight_limit: AtomicUsize,
+    watermark: Option<usize>,
+    ghost some: { 0 < N },
+    ghost has_units: { vec_len units ≡ N },
+    ghost has_lens: { vec_len lens ≡ N },
+}
+
+// What an `evict_to_limit` read at its start; its weight and length go down by what it evicts.
+#[derive(Clone, Copy)]
+struct Excess {
+    weight: usize,
+    len: usize,
+    weight_limit: usize,
+    watermark: Option<usize>,
+}
+
+impl Excess {
+    ghost use Rattle.lru_locks.specs.LruCalls.{is_past};
+
+    // Whether what is left of the values first read and these values are both past one limit.
+    fn is_past(&self, weight: usize, len: usize) -> bool
+        ensures { result ≡ is_past self.now.weight_limit self.now.watermark (min self.now.weight weight) (min self.now.len len) }
+    {
+        self.weight.min(weight) > self.weight_limit
+            || match self.watermark {
+                None => false,
+                Some(most) => self.len.min(len) > most,
+            }
+    }
+
+    // A row of this weight was evicted.
+    fn evicted(&mut self, weight: usize)
+        ensures { self.new ≡ record self.old { weight = self.old.weight - weight; len = self.old.len - 1 } }
+    {
+        self.weight = self.weight.saturating_sub(weight);
+        self.len = self.len.saturating_sub(1);
+    }
+}
+
+impl<T, const N: usize> Lru<T, N> {
+    /// An empty `Lru` with a limit on its weight. Each shard has room for `capacity` rows, and may weigh
+    /// `usize::MAX / N`.
+    pub fn with_capacity(
+        alloc: Global,
+        weight_limit: usize,
+        capacity: usize,
+    ) -> Result<Self, AllocError>
+    where
+        T: Drop,
+        requires { 0 < N }
+    {
+        Self::with_capacity_and_watermark(alloc, weight_limit, capacity, None)
+    }
+
+    /// An empty `Lru` with a limit on its weight and, where there is a watermark, on its length.
+    /// Each shard has room for `capacity` rows, and may weigh `usize::MAX / N`.
+    pub fn with_capacity_and_watermark(
+        alloc: Global,
+        weight_limit: usize,
+        capacity: usize,
+        watermark: Option<usize>,
+    ) -> Result<Self, AllocError>
+    where
+        T: Drop,
+        requires { 0 < N }
+    {
+        Ok(Lru {
+            units: empty_units(alloc, capacity)?,
+            lens: zeros(alloc, N)?,
+            counters: CachePadded::new(Counters::zero()),
+            weight_limit: AtomicUsize::new(weight_limit),
+            watermark,
+        })
+    }
+
+    /// The number of shards, N.
+    pub fn shards(&self) -> usize
+        ensures value { result ≡ N }
+        ensures some { 0 < N }
+    {
+        self.units.len()
+    }
+
+    /// The sum of the weights of all rows.
+    pub fn weight(&self) -> usize {
+        self.counters.weight.load(Ordering::SeqCst)
+    }
+
+    /// The number of all rows.
+    pub fn len(&self) -> usize {
+        self.counters.len.load(Ordering::SeqCst)
+    }
+
+    /// The number of rows of a shard. It takes no lock.
+    pub fn shard_len(&self, shard: usize) -> usize
+        requires { shard < N }
+    {
+        self.lens[shard].load(Ordering::SeqCst)
+    }
+
+    /// The weight above which the `Lru` is over.
+    pub fn weight_limit(&self) -> usize {
+        self.weight_limit.load(Ordering::SeqCst)
+    }
+
+    /// Sets the weight above which the `Lru` is over. It evicts nothing.
+    pub fn set_weight_limit(&self, limit: usize) {
+        self.weight_limit.store(limit, Ordering::SeqCst);
+    }
+
+    /// The sum of the weights of all rows evicted so far, modulo 2^64.
+    pub fn evicted_weight(&self) -> usize {
+        self.counters.evicted_weight.load(Ordering::SeqCst)
+    }
+
+    /// The number of all rows evicted so far, modulo 2^64.
+    pub fn evicted_len(&self) -> usize {
+        self.counters.evicted_len.load(Ordering::SeqCst)
+    }
+
+    /// The sum of the weights of the rows of a shard.
+    pub fn shard_weight(&self, rt: &impl Wait, shard: usize) -> usize
+        requires { shard < N }
+        ensures { result ≤ cap_of N }
+    {
+        self.units[shard].read(rt).totals().weight
+    }
+
+    /// Calls a closure with the data and the weight of each row of a shard, most recent first, under the
+    /// lock of that shard.
+    pub fn iter_for_each<F: FnMut((&T, usize))>(&self, rt: &impl Wait, shard: usize, visit: F)
+        requires shard { shard < N }
+        requires visit { F.IsAlwaysCallable visit }
+    {
+        self.units[shard].read(rt).visit(visit);
+    }
+
+    /// Whether a key has a row.
+    pub fn peek(&self, rt: &impl Wait, key: u64) -> bool {
+        self.units[self.shard_of(key)].read(rt).holds(key)
+    }
+
+    /// The weight of a key.
+    pub fn peek_weight(&self, rt: &impl Wait, key: u64) -> Option<usize>
+        ensures { IfSome result (λ weight. weight ≤ cap_of N) }
+    {
+        self.units[self.shard_of(key)].read(rt).weight_at(key)
+    }
+
+    /// The data, cloned, and the weight of the row of a shard that was used longest ago; `None` of an empty
+    /// shard, and past N. A clone has to equal its source.
+    pub fn peek_lru(&self, rt: &impl Wait, shard: usize) -> Result<Option<(T, usize)>, AllocError>
+    where
+        T: Clone,
+        requires { (d e : T) → T.is_clone d e → e ≡ d }
+        ensures past { N ≤ shard → result ≡ Ok None }
+        ensures light { IfOk result (λ found. IfSome found (λ pair. pair.1 ≤ cap_of N)) }
+    {
+        let Some(locked) = self.units.get(shard) else {
+            return Ok(None);
+        };
+        locked.read(rt).cloned_last()
+    }
+
+    /// Makes room for `additional` more rows in a shard; past N it does nothing. Nothing else changes,
+    /// also where it is refused.
+    pub fn reserve_shard(
+        &self,
+        rt: &impl Wait,
+        shard: usize,
+        additional: usize,
+    ) -> Result<(), AllocError>
+        ensures { N ≤ shard → result ≡ Ok tt }
+    {
+        let Some(locked) = self.units.get(shard) else {
+            return Ok(());
+        };
+        locked.write(rt).reserve(additional)
+    }
+
+    fn shard_of(&self, key: u64) -> usize
+        ensures value { result ≡ key % N }
+        ensures below { result < N }
+    {
+        let _units = &self.units;
+        (key % N as u64) as usize
+    }
+
+    // Brings the counters after a call on a shard's unit, while its lock is held.
+    fn note(&self, shard: usize, before: Totals, after: Totals)
+        requires { shard < N }
+    {
+        shift(&self.counters.weight, before.weight, after.weight);
+        shift(&self.counters.len, before.len, after.len);
+        shift(&self.lens[shard], before.len, after.len);
+    }
+
+    // The longer of two drawn shards, a first and b second, by the lengths as read; a where they are as
+    // long. Where there is one shard, nothing is drawn.
+    fn drawn_shard<R: Rng>(&self, rng: &mut R) -> usize
+        ensures below { result < N }
+        ensures undrawn { N ≡ 1 → rng.new ≡ rng.old }
+    {
+        let _units = &self.units;
+        if N == 1 {
+            return 0;
+        }
+        let a = rng.random_range(0..N);
+        let b = rng.random_range(0..N);
+        if self.shard_len(a) >= self.shard_len(b) {
+            a
+        } else {
+            b
+        }
+    }
+}
+
+impl<T: Drop, const N: usize> Lru<T, N> {
+    ghost use Rattle.lru_locks.specs.LruCalls.{HandsBack, MayAnswer};
+
+    /// Puts a row first in the shard of its key, in place of the key's, and answers that shard.
+    /// A weight of 0 counts as 1.
+    ///
+    /// It may make the `Lru` over, and evicts nothing. A refusal, for Length, Weight or Memory as a
+    /// shard refuses, hands the data back and changes nothing.
+    pub fn admit(
+        &self,
+        rt: &impl Wait,
+        key: u64,
+        data: T,
+        weight: usize,
+    ) -> Result<usize, Refused<T>>
+        ensures shard { IfOk result (λ s. s ≡ key % N) }
+        ensures light { OnOk result (max weight 1 ≤ cap_of N) }
+        ensures held { IfErr result (λ refused. refused.held ≡ «data») }
+    {
+        let shard = self.shard_of(key);
+        let mut unit = self.units[shard].write(rt);
+        let before = unit.totals();
+        let answer = unit.admit(key, data, weight);
+        self.note(shard, before, unit.totals());
+        answer?;
+        Ok(shard)
+    }
+
+    /// Puts a row last in the shard of its key where the key has none, and answers true; else it answers
+    /// false, and the data is dropped. A weight of 0 is kept.
+    ///
+    /// It may make the `Lru` over, and evicts nothing. A refusal, for Length, Weight or Memory as a
+    /// shard refuses, hands the data back and changes nothing.
+    pub fn insert_tail(
+        &self,
+        rt: &impl Wait,
+        key: u64,
+        data: T,
+        weight: usize,
+    ) -> Result<bool, Refused<T>>
+        ensures { IfErr result (λ refused. refused.held ≡ «data») }
+    {
+        let shard = self.shard_of(key);
+        let mut unit = self.units[shard].write(rt);
+        let before = unit.totals();
+        let answer = unit.insert_tail(key, data, weight);
+        self.note(shard, before, unit.totals());
+        answer
+    }
+
+    /// Adds to a key's weight, puts its row first, and answers the new weight, as `LruUnit` does.
+    ///
+    /// It may make the `Lru` over, and evicts nothing. A refusal, for Length, Weight or Memory as a
+    /// shard refuses, comes before `admit_data` is called, and changes nothing. `admit_data` is called
+    /// under the lock of the key's shard.
+    pub fn increment_weight<F: FnOnce() -> T + Drop>(
+        &self,
+        rt: &impl Wait,
+        key: u64,
+        admit_data: F,
+        delta: usize,
+        max_weight: Option<usize>,
+    ) -> Result<usize, Cause>
+        requires { F.IsAlwaysCallable admit_data }
+        ensures weight { IfOk result (λ w. MayAnswer delta max_weight w) }
+        ensures light { IfOk result (λ w. w ≤ cap_of N) }
+    {
+        let shard = self.shard_of(key);
+        let mut unit = self.units[shard].write(rt);
+        let before = unit.totals();
+        let answer = unit.increment_weight(key, admit_data, delta, max_weight);
+        self.note(shard, before, unit.totals());
+        answer
+    }
+
+    /// Updates a key's data and weight, or admits what `admit_data` gives, puts the row first, and answers
+    /// the weight that the key had, `None` for a new row, as `LruUnit` does. The closures are called under
+    /// the lock of the key's shard.
+    ///
+    /// It may make the `Lru` over, and evicts nothing. A refusal is a shard's: a new key is refused for
+    /// Length or Memory before `admit_data` is called, and for Weight after it, which hands back what it
+    /// gave; a present one for Weight alone, which keeps what `update` wrote.
+    pub fn update_or_admit<U, A>(
+        &self,
+        rt: &impl Wait,
+        key: u64,
+        update: U,
+        admit_data: A,
+    ) -> Result<Option<usize>, Refused<Option<(T, usize)>>>
+    where
+        U: FnOnce(&mut T, usize) -> usize + Drop,
+        A: FnOnce() -> (T, usize) + Drop,
+        requires update { U.IsAlwaysCallable update }
+        requires admit_data { A.IsAlwaysCallable admit_data }
+        ensures { IfErr result (λ refused. HandsBack (A.post admit_data) refused) }
+    {
+        let shard = self.shard_of(key);
+        let mut unit = self.units[shard].write(rt);
+        let before = unit.totals();
+        let answer = unit.update_or_admit(key, update, admit_data);
+        self.note(shard, before, unit.totals());
+        answer
+    }
+
+    /// Gives a key another weight, in its place, and answers the weight that it had; `None` where it has
+    /// no row. A weight of 0 counts as 1. It takes no memory.
+    ///
+    /// It may make the `Lru` over, and evicts nothing. It is refused for Weight alone, and changes nothing
+    /// then.
+    pub fn set_weight(
+        &self,
+        rt: &impl Wait,
+        key: u64,
+        weight: usize,
+    ) -> Result<Option<usize>, Cause>
+        ensures { IfErr result (λ cause. cause ≡ Cause.Weight) }
+    {
+        let shard = self.shard_of(key);
+        let mut unit = self.units[shard].write(rt);
+        let before = unit.totals();
+        let answer = unit.set_weight(key, weight);
+        self.note(shard, before, unit.totals());
+        answer
+    }
+
+    /// Puts a key's row first, and answers whether there is one. It takes no memory.
+    pub fn promote(&self, rt: &impl Wait, key: u64) -> bool {
+        self.units[self.shard_of(key)].write(rt).promote(key)
+    }
+
+    /// Puts a key's row first unless it is among the first `top`, and answers whether there is one.
+    /// With `top` 0 a row that is there is always put first. It takes no memory.
+    ///
+    /// It looks first, together with other readers of the shard, and takes the lock for writing only
+    /// where the row is not among the first `top`.
+    pub fn promote_top_n(&self, rt: &impl Wait, key: u64, top: usize) -> bool {
+        self.is_among_first(rt, key, top) || self.promote(rt, key)
+    }
+
+    // It lets go of the lock before it returns, so that the caller may take it for writing.
+    fn is_among_first(&self, rt: &impl Wait, key: u64, top: usize) -> bool {
+        self.units[self.shard_of(key)]
+            .read(rt)
+            .is_among_first(key, top)
+    }
+
+    /// Takes a key's row out, and answers its data and weight. It counts as no eviction, and takes no
+    /// memory.
+    pub fn remove(&self, rt: &impl Wait, key: u64) -> Option<(T, usize)>
+        ensures { IfSome result (λ pair. pair.1 ≤ cap_of N) }
+    {
+        let shard = self.shard_of(key);
+        let mut unit = self.units[shard].write(rt);
+        let before = unit.totals();
+        let answer = unit.remove(key);
+        self.note(shard, before, unit.totals());
+        answer
+    }
+
+    /// Evicts the last row of the shard `shard` modulo N, whatever the limits are, and answers its data
+    /// and weight. It takes no memory.
+    pub fn evict_shard(&self, rt: &impl Wait, shard: u64) -> Option<(T, usize)>
+        ensures { IfSome result (λ pair. pair.1 ≤ cap_of N) }
+    {
+        self.evict_from(rt, self.shard_of(shard))
+    }
+
+    // Evicts the last row of a shard, if it has one.
+    fn evict_from(&self, rt: &impl Wait, shard: usize) -> Option<(T, usize)>
+        requires { shard < N }
+        ensures { IfSome result (λ pair. pair.1 ≤ cap_of N) }
+    {
+        let mut unit = self.units[shard].write(rt);
+        let before = unit.totals();
+        let (data, weight) = unit.evict()?;
+        self.note(shard, before, unit.totals());
+        let counters = &self.counters;
+        counters.evicted_weight.fetch_add(weight, Ordering::SeqCst);
+        counters.evicted_len.fetch_add(1, Ordering::SeqCst);
+        Some((data, weight))
+    }
+
+    // Evicts the last row of the first shard that is not empty, from this one on and round the circle.
+    fn evict_near(&self, rt: &impl Wait, from: usize) -> Option<(T, usize)>
+        requires { from < N }
+        ensures { IfSome result (λ pair. pair.1 ≤ cap_of N) }
+    {
+        for steps in 0..N {
+            let shard = place_after(from, steps, N);
+            if let Some(pair) = self.evict_from(rt, shard) {
+                return Some(pair);
+            }
+        }
+        None
+    }
+
+    // The values that an `evict_to_limit` goes by, as they are now.
+    fn excess(&self) -> Excess {
+        Excess {
+            weight: self.weight(),
+            len: self.len(),
+            weight_limit: self.weight_limit(),
+            watermark: self.watermark,
+        }
+    }
+
+    /// Evicts while the `Lru` is over, and answers the data and the weight of each evicted row, in order.
+    /// For each it makes room for a pair, draws two shards, a and then b, from the generator, and evicts
+    /// the last row of the first shard that is not empty, from the longer of the two on (the first where
+    /// they are as long) and round the circle. With one shard nothing is drawn.
+    ///
+    /// Other threads may add and remove rows meanwhile. It is over as long as the value that it first
+    /// read, less what it evicted, and the value now are both past the limit. It ends after as many
+    /// evictions as there were rows at its start, and where it finds all shards empty.
+    ///
+    /// Where a growth is refused, the pairs evicted so far are handed back.
+    pub fn evict_to_limit<R: Rng>(
+        &self,
+        rt: &impl Wait,
+        alloc: Global,
+        rng: &mut R,
+    ) -> Result<Vec<(T, usize)>, EvictError<T>>
+        ensures ok { IfOk result (λ pairs. All (λ pair. pair.1 ≤ cap_of N) pairs.items) }
+        ensures err { IfErr result (λ stopped. All (λ pair. pair.1 ≤ cap_of N) stopped.evicted.items) }
+        ensures undrawn { N ≡ 1 → rng.new ≡ rng.old }
+    {
+        let mut excess = self.excess();
+        let mut evicted = Vec::new(alloc);
+        for _ in 0..excess.len {
+            if !excess.is_past(self.weight(), self.len()) {
+                break;
+            }
+            if evicted.reserve(1).is_err() {
+                return Err(EvictError { evicted });
+            }
+            let Some(pair) = self.evict_near(rt, self.drawn_shard(rng)) else {
+                break;
+            };
+            excess.evicted(pair.1);
+            evicted.push_reserved(pair);
+        }
+        Ok(evicted)
+    }
+}

@@ -1,0 +1,7 @@
+pub mod Rows
+pub mod Refusals
+pub mod Edits
+pub mod LastRows
+pub mod EditsOf
+pub mod Tables
+pub mod UnitCalls

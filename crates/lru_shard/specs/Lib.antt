@@ -1,0 +1,4 @@
+pub mod Row
+pub mod Shard
+pub mod Unit
+pub mod Representation

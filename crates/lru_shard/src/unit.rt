@@ -1,0 +1,587 @@
+//! One shard: rows in the order of their last use, under a cap on their weight.
+ghost use Rattle.std.specs.Prelude.{◌≡◌, ℕ, ◌+◌, ◌<◌, cond, nat_eq, eqb, length, Some, None, IsTrue};
+ghost use Rattle.std.specs.HashMap as hash;
+ghost use Rattle.lru_shard.specs.Unit.{raised, started};
+
+use lru_list::linked_list::{Index, LinkedList, LinkedListIter};
+use std::alloc::{AllocError, Global};
+use std::collections::HashMap;
+use std::iter::FusedIterator;
+use std::marker::Model;
+
+/// Why a call was refused. The number of a cause is its value: `cause as u8`.
+#[derive(Clone, Copy, Debug, PartialEq, Eq)]
+pub enum Cause {
+    /// A growth was refused.
+    Memory = 1,
+    /// The shard's weight would pass its cap.
+    Weight = 2,
+    /// The shard has as many rows as it may have.
+    Length = 3,
+}
+
+/// A refused call: why, and what it was given, handed back.
+#[derive(Debug, Drop)]
+pub struct Refused<D> {
+    /// Why the call was refused.
+    pub cause: Cause,
+    /// What is handed back.
+    pub held: D,
+}
+
+impl<D> Refused<D> {
+    fn new(cause: Cause, held: D) -> Self
+        ensures cause { result.cause ≡ cause }
+        ensures held { result.held ≡ held }
+    {
+        Refused { cause, held }
+    }
+}
+
+// What the table holds of a key: its data, its place in the order, and its weight.
+#[derive(Drop)]
+struct Node<T> {
+    data: T,
+    list_index: Index,
+    weight: usize,
+}
+
+// Makes room for one more node. Where that is refused, nothing changes.
+fn make_room<T>(table: &mut HashMap<u64, Node<T>>) -> bool
+    ensures room { IsTrue result → 0 < hash.spare table.new }
+    ensures same { (k : ℕ) → hash.get nat_eq table.new k ≡ hash.get nat_eq table.old k }
+{
+    table.reserve(1).is_ok()
+}
+
+// Puts the node of a new key into the room that was made for it.
+#[inline(always)]
+fn put_node<T: Drop>(table: &mut HashMap<u64, Node<T>>, key: u64, node: Node<T>)
+    requires { 0 < hash.spare table.old }
+    ensures { (k : ℕ) → hash.get nat_eq table.new k ≡ cond (eqb key k) (Some node) (hash.get nat_eq table.old k) }
+{
+    match table.insert(key, node) {
+        Ok(_) => {}
+        Err(_) => unreachable!(),
+    }
+}
+
+// The weight of a row that is there, with `delta` added.
+fn raised(weight: usize, delta: usize, max_weight: Option<usize>) -> usize
+    ensures { result ≡ raised weight delta max_weight }
+{
+    let sum = weight.saturating_add(delta);
+    match max_weight {
+        None => sum,
+        Some(most) => sum.min(most).max(weight),
+    }
+}
+
+// The weight of a new row.
+fn started(delta: usize, max_weight: Option<usize>) -> usize
+    ensures { result ≡ started delta max_weight }
+{
+    match max_weight {
+        None => delta.max(1),
+        Some(most) => delta.min(most).max(1),
+    }
+}
+
+/// The most rows that any shard has: as many as a linked list has places for.
+const MOST_ROWS: usize = 4294967293;
+
+/// Rows with distinct keys, most recent first, under a cap on the sum of their weights.
+/// It has at most as many rows as its cap, and never more than 4294967293.
+///
+/// Each call that takes no memory says so, and so does each call on a key that is there.
+#[derive(Drop)]
+pub struct LruUnit<T> {
+    lookup_table: HashMap<u64, Node<T>>,
+    order: LinkedList<u64>,
+    used_weight: usize,
+    cap: usize,
+}
+
+impl<T> Model for LruUnit<T> {
+    ghost use Rattle.std.specs.Prelude.{nat_eq};
+    ghost use Rattle.std.specs.HashMap as hash;
+    ghost use Rattle.lru_shard.specs.Shard.{Shard, shard, shard_code};
+
+    ghost Value = { Shard T };
+
+    ghost coded = { shard_code T.code };
+
+    ghost use Rattle.lru_shard.specs.Representation.Table.{rows_of, IsUnit};
+
+    ghost view = { λ u. shard (rows_of (hash.get nat_eq u.lookup_table) u.order.live) u.cap };
+
+    ghost invariant = { λ u. IsUnit (hash.get nat_eq u.lookup_table) u.order u.used_weight u.cap };
+}
+
+impl<T> LruUnit<T> {
+    ghost use Rattle.std.specs.Prelude.{[], IfOk, map, option_map, is_some};
+    ghost use Rattle.std.specs.Option.{option_copied};
+    ghost use Rattle.lru_shard.specs.Row.{weight_of, row_of, pair_of, is_held, without, last_row, without_last};
+    ghost use Rattle.lru_shard.specs.Shard.{shard, IsShard, refusal, size_of, and_row, is_full};
+    ghost use Rattle.lru_shard.specs.Unit.{accessed, needs_promote};
+    ghost use Rattle.lru_shard.specs.Unit.{shown};
+
+    /// An empty shard with room for `capacity` rows, whose weights may sum up to `cap`.
+    pub fn with_capacity(alloc: Global, capacity: usize, cap: usize) -> Result<Self, AllocError>
+    where
+        T: Drop,
+        ensures { IfOk result (λ unit. unit ≡ shard [] cap) }
+    {
+        Ok(LruUnit {
+            lookup_table: HashMap::with_capacity(alloc, capacity)?,
+            order: LinkedList::with_capacity(alloc, capacity)?,
+            used_weight: 0,
+            cap,
+        })
+    }
+
+    /// Makes room for `additional` more rows. Nothing else changes, also where it is refused.
+    pub fn reserve(&mut self, additional: usize) -> Result<(), AllocError>
+        ensures { self.new ≡ self.old }
+    {
+        self.lookup_table.reserve(additional)?;
+        self.order.reserve(additional)
+    }
+
+    /// How many rows there are.
+    pub fn len(&self) -> usize
+        ensures value { result ≡ length self.now.rows }
+        ensures valid { IsShard self.now }
+    {
+        self.order.len()
+    }
+
+    /// The sum of the weights of the rows.
+    pub fn used_weight(&self) -> usize
+        ensures value { result ≡ weight_of self.now.rows }
+        ensures valid { IsShard self.now }
+    {
+        self.used_weight
+    }
+
+    /// The rows as pairs of data and weight, most recent first.
+    pub fn iter(&self) -> LruUnitIter<'_, T>
+        ensures { result ≡ map pair_of self.now.rows }
+    {
+        LruUnitIter {
+            keys: self.order.iter(),
+            lookup_table: &self.lookup_table,
+        }
+    }
+
+    /// The data of a key.
+    pub fn peek(&self, key: u64) -> Option<&T>
+        ensures { option_copied result ≡ option_map (λ r. r.value) (row_of self.now.rows key) }
+    {
+        let node = self.lookup_table.get(&key)?;
+        Some(&node.data)
+    }
+
+    /// The weight of a key.
+    pub fn peek_weight(&self, key: u64) -> Option<usize>
+        ensures { result ≡ option_map (λ r. r.weight) (row_of self.now.rows key) }
+    {
+        let node = self.lookup_table.get(&key)?;
+        Some(node.weight)
+    }
+
+    /// The data and the weight of the row that was used longest ago.
+    pub fn peek_lru(&self) -> Option<(&T, usize)>
+        ensures { option_map shown result ≡ option_map pair_of (last_row self.now.rows) }
+    {
+        let key = self.order.iter().next_back()?;
+        let Some(node) = self.lookup_table.get(key) else {
+            unreachable!()
+        };
+        Some((&node.data, node.weight))
+    }
+
+    /// Whether a key is not among the first `limit`. It takes as many steps as it looks at keys.
+    pub fn need_promote(&self, key: u64, limit: usize) -> bool
+        ensures { result ≡ needs_promote self.now.rows key limit }
+    {
+        !self.order.exist_near_head(&key, limit)
+    }
+
+    /// Puts a key's row first, and answers whether there is one. It takes no memory.
+    pub fn access(&mut self, key: u64) -> bool
+        ensures answer { result ≡ is_held self.old.rows key }
+        ensures rows { self.new ≡ shard (accessed self.old.rows key) self.old.cap }
+    {
+        let Some(node) = self.lookup_table.get(&key) else {
+            return false;
+        };
+        let index = node.list_index;
+        self.order.promote(index);
+        true
+    }
+
+    // Why one more row of this weight is refused, whatever memory there is.
+    fn refusal_of_new(&self, weight: usize) -> Option<Cause>
+        ensures { result ≡ refusal self.now.cap (size_of self.now.rows) (and_row (size_of self.now.rows) weight) }
+    {
+        if self.is_full() {
+            Some(Cause::Length)
+        } else if weight > self.cap - self.used_weight {
+            Some(Cause::Weight)
+        } else {
+            None
+        }
+    }
+
+    fn is_full(&self) -> bool
+        ensures { result ≡ is_full self.now.cap (size_of self.now.rows) }
+    {
+        self.order.len() >= self.cap.min(MOST_ROWS)
+    }
+}
+
+impl<T: Drop> LruUnit<T> {
+    ghost use Rattle.std.specs.Prelude.{option_map};
+    ghost use Rattle.lru_shard.specs.Row.{row_of, pair_of, without, last_row, without_last};
+    ghost use Rattle.lru_shard.specs.Shard.{shard};
+    ghost use Rattle.lru_shard.specs.Unit.{Admits, InsertsTail, IncrementsWeight, AdmitsMade, UpdatesOrAdmits, AdmitsGiven, Updates, SetsWeight};
+
+    /// Puts a row first, in place of its key's, and answers the weight that the key had, 0 for a new key.
+    ///
+    /// A new key is refused for Length, Weight or Memory, in this order, a present one for Weight alone.
+    /// A refusal hands the data back and changes nothing.
+    pub fn admit(&mut self, key: u64, data: T, weight: usize) -> Result<usize, Refused<T>>
+        ensures { Admits self.old key «data» weight result self.new }
+    {
+        let Some(node) = self.lookup_table.get_mut(&key) else {
+            return self.admit_new(key, data, weight);
+        };
+        let old = node.weight;
+        if weight > self.cap - (self.used_weight - old) {
+            return Err(Refused::new(Cause::Weight, data));
+        }
+        node.data = data;
+        node.weight = weight;
+        let index = node.list_index;
+        self.order.promote(index);
+        self.used_weight = self.used_weight - old + weight;
+        Ok(old)
+    }
+
+    // `admit` of a key that has no row.
+    fn admit_new(&mut self, key: u64, data: T, weight: usize) -> Result<usize, Refused<T>>
+        requires { row_of self.old.rows key ≡ None }
+        ensures { Admits self.old key «data» weight result self.new }
+    {
+        if let Some(cause) = self.refusal_of_new(weight) {
+            return Err(Refused::new(cause, data));
+        }
+        if !make_room(&mut self.lookup_table) {
+            return Err(Refused::new(Cause::Memory, data));
+        }
+        let Ok(list_index) = self.order.push_head(key) else {
+            return Err(Refused::new(Cause::Memory, data));
+        };
+        let node = Node {
+            data,
+            list_index,
+            weight,
+        };
+        put_node(&mut self.lookup_table, key, node);
+        self.used_weight += weight;
+        Ok(0)
+    }
+
+    /// Puts a row last where its key has none, and answers true; else it answers false, and the data is
+    /// dropped.
+    ///
+    /// A new key is refused for Length, Weight or Memory, in this order. A refusal hands the data back
+    /// and changes nothing.
+    pub fn insert_tail(&mut self, key: u64, data: T, weight: usize) -> Result<bool, Refused<T>>
+        ensures { InsertsTail self.old key «data» weight result self.new }
+    {
+        if self.lookup_table.contains_key(&key) {
+            return Ok(false);
+        }
+        if let Some(cause) = self.refusal_of_new(weight) {
+            return Err(Refused::new(cause, data));
+        }
+        if !make_room(&mut self.lookup_table) {
+            return Err(Refused::new(Cause::Memory, data));
+        }
+        let Ok(list_index) = self.order.push_tail(key) else {
+            return Err(Refused::new(Cause::Memory, data));
+        };
+        let node = Node {
+            data,
+            list_index,
+            weight,
+        };
+        put_node(&mut self.lookup_table, key, node);
+        self.used_weight += weight;
+        Ok(true)
+    }
+
+    /// Adds to a key's weight, and puts its row first. The new weight is at most `usize::MAX` and, where
+    /// there is a `max_weight`, at most that, but never less than the weight that the key had. A key with no
+    /// row gets one: its weight is `delta`, at most `max_weight`, and at least 1, and `admit_data` makes its
+    /// data. The answer is the old weight, 0 for a new row, the new one, and whether the row is new.
+    ///
+    /// A new key is refused for Length, Weight or Memory, in this order, a present one for Weight alone.
+    /// A refusal comes before `admit_data` is called, and changes nothing.
+    pub fn increment_weight<F: FnOnce() -> T + Drop>(
+        &mut self,
+        key: u64,
+        admit_data: F,
+        delta: usize,
+        max_weight: Option<usize>,
+    ) -> Result<(usize, usize, bool), Cause>
+        requires { F.IsAlwaysCallable admit_data }
+        ensures { IncrementsWeight (F.post admit_data) self.old key delta max_weight result self.new }
+    {
+        let Some(node) = self.lookup_table.get_mut(&key) else {
+            let weight = started(delta, max_weight);
+            if let Err(cause) = self.admit_made(key, admit_data, weight) {
+                return Err(cause);
+            }
+            return Ok((0, weight, true));
+        };
+        let old = node.weight;
+        let weight = raised(old, delta, max_weight);
+        if weight > self.cap - (self.used_weight - old) {
+            return Err(Cause::Weight);
+        }
+        node.weight = weight;
+        let index = node.list_index;
+        self.order.promote(index);
+        self.used_weight = self.used_weight - old + weight;
+        Ok((old, weight, false))
+    }
+
+    // Puts a new row of this weight first. Its data are made once nothing can refuse it any more.
+    fn admit_made<F: FnOnce() -> T + Drop>(
+        &mut self,
+        key: u64,
+        admit_data: F,
+        weight: usize,
+    ) -> Result<(), Cause>
+        requires absent { row_of self.old.rows key ≡ None }
+        requires callable { F.IsAlwaysCallable admit_data }
+        ensures { AdmitsMade (F.post admit_data) self.old key weight result self.new }
+    {
+        if let Some(cause) = self.refusal_of_new(weight) {
+            return Err(cause);
+        }
+        if !make_room(&mut self.lookup_table) {
+            return Err(Cause::Memory);
+        }
+        let Ok(list_index) = self.order.push_head(key) else {
+            return Err(Cause::Memory);
+        };
+        let node = Node {
+            data: admit_data(),
+            list_index,
+            weight,
+        };
+        put_node(&mut self.lookup_table, key, node);
+        self.used_weight += weight;
+        Ok(())
+    }
+
+    /// Lends a key's data to `update`, with its weight, gives the key the weight that `update` answers, and
+    /// puts its row first. A key with no row gets the data and the weight that `admit_data` gives. A weight
+    /// of 0 counts as 1. The answer is the old weight, `None` for a new row, and the new one.
+    ///
+    /// A new key is refused for Length or Memory before `admit_data` is called, and for Weight after it: then
+    /// what it gave is handed back, and nothing changes. A present key is refused for Weight alone: it keeps
+    /// what `update` did to the data, at the old weight and place, and nothing is handed back.
+    #[inline(always)]
+    pub fn update_or_admit<U, A>(
+        &mut self,
+        key: u64,
+        update: U,
+        admit_data: A,
+    ) -> Result<(Option<usize>, usize), Refused<Option<(T, usize)>>>
+    where
+        U: FnOnce(&mut T, usize) -> usize + Drop,
+        A: FnOnce() -> (T, usize) + Drop,
+        requires update { U.IsAlwaysCallable update }
+        requires admit_data { A.IsAlwaysCallable admit_data }
+        ensures { UpdatesOrAdmits (Updates (U.post update)) (A.post admit_data) self.old key result self.new }
+    {
+        let Some(node) = self.lookup_table.get_mut(&key) else {
+            return self.admit_given(key, admit_data);
+        };
+        let old = node.weight;
+        let weight = update(&mut node.data, old).max(1);
+        if weight > self.cap - (self.used_weight - old) {
+            return Err(Refused::new(Cause::Weight, None));
+        }
+        node.weight = weight;
+        let index = node.list_index;
+        self.order.promote(index);
+        self.used_weight = self.used_weight - old + weight;
+        Ok((Some(old), weight))
+    }
+
+    // `update_or_admit` of a key that has no row. The key's place in the order is taken before the closure is
+    // called, so that nothing but its weight can be refused afterwards, and is given back where that is.
+    fn admit_given<A: FnOnce() -> (T, usize) + Drop>(
+        &mut self,
+        key: u64,
+        admit_data: A,
+    ) -> Result<(Option<usize>, usize), Refused<Option<(T, usize)>>>
+        requires absent { row_of self.old.rows key ≡ None }
+        requires callable { A.IsAlwaysCallable admit_data }
+        ensures { AdmitsGiven (A.post admit_data) self.old key result self.new }
+    {
+        if self.is_full() {
+            return Err(Refused::new(Cause::Length, None));
+        }
+        if !make_room(&mut self.lookup_table) {
+            return Err(Refused::new(Cause::Memory, None));
+        }
+        let Ok(list_index) = self.order.push_head(key) else {
+            return Err(Refused::new(Cause::Memory, None));
+        };
+        let (data, given) = admit_data();
+        let weight = given.max(1);
+        if weight > self.cap - self.used_weight {
+            self.order.remove(list_index);
+            return Err(Refused::new(Cause::Weight, Some((data, given))));
+        }
+        let node = Node {
+            data,
+            list_index,
+            weight,
+        };
+        put_node(&mut self.lookup_table, key, node);
+        self.used_weight += weight;
+        Ok((None, weight))
+    }
+
+    /// Gives a key another weight, in its place, and answers the weight that it had; `None` where it has
+    /// no row. It takes no memory.
+    ///
+    /// It is refused for Weight alone, and changes nothing then.
+    pub fn set_weight(&mut self, key: u64, weight: usize) -> Result<Option<usize>, Cause>
+        ensures { SetsWeight self.old key weight result self.new }
+    {
+        let Some(node) = self.lookup_table.get_mut(&key) else {
+            return Ok(None);
+        };
+        let old = node.weight;
+        if weight > self.cap - (self.used_weight - old) {
+            return Err(Cause::Weight);
+        }
+        node.weight = weight;
+        self.used_weight = self.used_weight - old + weight;
+        Ok(Some(old))
+    }
+
+    /// Takes a key's row out, and answers its data and weight. It takes no memory.
+    pub fn remove(&mut self, key: u64) -> Option<(T, usize)>
+        ensures answer { result ≡ option_map pair_of (row_of self.old.rows key) }
+        ensures rows { self.new ≡ shard (without self.old.rows key) self.old.cap }
+    {
+        let Node {
+            data,
+            list_index,
+            weight,
+        } = self.lookup_table.remove(&key)?;
+        self.order.remove(list_index);
+        self.used_weight -= weight;
+        Some((data, weight))
+    }
+
+    /// Takes the row out that was used longest ago, and answers its data and weight. It takes no memory.
+    pub fn evict(&mut self) -> Option<(T, usize)>
+        ensures answer { result ≡ option_map pair_of (last_row self.old.rows) }
+        ensures rows { self.new ≡ shard (without_last self.old.rows) self.old.cap }
+    {
+        let key = self.order.pop_tail()?;
+        let Some(node) = self.lookup_table.remove(&key) else {
+            unreachable!()
+        };
+        let Node {
+            data,
+            list_index: _,
+            weight,
+        } = node;
+        self.used_weight -= weight;
+        Some((data, weight))
+    }
+}
+
+/// The data and the weight of each row that is left to give, most recent first.
+#[derive(Drop)]
+pub struct LruUnitIter<'a, T> {
+    keys: LinkedListIter<'a, u64>,
+    lookup_table: &'a HashMap<u64, Node<T>>,
+}
+
+impl<'a, T> Model for LruUnitIter<'a, T> {
+    ghost use Rattle.std.specs.Prelude.{List, ℕ, nat_eq};
+    ghost use Rattle.std.specs.HashMap as hash;
+    ghost use Rattle.lru_shard.specs.Representation.Table.{pairs_of, FindsAll};
+
+    ghost Value = { List (T × ℕ) };
+
+    ghost view = { λ i. pairs_of (hash.get nat_eq i.lookup_table.now) i.keys };
+
+    ghost invariant = { λ i. FindsAll (hash.get nat_eq i.lookup_table.now) i.keys };
+}
+
+impl<'a, T> Iterator for LruUnitIter<'a, T> {
+    type Item = (&'a T, usize);
+
+    ghost use Rattle.std.specs.Prelude.{length, Some, IfSome};
+    ghost use Rattle.std.specs.Iterator.{at_most, UpTo};
+    ghost use Rattle.std.specs.Iterator.SizeHint.{IsWithinCount};
+    ghost use Rattle.std.specs.Map.Iter.{TakesFirst};
+    ghost use Rattle.lru_shard.specs.Unit.{shown};
+
+    ghost next_gives = { TakesFirst shown };
+
+    ghost remaining = { λ rest. at_most (length rest) };
+
+    fn next(&mut self) -> Option<(&'a T, usize)> {
+        let key = self.keys.next()?;
+        let Some(node) = self.lookup_table.get(key) else {
+            unreachable!()
+        };
+        Some((&node.data, node.weight))
+    }
+
+    fn size_hint(&self) -> (usize, Option<usize>)
+        ensures lower { IsWithinCount result.0 (at_most (length self.now)) }
+        ensures upper { IfSome result.1 (UpTo (at_most (length self.now))) }
+        ensures exact { result ≡ (length self.now, Some (length self.now)) }
+    {
+        self.keys.size_hint()
+    }
+}
+
+impl<'a, T> DoubleEndedIterator for LruUnitIter<'a, T> {
+    ghost use Rattle.std.specs.Map.Iter.{TakesLast};
+    ghost use Rattle.lru_shard.specs.Unit.{shown};
+
+    ghost next_back_gives = { TakesLast shown };
+
+    fn next_back(&mut self) -> Option<(&'a T, usize)> {
+        let key = self.keys.next_back()?;
+        let Some(node) = self.lookup_table.get(key) else {
+            unreachable!()
+        };
+        Some((&node.data, node.weight))
+    }
+}
+
+impl<'a, T> ExactSizeIterator for LruUnitIter<'a, T> {
+    fn len(&self) -> usize {
+        self.keys.len()
+    }
+}
+
+impl<'a, T> FusedIterator for LruUnitIter<'a, T> {}

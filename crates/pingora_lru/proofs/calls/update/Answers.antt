@@ -1,7 +1,0 @@
-use Rattle.std.proofs.Common.{rules, ◌≡◌, ◌∙◌, sym}
-use Rattle.pingora_lru.specs.Calls.{Replaces}
-use Rattle.pingora_lru.proofs.CallLaws.{updates_more}
-use Rattle.pingora_lru.proofs.calls.update.Goals as goal
-
-pub returns : goal.returns
-returns g c = updates_more _ (Replaces c.args.present c.args.delta) _ (λ made. made ≡ (c.args.missing, c.args.delta)) (λ old weight given new h. (h.called.0, sym h.leaves ∙ h.called.1)) (λ made h. search rules) c.args.core.now c.args.key c.update_or_admit.result c.update_or_admit.new.self c.update_or_admit.ensures
