@@ -9,6 +9,8 @@ use Rattle.lru_cores.specs.declared.calls.Reply.{Reply}
 use Rattle.lru_shard.specs.Row.{Row, row_of}
 use Rattle.lru_shard.specs.Shard.{Shard}
 use Rattle.lru_shard.specs.Unit.{AdmitsMade, IncrementsRow, RefusesNew, AdmitsGiven, UpdatesRow}
+use Rattle.lru_rules.specs.ShardCalls.{IncrementsTo, UpdatesFrom}
+use Rattle.rand_core.specs.Stream.{Stream}
 use Rattle.lru_cores.specs.Core.{Core, ActsOn}
 use Rattle.lru_cores.specs.CoreCalls.{CoreIncrements, CoreUpdates}
 use Rattle.lru_cores.specs.Calls.{Gives, Run}
@@ -34,12 +36,13 @@ module _ {T : Type 0} where
     row_more a k delta most None (Ok answer) b h = (h.0, made_more a k _ (Ok tt) b h.1)
     row_more a k delta most None (Err cause) b h = made_more a k _ (Err cause) b h
 
+    to_more : (a : Shard T) (k delta : ℕ) (most : Option ℕ) (answer : Result ℕ Cause) (b : Shard T) → IncrementsTo P a k delta most answer b → IncrementsTo Q a k delta most answer b
+    to_more a k delta most (Ok w) b h = (h.0, (h.1.0, row_more a k delta most (row_of a.rows k) (Ok (h.0, w, h.1.0)) b h.1.1))
+    to_more a k delta most (Err cause) b h = row_more a k delta most (row_of a.rows k) (Err cause) b h
+
     -- `increment_weight` with what is known of its closure
     pub increments_more : (old : Core T) (k delta : ℕ) (most : Option ℕ) (answer : Result ℕ Cause) (new : Core T) → CoreIncrements P old k delta most answer new → CoreIncrements Q old k delta most answer new
-    increments_more old k delta most (Ok w) new h =
-        (h.0, (h.1.0, acts_more _ _ (λ a b. row_more a k delta most (row_of a.rows k) (Ok (h.0, w, h.1.0)) b) old _ new h.1.1))
-    increments_more old k delta most (Err cause) new h =
-        acts_more _ _ (λ a b. row_more a k delta most (row_of a.rows k) (Err cause) b) old _ new h
+    increments_more old k delta most answer new h = acts_more _ _ (λ a b. to_more a k delta most answer b) old _ new h
 
   module _ (C D : T → ℕ → ℕ → T → Type 0) (P Q : T × ℕ → Type 0) (changes : (old : T) (weight given : ℕ) (new : T) → C old weight given new → D old weight given new) (more : (made : T × ℕ) → P made → Q made) where
     refused_more : (a : Shard T) (cause : Cause) (held : Option (T × ℕ)) → RefusesNew P a cause held → RefusesNew Q a cause held
@@ -56,15 +59,20 @@ module _ {T : Type 0} where
     updated_more a k (Some r) (Err refused) b h = (h.0, (h.1.0, (changes r.value r.weight h.1.0 h.0 h.1.1.0, h.1.1.1)))
     updated_more a k None answer b h = given_more a k answer b h
 
+    from_more : (a : Shard T) (k : ℕ) (answer : Result (Option ℕ) (Refused (Option (T × ℕ)))) (b : Shard T) → UpdatesFrom C P a k answer b → UpdatesFrom D Q a k answer b
+    from_more a k (Ok was) b h = (h.0, updated_more a k (row_of a.rows k) (Ok (was, h.0)) b h.1)
+    from_more a k (Err refused) b h = updated_more a k (row_of a.rows k) (Err refused) b h
+
     -- `update_or_admit` with what is known of its closures
     pub updates_more : (old : Core T) (k : ℕ) (answer : Result (Option ℕ) (Refused (Option (T × ℕ)))) (new : Core T) → CoreUpdates C P old k answer new → CoreUpdates D Q old k answer new
-    updates_more old k (Ok was) new h = (h.0, acts_more _ _ (λ a b. updated_more a k (row_of a.rows k) (Ok (was, h.0)) b) old _ new h.1)
-    updates_more old k (Err refused) new h = acts_more _ _ (λ a b. updated_more a k (row_of a.rows k) (Err refused) b) old _ new h
+    updates_more old k answer new h = acts_more _ _ (λ a b. from_more a k answer b) old _ new h
 
   -- a run goes on by one call
-  pub run_on : (old : Core T) (calls : List (Call T)) (replies : List (Reply T)) (mid : Core T) (call : Call T) (reply : Reply T) (new : Core T) → Run old calls replies mid → Gives mid call reply new →
-      Run old (calls ++ call ∷ []) (replies ++ reply ∷ []) new
-  run_on old [] [] mid call reply new run gives = (new, (subst (λ (z : Core T). Gives z call reply new) run gives, refl))
-  run_on old [] (r ∷ rs) mid call reply new run gives = absurd run
-  run_on old (c ∷ cs) [] mid call reply new run gives = absurd run
-  run_on old (c ∷ cs) (r ∷ rs) mid call reply new run gives = (run.0, (run.1.0, run_on run.0 cs rs mid call reply new run.1.1 gives))
+  pub run_on : (old : Core T) (words : Stream) (calls : List (Call T)) (replies : List (Reply T)) (mid : Core T) (left : Stream) (call : Call T) (reply : Reply T) (new : Core T) (rest : Stream) → Run old words calls replies mid left → Gives mid left call reply new rest →
+      Run old words (calls ++ call ∷ []) (replies ++ reply ∷ []) new rest
+  run_on old words [] [] mid left call reply new rest run gives =
+      (new, (rest, (subst (λ (z : Core T). Gives z words call reply new rest) run.0 (subst (λ (z : Stream). Gives mid z call reply new rest) run.1 gives), (refl, refl))))
+  run_on old words [] (r ∷ rs) mid left call reply new rest run gives = absurd run
+  run_on old words (c ∷ cs) [] mid left call reply new rest run gives = absurd run
+  run_on old words (c ∷ cs) (r ∷ rs) mid left call reply new rest run gives =
+      (run.0, (run.1.0, (run.1.1.0, run_on run.0 run.1.0 cs rs mid left call reply new rest run.1.1.1 gives)))

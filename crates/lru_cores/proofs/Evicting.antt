@@ -1,14 +1,12 @@
 -- Laws of one eviction.
-use Rattle.std.proofs.Common.{◌≡◌, ℕ, ◌+◌, ◌-◌, ◌%◌, ◌<◌, false, ◌||◌, List, [], ◌∷◌, ◌++◌, length, get_or, Some, None, refl, sym, ap, ◌∙◌, arith}
-use Rattle.std.specs.Prelude.{Option, option_map}
+use Rattle.std.proofs.Common.{◌≡◌, ℕ, ◌+◌, ◌%◌, ◌<◌, false, ◌||◌, List, [], length, get_or, Some, None, refl, ap, ◌∙◌, arith}
+use Rattle.std.specs.Prelude.{Option}
 use Rattle.std.proofs.lemmas.Bool.{le-ltb}
-use Rattle.std.proofs.lemmas.Option.{slice_get_within, slice_get-get_or}
-use Rattle.std.proofs.lemmas.List.{take_more, take_all, length_push}
-use Rattle.lru_shard.specs.Row.{Row, pair_of, weight_of, last_row, without_last}
+use Rattle.lru_shard.specs.Row.{Row, weight_of}
 use Rattle.lru_cores.specs.Core.{Core, core_weight, core_len}
-use Rattle.lru_cores.specs.Eviction.{is_over, is_above}
-use Rattle.lru_shard.proofs.Rows.{weight-append}
-use Rattle.lru_cores.proofs.Circle.{all_empty, empty_sum}
+use Rattle.lru_cores.specs.Eviction.{is_over}
+use Rattle.lru_rules.specs.Limits.{is_above}
+use Rattle.lru_rules.proofs.Circle.{all_empty, empty_sum}
 
 none_above : (n : ℕ) (mark : Option ℕ) → n ≡ 0 → is_above n mark ≡ false
 none_above n None z = refl

@@ -1,4 +1,3 @@
-pub mod Circle
 pub mod CoreEvicts
 pub mod Evicting
 pub mod EvictionRuns

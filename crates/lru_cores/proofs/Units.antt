@@ -8,7 +8,8 @@ use Rattle.std.proofs.lemmas.List.Elements.{All-set}
 use Rattle.lru_shard.specs.Row.{Row, weight_of, times}
 use Rattle.lru_shard.proofs.EditsOf.{Edit}
 use Rattle.lru_shard.specs.Shard.{Shard, shard, IsShard}
-use Rattle.lru_cores.specs.Core.{Core, cap_of, home, with_list, ActsOn, IsCore}
+use Rattle.lru_cores.specs.Core.{Core, home, with_list, ActsOn, IsCore}
+use Rattle.lru_rules.specs.Limits.{cap_of}
 use Rattle.lru_cores.specs.Representation.Units.{lists_of, AreUnits}
 
 pub whole_cap : (n : ℕ) → 0 < n → n * cap_of n ≤ 18446744073709551615
@@ -101,9 +102,10 @@ module _ {T : Type 0} where
         pub fits : (weight - weight_of x.rows + weight_of y.rows ≤ 18446744073709551615) × (len - length x.rows + length y.rows ≤ 18446744073709551615)
         fits = (weight_small n (set units s y) _ _ kept, len_small n (set units s y) _ _ kept)
 
-        -- the same, by the totals as the code reads them before and after
-        pub kept_by : (wx lx wy ly : ℕ) → wx ≡ weight_of x.rows → lx ≡ length x.rows → wy ≡ weight_of y.rows → ly ≡ length y.rows → AreUnits n (set units s y) (weight - wx + wy) (len - lx + ly)
-        kept_by wx lx wy ly a b c d = rw (a, b, c, d) kept
+        -- the same, by the totals as the code reads them before and after, and brings them
+        pub kept_by : (wx lx wy ly w l : ℕ) → wx ≡ weight_of x.rows → lx ≡ length x.rows → wy ≡ weight_of y.rows → ly ≡ length y.rows
+            → w ≡ weight - wx + wy → l ≡ len - lx + ly → AreUnits n (set units s y) w l
+        kept_by wx lx wy ly w l a b c d e f = rw (e, f, a, b, c, d) kept
 
         -- a call on one unit, seen as a call on the core
         pub acts : (P : Shard T → Shard T → Type 0) → P x y → (limit : ℕ) (mark : Option ℕ) (ew el : ℕ) →

@@ -1,8 +1,9 @@
 -- A core: N lists of rows, its limits, and what it has evicted.
-use Rattle.std.specs.Prelude.{◌≡◌, ℕ, ◌/◌, ◌%◌, List, [], length, slice_index_or, slice_set, sum_by, All, ◌<◌, Option, refl}
+use Rattle.std.specs.Prelude.{◌≡◌, ℕ, ◌%◌, List, [], length, slice_index_or, slice_set, sum_by, All, ◌<◌, Option, refl}
 use Rattle.std.specs.Coded.{Coded, code_by, coded×, coded_ℕ, coded_list, coded_option}
 use Rattle.lru_shard.specs.Row.{Row, row_code, weight_of, times}
 use Rattle.lru_shard.specs.Shard.{Shard, shard, IsShard}
+use Rattle.lru_rules.specs.Limits.{cap_of}
 
 pub record Core (T : Type 0) : Type 0 where
   pub lists : List (List (Row T))
@@ -18,10 +19,6 @@ core_code {T} code =
     (coded× (coded_list (coded_list (row_code code))) (coded× coded_ℕ (coded× (coded_option coded_ℕ) (coded× coded_ℕ coded_ℕ))))
     (λ c. (c.lists, (c.weight_limit, (c.watermark, (c.evicted_weight, c.evicted_len)))))
     (λ p. record { lists = p.0; weight_limit = p.1.0; watermark = p.1.1.0; evicted_weight = p.1.1.1.0; evicted_len = p.1.1.1.1 }) (λ _. refl)
-
--- the cap on the weight of each of n shards, so that their sum is a number of 64 bits
-abbrev pub cap_of : ℕ → ℕ
-cap_of n = 18446744073709551615 / n
 
 module _ {T : Type 0} where
   -- the weight and the length of all rows there now

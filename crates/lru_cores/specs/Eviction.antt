@@ -1,17 +1,15 @@
 -- Eviction: when a core is over, whose last row leaves, and whole runs.
-use Rattle.std.specs.Prelude.{◌≡◌, ℕ, ◌+◌, ◌<◌, ◌≤◌, ◌%◌, ◌^◌, Bool, false, ◌||◌, nat_lt, nat_le, List, [], ◌∷◌, length, take, slice_index_or, if◌then◌else◌, Option, Some, None, MatchOption, IsTrue, IsFalse}
+use Rattle.std.specs.Prelude.{◌≡◌, ℕ, ◌+◌, ◌<◌, ◌≤◌, ◌%◌, ◌^◌, Bool, nat_le, List, [], ◌∷◌, length, take, slice_index_or, if◌then◌else◌, Option, Some, None, MatchOption, IsTrue, IsFalse}
 use Rattle.lru_shard.specs.Row.{Row, pair_of, last_row, without_last}
+use Rattle.lru_rules.specs.Limits.{is_past}
+use Rattle.lru_rules.specs.Draws.{drawn_shards}
+use Rattle.rand_core.specs.Stream.{Stream}
 use Rattle.lru_cores.specs.Core.{Core, core_weight, core_len, list_at, with_list}
-
--- a length above a watermark, if there is one
-abbrev pub is_above : ℕ → Option ℕ → Bool
-is_above n None = false
-is_above n (Some most) = nat_lt most n
 
 module _ {T : Type 0} where
   -- the weight is above the limit, or the length above the watermark
   abbrev pub is_over : Core T → Bool
-  is_over c = nat_lt c.weight_limit (core_weight c) || is_above (core_len c) c.watermark
+  is_over c = is_past c.weight_limit c.watermark (core_weight c) (core_len c)
 
   -- of two shards the longer one, or the first where they are as long
   abbrev pub start : Core T → ℕ → ℕ → ℕ
@@ -23,7 +21,7 @@ module _ {T : Type 0} where
     pub near : steps < length lists
     pub place : victim ≡ (from + steps) % length lists
     pub held : 0 < length (slice_index_or lists victim [])
-    pub passed : (j : ℕ) → j < steps → slice_index_or lists ((from + j) % length lists) [] ≡ []
+    pub empty_before : (j : ℕ) → j < steps → slice_index_or lists ((from + j) % length lists) [] ≡ []
 
   -- the core after the last row of a list, this one, was evicted
   abbrev pub evicted : Core T → ℕ → Row T → Core T
@@ -55,20 +53,22 @@ module _ {T : Type 0} where
   EvictsWhereOver old a b (Some pair) new = Evicts old a b pair new
   EvictsWhereOver old a b None new = IsFalse (is_over old) × (new ≡ old)
 
-  -- a run of evictions with these pairs, each from an over core, whatever the two draws are
-  abbrev pub EvictionRun : Core T → List (T × ℕ) → Core T → Type 0
-  EvictionRun old [] new = new ≡ old
-  EvictionRun old (pair ∷ pairs) new =
-      (a : ℕ) × ((b : ℕ) × (((a < length old.lists) × (b < length old.lists)) × ((mid : Core T) × (Evicts old a b pair mid × EvictionRun mid pairs new))))
+  -- a run of evictions with these pairs, each from an over core: its victim is that of two shards drawn from the
+  -- stream of random words, and the next eviction draws from what is left of the stream
+  abbrev pub EvictionRun : Core T → Stream → List (T × ℕ) → Core T → Stream → Type 0
+  EvictionRun old words [] new rest = (new ≡ old) × (rest ≡ words)
+  EvictionRun old words (pair ∷ pairs) new rest =
+      let drawn = drawn_shards (length old.lists) words in
+      (mid : Core T) × (Evicts old drawn.0.0 drawn.0.1 pair mid × EvictionRun mid drawn.1 pairs new rest)
 
   -- `evict_to_limit`: a run of evictions, with its pairs in order, that ends where the core is not over
-  pub record EvictsToLimit (old : Core T) (pairs : List (T × ℕ)) (new : Core T) : Type 0 where
-    pub run : EvictionRun old pairs new
+  pub record EvictsToLimit (old : Core T) (words : Stream) (pairs : List (T × ℕ)) (new : Core T) (rest : Stream) : Type 0 where
+    pub run : EvictionRun old words pairs new rest
     pub within : IsFalse (is_over new)
 
   -- the same, where want of memory ends it while the core is still over
-  pub record IsCutShort (old : Core T) (pairs : List (T × ℕ)) (new : Core T) : Type 0 where
-    pub run : EvictionRun old pairs new
+  pub record IsCutShort (old : Core T) (words : Stream) (pairs : List (T × ℕ)) (new : Core T) (rest : Stream) : Type 0 where
+    pub run : EvictionRun old words pairs new rest
     pub over : IsTrue (is_over new)
 
   -- of the rows of the one shard the longest front is kept that is within the limits: with one row more the core is over

@@ -4,6 +4,7 @@ use Rattle.lru_cores.specs.declared.calls.Call.{Call}
 use Rattle.lru_cores.specs.declared.calls.Call.TheVariants.{Admit, SetWeight, Remove, EvictToLimit}
 use Rattle.lru_cores.specs.declared.calls.Reply.{Reply}
 use Rattle.lru_cores.specs.declared.calls.Reply.TheVariants.{Shard, Inserted, Weight, Updated, Was, Evicted, Last}
+use Rattle.rand_core.specs.Stream.{Stream}
 use Rattle.lru_cores.specs.Core.{Core}
 use Rattle.lru_cores.specs.Calls.{Run}
 
@@ -43,6 +44,8 @@ module _ {T : Type 0} where
 
   -- a run of these calls, none of them refused, leads from the empty core with these limits to this core
   pub record LeadsTo (limit : ℕ) (watermark : Option ℕ) (calls : List (Call T)) (new : Core T) : Type 0 where
+    pub words : Stream
+    pub rest : Stream
     pub replies : List (Reply T)
-    pub run : Run (empty_core limit watermark) calls replies new
+    pub run : Run (empty_core limit watermark) words calls replies new rest
     pub granted : All IsGranted replies

@@ -1,7 +1,7 @@
 //! The calls of a core as values, and runs of them: what any list of calls answers and leaves.
 ghost use Rattle.std.specs.Prelude.{◌≡◌, ◌+◌, min, All, IfOk, OnErr};
 ghost use Rattle.lru_cores.specs.CoreCalls.{CoreIncrements, CoreUpdates};
-ghost use Rattle.lru_cores.specs.Calls.{IsAllowed, Replaces, Gives, Run};
+ghost use Rattle.lru_cores.specs.Calls.{IsAllowed, Overwrites, Gives, Run};
 
 use crate::lru_core::{EvictError, LruCore};
 use lru_shard::unit::{Cause, Refused};
@@ -116,7 +116,7 @@ pub fn answer<T: Drop + Clone, R: Rng, const N: usize>(
 ) -> Reply<T>
     requires clones { (d e : T) → T.is_clone d e → e ≡ d }
     requires allowed { IsAllowed N call }
-    ensures { Gives core.old call result core.new }
+    ensures { Gives core.old (R.stream rng.old) call result core.new (R.stream rng.new) }
 {
     match call {
         Call::Admit { key, data, weight } => Reply::Shard(core.admit(key, data, weight)),
@@ -179,7 +179,7 @@ fn update<T: Drop, const N: usize>(
     missing: T,
     delta: usize,
 ) -> Result<Option<usize>, Refused<Option<(T, usize)>>>
-    ensures { CoreUpdates (Replaces present delta) (λ made. made ≡ (missing, delta)) core.old key result core.new }
+    ensures { CoreUpdates (Overwrites present delta) (λ made. made ≡ (missing, delta)) core.old key result core.new }
 {
     core.update_or_admit(
         key,
@@ -204,8 +204,8 @@ pub fn run<T: Drop + Clone, R: Rng, const N: usize>(
 ) -> Result<Vec<Reply<T>>, AllocError>
     requires clones { (d e : T) → T.is_clone d e → e ≡ d }
     requires allowed { All (IsAllowed N) calls.items }
-    ensures ok { IfOk result (λ replies. Run core.old calls.items replies.items core.new) }
-    ensures err { OnErr result (core.new ≡ core.old) }
+    ensures ok { IfOk result (λ replies. Run core.old (R.stream rng.old) calls.items replies.items core.new (R.stream rng.new)) }
+    ensures err { OnErr result ((core.new ≡ core.old) × (rng.new ≡ rng.old)) }
 {
     let mut replies = Vec::with_capacity(alloc, calls.len())?;
     let mut rest = calls.into_iter();

@@ -1,22 +1,17 @@
 //! N shards under one limit on their weight, of one owner.
-ghost use Rattle.std.specs.Prelude.{◌≡◌, ℕ, ◌+◌, ◌%◌, ◌<◌, [], length, vec_len, slice_index_or, IfOk, IfErr, IfSome, IfNone, OnOk, Option, option_map, map, replicate};
+ghost use Rattle.std.specs.Prelude.{◌≡◌, ℕ, ◌+◌, ◌%◌, ◌<◌, ◌≤◌, [], length, Ok, vec_len, slice_index_or, IfOk, IfErr, IfSome, IfNone, OnOk, Option, option_map, map, replicate};
 ghost use Rattle.lru_shard.specs.Shard.{shard};
 ghost use Rattle.lru_cores.specs.Eviction.{IsVictim};
 ghost use Rattle.lru_cores.specs.Representation.Units.{lists_of};
 
 pub use crate::inclusion::inclusion_law;
+pub use lru_rules::eviction::EvictError;
+use lru_rules::eviction::{drawn_shards, place_after};
+use lru_rules::totals::Totals;
 use lru_shard::unit::{Cause, LruUnit, LruUnitIter, Refused};
-use rand::RngExt;
 use rand_core::Rng;
 use std::alloc::{AllocError, Global};
 use std::marker::Model;
-
-/// An `evict_to_limit` that a refused growth cut short: number 1, Memory.
-#[derive(Debug, Drop)]
-pub struct EvictError<T> {
-    /// The data and the weight of each row that was evicted, in order.
-    pub evicted: Vec<(T, usize)>,
-}
 
 /// N shards, each a list of rows, most recent first. A key's shard is the key modulo N.
 ///
@@ -25,8 +20,7 @@ pub struct EvictError<T> {
 #[derive(Drop)]
 pub struct LruCore<T, const N: usize> {
     units: Vec<LruUnit<T>>,
-    weight: usize,
-    len: usize,
+    totals: Totals,
     weight_limit: usize,
     watermark: Option<usize>,
     evicted_weight: usize,
@@ -50,7 +44,7 @@ impl<T, const N: usize> Model for LruCore<T, N> {
       evicted_len = c.evicted_len;
     } };
 
-    ghost invariant = { λ c. AreUnits N c.units.items c.weight c.len };
+    ghost invariant = { λ c. AreUnits N c.units.items c.totals.weight c.totals.len };
 }
 
 // The first unit that holds a row, from this one on and round the circle.
@@ -61,11 +55,7 @@ fn first_held<T>(units: &Vec<LruUnit<T>>, from: usize) -> Option<usize>
     ensures none { IfNone result ((k : ℕ) → k < length (lists_of units.now.items) → slice_index_or (lists_of units.now.items) ((from + k) % length (lists_of units.now.items)) [] ≡ []) }
 {
     for steps in 0..units.len() {
-        let at = if steps < units.len() - from {
-            from + steps
-        } else {
-            steps - (units.len() - from)
-        };
+        let at = place_after(from, steps, units.len());
         if units[at].len() > 0 {
             return Some(at);
         }
@@ -87,21 +77,6 @@ fn empty_units<T: Drop>(
         units.push(LruUnit::with_capacity(alloc, capacity, cap)?)?;
     }
     Ok(units)
-}
-
-// Two shards, drawn a first and b second. Where there is one shard, nothing is drawn.
-fn drawn_shards<R: Rng, const N: usize>(rng: &mut R) -> (usize, usize)
-    requires { 0 < N }
-    ensures a { result.0 < N }
-    ensures b { result.1 < N }
-    ensures undrawn { N ≡ 1 → rng.new ≡ rng.old }
-{
-    if N == 1 {
-        return (0, 0);
-    }
-    let a = rng.random_range(0..N);
-    let b = rng.random_range(0..N);
-    (a, b)
 }
 
 impl<T, const N: usize> LruCore<T, N> {
@@ -155,8 +130,7 @@ impl<T, const N: usize> LruCore<T, N> {
     {
         Ok(LruCore {
             units: empty_units(alloc, N, capacity, usize::MAX / N)?,
-            weight: 0,
-            len: 0,
+            totals: Totals { weight: 0, len: 0 },
             weight_limit,
             watermark,
             evicted_weight: 0,
@@ -177,14 +151,14 @@ impl<T, const N: usize> LruCore<T, N> {
     pub fn weight(&self) -> usize
         ensures { result ≡ core_weight self.now }
     {
-        self.weight
+        self.totals.weight
     }
 
     /// The number of all rows.
     pub fn len(&self) -> usize
         ensures { result ≡ core_len self.now }
     {
-        self.len
+        self.totals.len
     }
 
     /// The weight above which the core is over.
@@ -275,7 +249,8 @@ impl<T, const N: usize> LruCore<T, N> {
     where
         T: Clone,
         requires { (d e : T) → T.is_clone d e → e ≡ d }
-        ensures { IfOk result (λ found. found ≡ option_map pair_of (last_row (list_at self.now shard))) }
+        ensures ok { IfOk result (λ found. found ≡ option_map pair_of (last_row (list_at self.now shard))) }
+        ensures err { IfErr result (λ _. 0 < length (list_at self.now shard)) }
     {
         let _units = &self.units;
         if shard >= N {
@@ -291,7 +266,8 @@ impl<T, const N: usize> LruCore<T, N> {
     /// Makes room for `additional` more rows in a shard; past N it does nothing. Nothing else changes,
     /// also where it is refused.
     pub fn reserve_shard(&mut self, shard: usize, additional: usize) -> Result<(), AllocError>
-        ensures { self.new ≡ self.old }
+        ensures same { self.new ≡ self.old }
+        ensures past { N ≤ shard → result ≡ Ok tt }
     {
         if shard >= N {
             return Ok(());
@@ -303,20 +279,20 @@ impl<T, const N: usize> LruCore<T, N> {
     fn is_over(&self) -> bool
         ensures { result ≡ is_over self.now }
     {
-        self.weight > self.weight_limit
+        self.totals.weight > self.weight_limit
             || match self.watermark {
                 None => false,
-                Some(most) => self.len > most,
+                Some(most) => self.totals.len > most,
             }
     }
 }
 
 impl<T: Drop, const N: usize> LruCore<T, N> {
-    ghost use Rattle.std.specs.Prelude.{Ok};
     ghost use Rattle.lru_shard.specs.Row.{pair_of, row_of, is_held, without};
     ghost use Rattle.lru_shard.specs.Unit.{Updates, accessed};
     ghost use Rattle.lru_cores.specs.Core.{list_at, with_list, home};
-    ghost use Rattle.lru_cores.specs.CoreCalls.{CoreAdmits, CoreInsertsTail, CoreIncrements, CoreUpdates, CoreSetsWeight, promoted_past};
+    ghost use Rattle.lru_rules.specs.ShardCalls.{promoted_past};
+    ghost use Rattle.lru_cores.specs.CoreCalls.{CoreAdmits, CoreInsertsTail, CoreIncrements, CoreUpdates, CoreSetsWeight};
     ghost use Rattle.lru_cores.specs.Eviction.{EvictsFrom, EvictsWhereOver, EvictsToLimit, IsCutShort, KeepsLongestFront};
 
     /// Puts a row first in the shard of its key, in place of the key's, and answers that shard.
@@ -330,13 +306,10 @@ impl<T: Drop, const N: usize> LruCore<T, N> {
         let _units = &self.units;
         let shard = (key % N as u64) as usize;
         let unit = &mut self.units[shard];
-        let weight_before = unit.used_weight();
-        let len_before = unit.len();
+        let before = Totals::of(unit);
         let answer = unit.admit(key, data, weight.max(1));
-        let weight_after = unit.used_weight();
-        let len_after = unit.len();
-        self.weight = self.weight - weight_before + weight_after;
-        self.len = self.len - len_before + len_after;
+        let after = Totals::of(unit);
+        self.totals.change(before, after);
         if let Err(refused) = answer {
             return Err(refused);
         }
@@ -354,13 +327,10 @@ impl<T: Drop, const N: usize> LruCore<T, N> {
         let _units = &self.units;
         let shard = (key % N as u64) as usize;
         let unit = &mut self.units[shard];
-        let weight_before = unit.used_weight();
-        let len_before = unit.len();
+        let before = Totals::of(unit);
         let answer = unit.insert_tail(key, data, weight);
-        let weight_after = unit.used_weight();
-        let len_after = unit.len();
-        self.weight = self.weight - weight_before + weight_after;
-        self.len = self.len - len_before + len_after;
+        let after = Totals::of(unit);
+        self.totals.change(before, after);
         answer
     }
 
@@ -381,13 +351,10 @@ impl<T: Drop, const N: usize> LruCore<T, N> {
         let _units = &self.units;
         let shard = (key % N as u64) as usize;
         let unit = &mut self.units[shard];
-        let weight_before = unit.used_weight();
-        let len_before = unit.len();
+        let before = Totals::of(unit);
         let answer = unit.increment_weight(key, admit_data, delta, max_weight);
-        let weight_after = unit.used_weight();
-        let len_after = unit.len();
-        self.weight = self.weight - weight_before + weight_after;
-        self.len = self.len - len_before + len_after;
+        let after = Totals::of(unit);
+        self.totals.change(before, after);
         let (_, new_weight, _) = match answer {
             Ok(done) => done,
             Err(cause) => return Err(cause),
@@ -417,13 +384,10 @@ impl<T: Drop, const N: usize> LruCore<T, N> {
         let _units = &self.units;
         let shard = (key % N as u64) as usize;
         let unit = &mut self.units[shard];
-        let weight_before = unit.used_weight();
-        let len_before = unit.len();
+        let before = Totals::of(unit);
         let answer = unit.update_or_admit(key, update, admit_data);
-        let weight_after = unit.used_weight();
-        let len_after = unit.len();
-        self.weight = self.weight - weight_before + weight_after;
-        self.len = self.len - len_before + len_after;
+        let after = Totals::of(unit);
+        self.totals.change(before, after);
         let (was, _) = match answer {
             Ok(done) => done,
             Err(refused) => return Err(refused),
@@ -442,13 +406,10 @@ impl<T: Drop, const N: usize> LruCore<T, N> {
         let _units = &self.units;
         let shard = (key % N as u64) as usize;
         let unit = &mut self.units[shard];
-        let weight_before = unit.used_weight();
-        let len_before = unit.len();
+        let before = Totals::of(unit);
         let answer = unit.set_weight(key, weight.max(1));
-        let weight_after = unit.used_weight();
-        let len_after = unit.len();
-        self.weight = self.weight - weight_before + weight_after;
-        self.len = self.len - len_before + len_after;
+        let after = Totals::of(unit);
+        self.totals.change(before, after);
         answer
     }
 
@@ -487,13 +448,10 @@ impl<T: Drop, const N: usize> LruCore<T, N> {
         let _units = &self.units;
         let shard = (key % N as u64) as usize;
         let unit = &mut self.units[shard];
-        let weight_before = unit.used_weight();
-        let len_before = unit.len();
+        let before = Totals::of(unit);
         let answer = unit.remove(key);
-        let weight_after = unit.used_weight();
-        let len_after = unit.len();
-        self.weight = self.weight - weight_before + weight_after;
-        self.len = self.len - len_before + len_after;
+        let after = Totals::of(unit);
+        self.totals.change(before, after);
         answer
     }
 
@@ -506,8 +464,8 @@ impl<T: Drop, const N: usize> LruCore<T, N> {
         let Some((data, weight)) = unit.evict() else {
             return None;
         };
-        self.weight -= weight;
-        self.len -= 1;
+        self.totals.weight -= weight;
+        self.totals.len -= 1;
         self.evicted_weight = self.evicted_weight.wrapping_add(weight);
         self.evicted_len = self.evicted_len.wrapping_add(1);
         Some((data, weight))
@@ -556,8 +514,8 @@ impl<T: Drop, const N: usize> LruCore<T, N> {
         alloc: Global,
         rng: &mut R,
     ) -> Result<Vec<(T, usize)>, EvictError<T>>
-        ensures ok { IfOk result (λ pairs. EvictsToLimit self.old pairs.items self.new) }
-        ensures err { IfErr result (λ stopped. IsCutShort self.old stopped.evicted.items self.new) }
+        ensures ok { IfOk result (λ pairs. EvictsToLimit self.old (R.stream rng.old) pairs.items self.new (R.stream rng.new)) }
+        ensures err { IfErr result (λ stopped. IsCutShort self.old (R.stream rng.old) stopped.evicted.items self.new (R.stream rng.new)) }
         ensures longest { N ≡ 1 → OnOk result (KeepsLongestFront self.old self.new) }
         ensures undrawn { N ≡ 1 → rng.new ≡ rng.old }
     {

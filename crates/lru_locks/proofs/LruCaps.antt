@@ -1,12 +1,12 @@
 -- No row of a shard weighs more than the shard may.
-use Rattle.std.proofs.Common.{◌≡◌, ℕ, ◌+◌, ◌≤◌, Some, None, refl, sym, ap, subst, arith}
-use Rattle.std.specs.Prelude.{Option, option_map, IfSome, IfOk, OnOk, Result, Ok, Err, List, Bool}
+use Rattle.std.proofs.Common.{◌≡◌, ℕ, ◌≤◌, Some, None, refl, sym, ap, subst, arith}
+use Rattle.std.specs.Prelude.{Option, option_map, IfSome, IfOk, OnOk, Result, Ok, Err, Bool}
 use Rattle.lru_shard.specs.declared.unit.Refused.{Refused}
 use Rattle.lru_shard.specs.declared.unit.Cause.{Cause}
 use Rattle.lru_shard.specs.Row.{Row, row, row_of, pair_of, last_row, weight_of, first, without}
 use Rattle.lru_shard.specs.Shard.{Shard, shard, IsShard}
 use Rattle.lru_shard.specs.Unit.{Admits, IncrementsRow, raised, started}
-use Rattle.lru_locks.specs.LruCalls.{Increments}
+use Rattle.lru_rules.specs.ShardCalls.{IncrementsTo}
 use Rattle.lru_shard.proofs.Rows.{weight-cons}
 use Rattle.lru_shard.proofs.Edits.{at_row, weight-without}
 use Rattle.lru_shard.proofs.LastRows.{weight-without_last}
@@ -50,6 +50,6 @@ module _ {T : Type 0} where
   light_raised Makes a k delta most (Some r) answer b h valid = omega (arith, h.0.1.0, light_first a b (row k r.value (raised r.weight delta most)) h.1.left valid)
   light_raised Makes a k delta most None answer b h valid = omega (arith, h.0.1.0, light_first a b (row k h.1.0 (started delta most)) h.1.1.1.left valid)
 
-  pub increment_light : (Makes : T → Type 0) (a : Shard T) (k delta : ℕ) (most : Option ℕ) (answer : Result ℕ Cause) (b : Shard T) → Increments Makes a k delta most answer b → IsShard b → IfOk answer (λ w. w ≤ b.cap)
+  pub increment_light : (Makes : T → Type 0) (a : Shard T) (k delta : ℕ) (most : Option ℕ) (answer : Result ℕ Cause) (b : Shard T) → IncrementsTo Makes a k delta most answer b → IsShard b → IfOk answer (λ w. w ≤ b.cap)
   increment_light Makes a k delta most (Ok w) b h valid = light_raised Makes a k delta most (row_of a.rows k) (h.0, w, h.1.0) b h.1.1 valid
   increment_light Makes a k delta most (Err cause) b h valid = tt

@@ -1,11 +1,11 @@
 //! N shards under one limit on their weight, shared by threads: each shard behind a lock of its own.
 ghost use Rattle.std.specs.Prelude.{◌≡◌, ℕ, ◌+◌, ◌-◌, ◌%◌, ◌^◌, ◌<◌, ◌≤◌, min, max, not, length, vec_len, IfOk, IfErr, IfSome, OnOk, Ok, None, All};
-ghost use Rattle.lru_cores.specs.Core.{cap_of};
+ghost use Rattle.lru_rules.specs.Limits.{cap_of};
 
-use lru_cores::lru_core::EvictError;
-use lru_shard::unit::{Cause, LruUnit, Refused};
 use crossbeam_utils::CachePadded;
-use rand::RngExt;
+use lru_rules::eviction::{EvictError, drawn_shards, place_after};
+use lru_rules::totals::Totals;
+use lru_shard::unit::{Cause, LruUnit, Refused};
 use rand_core::Rng;
 use std::alloc::{AllocError, Global};
 use std::sync::atomic::{AtomicUsize, Ordering};
@@ -23,26 +23,6 @@ fn shift(counter: &AtomicUsize, before: usize, after: usize) {
     if before != after {
         counter.fetch_add(growth(before, after), Ordering::SeqCst);
     }
-}
-
-// The place that lies so many steps on, in a circle of `count` places.
-fn place_after(from: usize, steps: usize, count: usize) -> usize
-    requires from { from < count }
-    requires steps { steps < count }
-    ensures { result ≡ (from + steps) % count }
-{
-    if steps < count - from {
-        from + steps
-    } else {
-        steps - (count - from)
-    }
-}
-
-// The two numbers of a shard that the counters sum up.
-#[derive(Clone, Copy)]
-struct Totals {
-    weight: usize,
-    len: usize,
 }
 
 // What lies behind a shard's lock. Its calls are all that is done under the lock, on the unit that it lends.
@@ -77,10 +57,7 @@ impl<T, const N: usize> Locked<T, N> {
         ensures len { result.len ≡ length self.now.unit.rows }
         ensures light { result.weight ≤ cap_of N }
     {
-        Totals {
-            weight: self.unit.used_weight(),
-            len: self.unit.len(),
-        }
+        Totals::of(&self.unit)
     }
 
     fn holds(&self, key: u64) -> bool
@@ -139,13 +116,13 @@ impl<T: Drop, const N: usize> Locked<T, N> {
     ghost use Rattle.std.specs.Prelude.{option_map};
     ghost use Rattle.lru_shard.specs.Row.{pair_of, row_of, is_held, without, last_row, without_last};
     ghost use Rattle.lru_shard.specs.Shard.{shard};
-    ghost use Rattle.lru_shard.specs.Unit.{Admits, InsertsTail, SetsWeight, Updates, accessed};
-    ghost use Rattle.lru_locks.specs.LruCalls.{Increments, Replaces};
+    ghost use Rattle.lru_shard.specs.Unit.{InsertsTail, Updates, accessed};
+    ghost use Rattle.lru_rules.specs.ShardCalls.{AdmitsRaised, SetsRaised, IncrementsTo, UpdatesFrom};
 
     // A weight of 0 counts as 1.
     #[tactic(auto, using(crate::proofs::LruCaps::admit_light))]
     fn admit(&mut self, key: u64, data: T, weight: usize) -> Result<usize, Refused<T>>
-        ensures row { Admits self.old.unit key «data» (max weight 1) result self.new.unit }
+        ensures row { AdmitsRaised self.old.unit key «data» weight result self.new.unit }
         ensures light { OnOk result (max weight 1 ≤ cap_of N) }
     {
         let answer = self.unit.admit(key, data, weight.max(1));
@@ -169,7 +146,7 @@ impl<T: Drop, const N: usize> Locked<T, N> {
         max_weight: Option<usize>,
     ) -> Result<usize, Cause>
         requires { F.IsAlwaysCallable admit_data }
-        ensures row { Increments (F.post admit_data) self.old.unit key delta max_weight result self.new.unit }
+        ensures row { IncrementsTo (F.post admit_data) self.old.unit key delta max_weight result self.new.unit }
         ensures light { IfOk result (λ weight. weight ≤ cap_of N) }
     {
         let answer = self
@@ -192,7 +169,7 @@ impl<T: Drop, const N: usize> Locked<T, N> {
         A: FnOnce() -> (T, usize) + Drop,
         requires update { U.IsAlwaysCallable update }
         requires admit_data { A.IsAlwaysCallable admit_data }
-        ensures { Replaces (Updates (U.post update)) (A.post admit_data) self.old.unit key result self.new.unit }
+        ensures { UpdatesFrom (Updates (U.post update)) (A.post admit_data) self.old.unit key result self.new.unit }
     {
         let (was, _) = self.unit.update_or_admit(key, update, admit_data)?;
         Ok(was)
@@ -200,7 +177,7 @@ impl<T: Drop, const N: usize> Locked<T, N> {
 
     // A weight of 0 counts as 1.
     fn set_weight(&mut self, key: u64, weight: usize) -> Result<Option<usize>, Cause>
-        ensures { SetsWeight self.old.unit key (max weight 1) result self.new.unit }
+        ensures { SetsRaised self.old.unit key weight result self.new.unit }
     {
         self.unit.set_weight(key, weight.max(1))
     }
@@ -311,7 +288,7 @@ struct Excess {
 }
 
 impl Excess {
-    ghost use Rattle.lru_locks.specs.LruCalls.{is_past};
+    ghost use Rattle.lru_rules.specs.Limits.{is_past};
 
     // Whether what is left of the values first read and these values are both past one limit.
     fn is_past(&self, weight: usize, len: usize) -> bool
@@ -498,11 +475,7 @@ impl<T, const N: usize> Lru<T, N> {
         ensures undrawn { N ≡ 1 → rng.new ≡ rng.old }
     {
         let _units = &self.units;
-        if N == 1 {
-            return 0;
-        }
-        let a = rng.random_range(0..N);
-        let b = rng.random_range(0..N);
+        let (a, b) = drawn_shards::<R, N>(rng);
         if self.shard_len(a) >= self.shard_len(b) {
             a
         } else {

@@ -7,4 +7,7 @@ pub use Rattle.lru_cores.specs.CoreCalls
 pub use Rattle.lru_cores.specs.Eviction
 pub use Rattle.lru_cores.specs.Calls
 pub use Rattle.lru_cores.specs.Inclusion
+pub use Rattle.lru_rules.specs.Limits
+pub use Rattle.lru_rules.specs.Draws
+pub use Rattle.lru_rules.specs.ShardCalls
 pub use Rattle.lru_locks.specs.LruCalls

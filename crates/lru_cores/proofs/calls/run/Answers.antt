@@ -8,7 +8,7 @@ use Rattle.lru_cores.proofs.calls.run.Goals as goal
 
 pub loop-call-init : goal.loop-call-init
 loop-call-init g c = (
-  ([], (c.into_iter-rest.ensures.rest, subst (λ rs. Run c.args.core.now [] rs c.args.core.now) (sym c.in_ok-replies.ensures.items) refl)),
+  ([], (c.into_iter-rest.ensures.rest, subst (λ rs. Run c.args.core.now (g.R.Rng.stream c.args.rng.now) [] rs c.args.core.now (g.R.Rng.stream c.args.rng.now)) (sym c.in_ok-replies.ensures.items) (refl, refl))),
   (
     subst (All (IsAllowed g.row.N)) (sym c.into_iter-rest.ensures.rest) c.requires.allowed,
     (
@@ -29,8 +29,8 @@ loop-call-preserved g c =
         inv.0.0 ++ c.in-Some.call ∷ [],
         (
           append_assoc inv.0.0 (c.in-Some.call ∷ []) (into_iter_items c.next.new.self) ∙ ap (λ xs. inv.0.0 ++ xs) (sym items) ∙ inv.0.1.0,
-          subst (λ rs. Run c.args.core.now (inv.0.0 ++ c.in-Some.call ∷ []) rs c.answer.new.core) (sym c.in-Ok.ensures.items)
-              (run_on c.args.core.now inv.0.0 c.loop-call.replies.items c.loop-call.core c.in-Some.call c.answer.result c.answer.new.core inv.0.1.1 c.answer.ensures),
+          subst (λ rs. Run c.args.core.now (g.R.Rng.stream c.args.rng.now) (inv.0.0 ++ c.in-Some.call ∷ []) rs c.answer.new.core (g.R.Rng.stream c.answer.new.rng)) (sym c.in-Ok.ensures.items)
+              (run_on c.args.core.now (g.R.Rng.stream c.args.rng.now) inv.0.0 c.loop-call.replies.items c.loop-call.core (g.R.Rng.stream c.loop-call.rng) c.in-Some.call c.answer.result c.answer.new.core (g.R.Rng.stream c.answer.new.rng) inv.0.1.1 c.answer.ensures),
         ),
       ),
       (
@@ -45,4 +45,4 @@ loop-call-preserved g c =
 pub returns-clause-ok : goal.returns-clause-ok
 returns-clause-ok g c =
     let inv = c.loop-call.invariant in
-    subst (λ cs. Run c.args.core.now cs c.loop-call.replies.items c.loop-call.core) (sym (append-nil inv.0.0) ∙ ap (λ xs. inv.0.0 ++ xs) (sym (nil_from_length (into_iter_items c.loop-call.rest) (omega (arith, inv.1.1.1, c.in_default.ensures.cases.0)))) ∙ inv.0.1.0) inv.0.1.1
+    subst (λ cs. Run c.args.core.now (g.R.Rng.stream c.args.rng.now) cs c.loop-call.replies.items c.loop-call.core (g.R.Rng.stream c.loop-call.rng)) (sym (append-nil inv.0.0) ∙ ap (λ xs. inv.0.0 ++ xs) (sym (nil_from_length (into_iter_items c.loop-call.rest) (omega (arith, inv.1.1.1, c.in_default.ensures.cases.0)))) ∙ inv.0.1.0) inv.0.1.1

@@ -8,7 +8,7 @@ use Rattle.lru_cores.proofs.calls.run.Given as goal
 -- the calls done so far are a run, and each reply that is still to come has its room
 abbrev pub invariant-loop-call : goal.invariant-loop-call
 invariant-loop-call g l =
-    ((calls : List (Call g.row.T.Denot)) × ((calls ++ into_iter_items l.rest ≡ l.fn.calls.items) × Run l.fn.core calls l.replies.items l.core))
+    ((calls : List (Call g.row.T.Denot)) × ((calls ++ into_iter_items l.rest ≡ l.fn.calls.items) × Run l.fn.core (g.R.Rng.stream l.fn.rng) calls l.replies.items l.core (g.R.Rng.stream l.rng)))
     × (All (IsAllowed g.row.N) (into_iter_items l.rest)
     × ((vec_len l.replies + length (into_iter_items l.rest) ≤ vec_capacity l.replies) × (length (into_iter_items l.rest) ≡ into_iter_len l.rest)))
 

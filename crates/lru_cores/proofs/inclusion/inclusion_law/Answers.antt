@@ -10,7 +10,9 @@ use Rattle.lru_cores.specs.declared.calls.Reply.{Reply}
 use Rattle.lru_cores.specs.declared.calls.Reply.TheVariants.{Shard, Was, Left, Evicted}
 use Rattle.lru_shard.specs.Row.{Row, row, weight_of, first, without, with_weight}
 use Rattle.lru_cores.specs.Core.{Core, list_at, with_list, home}
-use Rattle.lru_cores.specs.Eviction.{is_over, is_above, EvictionRun, KeepsLongestFront}
+use Rattle.rand_core.specs.Stream.{Stream}
+use Rattle.lru_rules.specs.Limits.{is_above}
+use Rattle.lru_cores.specs.Eviction.{is_over, EvictionRun, KeepsLongestFront}
 use Rattle.lru_cores.specs.Calls.{Gives, Run}
 use Rattle.lru_cores.specs.Inclusion.{IsFrontOf, IsNoHigher, IsInclusionCall, IsGranted}
 use Rattle.lru_cores.proofs.EvictionRuns.{take_take, run_long, longest_front}
@@ -95,34 +97,34 @@ module _ {T : Type 0} where
         ap (λ (c : Core T). list_at c 0) at ∙ get_or-set_same old.lists 0 (edit (list_at old 0)) [] (omega (arith, one)),
       )
 
-  run_keeps : (old : Core T) (pairs : List (T × ℕ)) (new : Core T) → EvictionRun old pairs new → Keeps old new
-  run_keeps old [] new run = subst (λ c. Keeps old c) (sym run) (record { long = refl; limit = refl; watermark = refl })
-  run_keeps old (p ∷ ps) new run =
-      let rest = run_keeps run.1.1.1.0 ps new run.1.1.1.1.1 in
-      let left = run.1.1.1.1.0.left in
+  run_keeps : (old : Core T) (words : Stream) (pairs : List (T × ℕ)) (new : Core T) (rest : Stream) → EvictionRun old words pairs new rest → Keeps old new
+  run_keeps old words [] new rest run = subst (λ c. Keeps old c) (sym run.0) (record { long = refl; limit = refl; watermark = refl })
+  run_keeps old words (p ∷ ps) new rest run =
+      let after = run_keeps run.0 _ ps new rest run.1.1 in
+      let left = run.1.0.left in
       record {
-        long = run_long old (p ∷ ps) new run;
-        limit = rest.limit ∙ ap (λ (c : Core T). c.weight_limit) left;
-        watermark = rest.watermark ∙ ap (λ (c : Core T). c.watermark) left;
+        long = run_long old words (p ∷ ps) new rest run;
+        limit = after.limit ∙ ap (λ (c : Core T). c.weight_limit) left;
+        watermark = after.watermark ∙ ap (λ (c : Core T). c.watermark) left;
       }
 
-  moves : (old : Core T) (call : Call T) (reply : Reply T) (new : Core T) → length old.lists ≡ 1 → IsInclusionCall call → IsGranted reply → Gives old call reply new → Keeps old new × Moves call old new
-  moves old (Admit k d w) (Shard (Ok s)) new one is granted h =
-      let acts = h.1.1 in
+  moves : (old : Core T) (words : Stream) (call : Call T) (reply : Reply T) (new : Core T) (rest : Stream) → length old.lists ≡ 1 → IsInclusionCall call → IsGranted reply → Gives old words call reply new rest → Keeps old new × Moves call old new
+  moves old words (Admit k d w) (Shard (Ok s)) new rest one is granted h =
+      let acts = h.0.1.1 in
       keyed old k new (λ rows. first rows (row k d (max w 1))) one (acts.left ∙ ap (λ z. with_list old (home old k) z.rows) acts.acts.1.left)
-  moves old (Admit k d w) (Shard (Err r)) new one is granted h = absurd (false≢true granted)
-  moves old (Admit k d w) _ new one is granted h = absurd h
-  moves old (SetWeight k w) (Was (Ok was)) new one is granted h =
-      keyed old k new (λ rows. with_weight rows k (max w 1)) one (h.left ∙ ap (λ z. with_list old (home old k) z.rows) h.acts.1.left)
-  moves old (SetWeight k w) (Was (Err cause)) new one is granted h = absurd (false≢true granted)
-  moves old (SetWeight k w) _ new one is granted h = absurd h
-  moves old (Remove k) (Left answer) new one is granted h = keyed old k new (λ rows. without rows k) one h.1
-  moves old (Remove k) _ new one is granted h = absurd h
-  moves old EvictToLimit (Evicted (Ok pairs)) new one is granted h =
-      (run_keeps old pairs.items new h.run, (longest_front old pairs.items new one h.run, h.within))
-  moves old EvictToLimit (Evicted (Err stopped)) new one is granted h = absurd (false≢true granted)
-  moves old EvictToLimit _ new one is granted h = absurd h
-  moves old _ _ new one is granted h = absurd is
+  moves old words (Admit k d w) (Shard (Err r)) new rest one is granted h = absurd (false≢true granted)
+  moves old words (Admit k d w) _ new rest one is granted h = absurd h.0
+  moves old words (SetWeight k w) (Was (Ok was)) new rest one is granted h =
+      keyed old k new (λ rows. with_weight rows k (max w 1)) one (h.0.left ∙ ap (λ z. with_list old (home old k) z.rows) h.0.acts.1.left)
+  moves old words (SetWeight k w) (Was (Err cause)) new rest one is granted h = absurd (false≢true granted)
+  moves old words (SetWeight k w) _ new rest one is granted h = absurd h.0
+  moves old words (Remove k) (Left answer) new rest one is granted h = keyed old k new (λ rows. without rows k) one h.0.1
+  moves old words (Remove k) _ new rest one is granted h = absurd h.0
+  moves old words EvictToLimit (Evicted (Ok pairs)) new rest one is granted h =
+      (run_keeps old words pairs.items new rest h.run, (longest_front old words pairs.items new rest one h.run, h.within))
+  moves old words EvictToLimit (Evicted (Err stopped)) new rest one is granted h = absurd (false≢true granted)
+  moves old words EvictToLimit _ new rest one is granted h = absurd h
+  moves old words _ _ new rest one is granted h = absurd is
 
   -- two cores of one shard: the limits of the first are no greater, and its rows are a front of the second's
   record Includes (a b : Core T) : Type 0 where
@@ -161,31 +163,31 @@ module _ {T : Type 0} where
   moved_front _ a b c d is i keeps m n = absurd is
 
   -- one call of both
-  includes_more : (call : Call T) (r s : Reply T) (a b c d : Core T) → IsInclusionCall call → IsGranted r → IsGranted s → Gives a call r c → Gives b call s d → Includes a b → Includes c d
-  includes_more call r s a b c d is granted_r granted_s gives_r gives_s i =
-      let m = moves a call r c i.one_a is granted_r gives_r in
-      let n = moves b call s d i.one_b is granted_s gives_s in
+  includes_more : (call : Call T) (r s : Reply T) (u v x y : Stream) (a b c d : Core T) → IsInclusionCall call → IsGranted r → IsGranted s → Gives a u call r c x → Gives b v call s d y → Includes a b → Includes c d
+  includes_more call r s u v x y a b c d is granted_r granted_s gives_r gives_s i =
+      let m = moves a u call r c x i.one_a is granted_r gives_r in
+      let n = moves b v call s d y i.one_b is granted_s gives_s in
       record {
         one_a = m.0.long ∙ i.one_a;
         one_b = n.0.long ∙ i.one_b;
         limit = omega (arith, m.0.limit, n.0.limit, i.limit);
-        watermark = subst (λ x. IsNoHigher x d.watermark) (sym m.0.watermark) (subst (λ y. IsNoHigher a.watermark y) (sym n.0.watermark) i.watermark);
+        watermark = subst (λ l. IsNoHigher l d.watermark) (sym m.0.watermark) (subst (λ h. IsNoHigher a.watermark h) (sym n.0.watermark) i.watermark);
         front = moved_front call a b c d is i m.0 m.1 n.1;
       }
 
-  includes_all : (calls : List (Call T)) (rs ss : List (Reply T)) (a b c d : Core T) → All IsInclusionCall calls → All IsGranted rs → All IsGranted ss → Run a calls rs c → Run b calls ss d → Includes a b → Includes c d
-  includes_all [] [] [] a b c d is granted_r granted_s run_r run_s i = subst (λ x. Includes x d) (sym run_r) (subst (λ y. Includes a y) (sym run_s) i)
-  includes_all [] (r ∷ rs) ss a b c d is granted_r granted_s run_r run_s i = absurd run_r
-  includes_all [] [] (s ∷ ss) a b c d is granted_r granted_s run_r run_s i = absurd run_s
-  includes_all (call ∷ calls) [] ss a b c d is granted_r granted_s run_r run_s i = absurd run_r
-  includes_all (call ∷ calls) (r ∷ rs) [] a b c d is granted_r granted_s run_r run_s i = absurd run_s
-  includes_all (call ∷ calls) (r ∷ rs) (s ∷ ss) a b c d is granted_r granted_s run_r run_s i =
-      includes_all calls rs ss run_r.0 run_s.0 c d
-      (all_rest IsInclusionCall call calls is) (all_rest IsGranted r rs granted_r) (all_rest IsGranted s ss granted_s) run_r.1.1 run_s.1.1
-      (includes_more call r s a b run_r.0 run_s.0
-      (all_first IsInclusionCall call calls is) (all_first IsGranted r rs granted_r) (all_first IsGranted s ss granted_s) run_r.1.0 run_s.1.0 i)
+  includes_all : (calls : List (Call T)) (rs ss : List (Reply T)) (u v x y : Stream) (a b c d : Core T) → All IsInclusionCall calls → All IsGranted rs → All IsGranted ss → Run a u calls rs c x → Run b v calls ss d y → Includes a b → Includes c d
+  includes_all [] [] [] u v x y a b c d is granted_r granted_s run_r run_s i = subst (λ z. Includes z d) (sym run_r.0) (subst (λ z. Includes a z) (sym run_s.0) i)
+  includes_all [] (r ∷ rs) ss u v x y a b c d is granted_r granted_s run_r run_s i = absurd run_r
+  includes_all [] [] (s ∷ ss) u v x y a b c d is granted_r granted_s run_r run_s i = absurd run_s
+  includes_all (call ∷ calls) [] ss u v x y a b c d is granted_r granted_s run_r run_s i = absurd run_r
+  includes_all (call ∷ calls) (r ∷ rs) [] u v x y a b c d is granted_r granted_s run_r run_s i = absurd run_s
+  includes_all (call ∷ calls) (r ∷ rs) (s ∷ ss) u v x y a b c d is granted_r granted_s run_r run_s i =
+      includes_all calls rs ss run_r.1.0 run_s.1.0 x y run_r.0 run_s.0 c d
+      (all_rest IsInclusionCall call calls is) (all_rest IsGranted r rs granted_r) (all_rest IsGranted s ss granted_s) run_r.1.1.1 run_s.1.1.1
+      (includes_more call r s u v run_r.1.0 run_s.1.0 a b run_r.0 run_s.0
+      (all_first IsInclusionCall call calls is) (all_first IsGranted r rs granted_r) (all_first IsGranted s ss granted_s) run_r.1.1.0 run_s.1.1.0 i)
 
 pub returns : goal.returns
 returns g c calls limit greater watermark higher small large is le no_higher a b =
-    (includes_all calls a.replies b.replies _ _ small large is a.granted b.granted a.run b.run
+    (includes_all calls a.replies b.replies a.words b.words a.rest b.rest _ _ small large is a.granted b.granted a.run b.run
     (record { one_a = refl; one_b = refl; limit = omega arith; watermark = no_higher; front = ([], refl) })).front

@@ -25,8 +25,8 @@ returns g c =
     let i = c.self.inside in
     let state = core (lists_of i.units.items) i.weight_limit i.watermark i.evicted_weight i.evicted_len in
     let over : is_over c.args.self.now ≡ true = sym c.is_over.ensures ∙ c.if-not-is_over.false in
-    let at_b = list_is g.row.N i.units.items i.weight i.len c.self.invariant c.args.b (omega (arith, c.requires.b)) c.index.result.now c.index.ensures in
-    let at_a = list_is g.row.N i.units.items i.weight i.len c.self.invariant c.args.a (omega (arith, c.requires.a)) c.index-2.result.now c.index-2.ensures in
+    let at_b = list_is g.row.N i.units.items i.totals.weight i.totals.len c.self.invariant c.args.b (omega (arith, c.requires.b)) c.index.result.now c.index.ensures in
+    let at_a = list_is g.row.N i.units.items i.totals.weight i.totals.len c.self.invariant c.args.a (omega (arith, c.requires.a)) c.index-2.result.now c.index-2.ensures in
     let from : c.if-len.start ≡ start state c.args.a c.args.b = elim c.if-len.branch [
       | then-len w ↦ w.start-is ∙ sym (ap (λ b. cond b c.args.a c.args.b) (le-leb (length (get_or (lists_of i.units.items) c.args.b [])) (length (get_or (lists_of i.units.items) c.args.a [])) (omega (arith, ap length at_a, ap length at_b))))
       | else-len w ↦ w.start-is ∙ sym (ap (λ b. cond b c.args.a c.args.b) (lt-leb (length (get_or (lists_of i.units.items) c.args.b [])) (length (get_or (lists_of i.units.items) c.args.a [])) (omega (arith, ap length at_a, ap length at_b))))

@@ -8,4 +8,4 @@ pub returns : goal.returns
 returns g c =
     let i = c.self.inside in
     let lt : c.args.key % g.row.N < g.row.N = omega (arith, c.self.invariant.some) in
-    rw (← c.self.view_is) (c.peek_weight.ensures ∙ sym (ap (λ rows. option_map (λ r. r.weight) (row_of rows c.args.key)) (home_list g.row.N i.units.items i.weight i.len c.self.invariant (c.args.key % g.row.N) lt c.index.result.now c.index.ensures c.args.key refl)))
+    rw (← c.self.view_is) (c.peek_weight.ensures ∙ sym (ap (λ rows. option_map (λ r. r.weight) (row_of rows c.args.key)) (home_list g.row.N i.units.items i.totals.weight i.totals.len c.self.invariant (c.args.key % g.row.N) lt c.index.result.now c.index.ensures c.args.key refl)))

@@ -5,31 +5,31 @@ use Rattle.lru_cores.proofs.Units.{fits, kept_by, acts}
 use Rattle.lru_shard.proofs.EditsOf.{edits_set}
 use Rattle.lru_cores.proofs.lru_core.LruCore.set_weight.Goals as goal
 
-pub overflow_add-self : goal.overflow_add-self
-overflow_add-self g c =
+pub change-requires-clause-weight_fits : goal.change-requires-clause-weight_fits
+change-requires-clause-weight_fits g c =
     let i = c.self.inside in
     let lt : c.args.key % g.row.N < g.row.N = omega (arith, c.self.invariant.some) in
     let edit = edits_set c.index_mut-unit.result.now c.args.key c.max.result c.set_weight-answer.result c.set_weight-answer.new.self c.set_weight-answer.ensures in
-    omega (arith, (fits g.row.N i.units.items i.weight i.len c.self.invariant (c.args.key % g.row.N) lt c.index_mut-unit.result.now c.index_mut-unit.ensures.value c.args.key refl c.set_weight-answer.new.self c.len-len_after.ensures.valid edit).0, c.used_weight-weight_before.ensures.value, c.used_weight-weight_after.ensures.value)
+    omega (arith, (fits g.row.N i.units.items i.totals.weight i.totals.len c.self.invariant (c.args.key % g.row.N) lt c.index_mut-unit.result.now c.index_mut-unit.ensures.value c.args.key refl c.set_weight-answer.new.self c.of-after.ensures.valid edit).0, c.of-before.ensures.weight, c.of-after.ensures.weight)
 
-pub overflow_add-self-2 : goal.overflow_add-self-2
-overflow_add-self-2 g c =
+pub change-requires-clause-len_fits : goal.change-requires-clause-len_fits
+change-requires-clause-len_fits g c =
     let i = c.self.inside in
     let lt : c.args.key % g.row.N < g.row.N = omega (arith, c.self.invariant.some) in
     let edit = edits_set c.index_mut-unit.result.now c.args.key c.max.result c.set_weight-answer.result c.set_weight-answer.new.self c.set_weight-answer.ensures in
-    omega (arith, (fits g.row.N i.units.items i.weight i.len c.self.invariant (c.args.key % g.row.N) lt c.index_mut-unit.result.now c.index_mut-unit.ensures.value c.args.key refl c.set_weight-answer.new.self c.len-len_after.ensures.valid edit).1, c.len-len_before.ensures.value, c.len-len_after.ensures.value)
+    omega (arith, (fits g.row.N i.units.items i.totals.weight i.totals.len c.self.invariant (c.args.key % g.row.N) lt c.index_mut-unit.result.now c.index_mut-unit.ensures.value c.args.key refl c.set_weight-answer.new.self c.of-after.ensures.valid edit).1, c.of-before.ensures.len, c.of-after.ensures.len)
 
 pub invariant_of-self : goal.invariant_of-self
 invariant_of-self g c =
     let i = c.self.inside in
     let lt : c.args.key % g.row.N < g.row.N = omega (arith, c.self.invariant.some) in
     let edit = edits_set c.index_mut-unit.result.now c.args.key c.max.result c.set_weight-answer.result c.set_weight-answer.new.self c.set_weight-answer.ensures in
-    kept_by g.row.N i.units.items i.weight i.len c.self.invariant (c.args.key % g.row.N) lt c.index_mut-unit.result.now c.index_mut-unit.ensures.value c.args.key refl c.set_weight-answer.new.self c.len-len_after.ensures.valid edit c.used_weight-weight_before.result c.len-len_before.result c.used_weight-weight_after.result c.len-len_after.result c.used_weight-weight_before.ensures.value c.len-len_before.ensures.value c.used_weight-weight_after.ensures.value c.len-len_after.ensures.value
+    kept_by g.row.N i.units.items i.totals.weight i.totals.len c.self.invariant (c.args.key % g.row.N) lt c.index_mut-unit.result.now c.index_mut-unit.ensures.value c.args.key refl c.set_weight-answer.new.self c.of-after.ensures.valid edit c.of-before.result.weight c.of-before.result.len c.of-after.result.weight c.of-after.result.len c.change.new.self.weight c.change.new.self.len c.of-before.ensures.weight c.of-before.ensures.len c.of-after.ensures.weight c.of-after.ensures.len c.change.ensures.weight c.change.ensures.len
 
 pub returns : goal.returns
 returns g c =
     let i = c.self.inside in
     let lt : c.args.key % g.row.N < g.row.N = omega (arith, c.self.invariant.some) in
     let edit = edits_set c.index_mut-unit.result.now c.args.key c.max.result c.set_weight-answer.result c.set_weight-answer.new.self c.set_weight-answer.ensures in
-    rw (← c.self.view_is) (acts g.row.N i.units.items i.weight i.len c.self.invariant (c.args.key % g.row.N) lt c.index_mut-unit.result.now c.index_mut-unit.ensures.value c.args.key refl c.set_weight-answer.new.self c.len-len_after.ensures.valid edit (λ a b. SetsWeight a c.args.key (max c.args.weight 1) c.set_weight-answer.result b)
+    rw (← c.self.view_is) (acts g.row.N i.units.items i.totals.weight i.totals.len c.self.invariant (c.args.key % g.row.N) lt c.index_mut-unit.result.now c.index_mut-unit.ensures.value c.args.key refl c.set_weight-answer.new.self c.of-after.ensures.valid edit (λ a b. SetsWeight a c.args.key (max c.args.weight 1) c.set_weight-answer.result b)
     (subst (λ w. SetsWeight c.index_mut-unit.result.now c.args.key w c.set_weight-answer.result c.set_weight-answer.new.self) c.max.ensures c.set_weight-answer.ensures) i.weight_limit i.watermark i.evicted_weight i.evicted_len)

@@ -1,6 +1,6 @@
 use Rattle.std.proofs.Common.{◌≡◌, ◌≤◌}
 use Rattle.std.specs.Prelude.{All}
-use Rattle.lru_cores.specs.Core.{cap_of}
+use Rattle.lru_rules.specs.Limits.{cap_of}
 use Rattle.lru_locks.proofs.lru.Lru.evict_to_limit.Given as goal
 
 abbrev pub invariant-loop : goal.invariant-loop
