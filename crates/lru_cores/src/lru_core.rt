@@ -80,11 +80,8 @@ fn empty_units<T: Drop>(
 }
 
 impl<T, const N: usize> LruCore<T, N> {
-    ghost use Rattle.std.specs.Prelude.{List};
-    ghost use Rattle.std.specs.List.{FoldsTo};
-    ghost use Rattle.std.specs.Borrow.{Bor};
     ghost use Rattle.lru_shard.specs.Row.{pair_of, row_of, is_held, last_row, weight_of};
-    ghost use Rattle.lru_shard.specs.Unit.{shown};
+    ghost use Rattle.lru_shard.specs.Unit.{VisitsEach};
     ghost use Rattle.lru_cores.specs.Core.{core_weight, core_len, list_at, home, IsCore};
     ghost use Rattle.lru_cores.specs.Eviction.{is_over};
 
@@ -217,7 +214,7 @@ impl<T, const N: usize> LruCore<T, N> {
     pub fn iter_for_each<F: FnMut((&T, usize))>(&self, shard: usize, mut visit: F)
         requires shard { shard < N }
         requires visit { F.IsAlwaysCallable visit }
-        ensures { (items : List (Bor T × ℕ)) × ((last : F) × ((map shown items ≡ map pair_of (list_at self.now shard)) × FoldsTo (λ p x q. F.step p x tt q) visit items last)) }
+        ensures { VisitsEach (λ p x q. F.step p x tt q) visit (list_at self.now shard) }
     {
         let mut rest = self.iter_shard(shard);
         while let Some(pair) = rest.next() {
@@ -420,8 +417,7 @@ impl<T: Drop, const N: usize> LruCore<T, N> {
     {
         let _units = &self.units;
         let shard = (key % N as u64) as usize;
-        let unit = &mut self.units[shard];
-        unit.access(key)
+        self.units[shard].access(key)
     }
 
     /// Puts a key's row first unless it is among the first `top`, and answers whether there is one.

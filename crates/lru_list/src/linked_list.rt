@@ -21,6 +21,9 @@ use std::mem;
 /// The place of an item, or of a sentinel.
 pub type Index = usize;
 
+/// The most items that a list can hold: places have 32-bit numbers, of which three stand for no item.
+pub const MOST_ITEMS: usize = 4294967293;
+
 /// A list of 64-bit numbers.
 pub type LinkedListU64 = LinkedList<u64>;
 

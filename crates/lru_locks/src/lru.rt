@@ -34,11 +34,9 @@ struct Locked<T, const N: usize> {
 
 impl<T, const N: usize> Locked<T, N> {
     ghost use Rattle.std.specs.Prelude.{[], List, map, option_map};
-    ghost use Rattle.std.specs.List.{FoldsTo};
-    ghost use Rattle.std.specs.Borrow.{Bor};
     ghost use Rattle.lru_shard.specs.Row.{weight_of, pair_of, row_of, is_held, last_row};
     ghost use Rattle.lru_shard.specs.Shard.{shard};
-    ghost use Rattle.lru_shard.specs.Unit.{shown};
+    ghost use Rattle.lru_shard.specs.Unit.{VisitsEach};
     ghost use Rattle.lru_shard.specs.Unit.{needs_promote};
 
     fn with_capacity(alloc: Global, capacity: usize) -> Result<Self, AllocError>
@@ -91,7 +89,7 @@ impl<T, const N: usize> Locked<T, N> {
 
     fn visit<F: FnMut((&T, usize))>(&self, mut visit: F)
         requires { F.IsAlwaysCallable visit }
-        ensures { (items : List (Bor T × ℕ)) × ((last : F) × ((map shown items ≡ map pair_of self.now.unit.rows) × FoldsTo (λ p x q. F.step p x tt q) visit items last)) }
+        ensures { VisitsEach (λ p x q. F.step p x tt q) visit self.now.unit.rows }
     {
         let mut rest = self.unit.iter();
         while let Some(pair) = rest.next() {

@@ -4,6 +4,7 @@ use Rattle.std.specs.Coded.{Coded, code_by, coded×, coded_ℕ, coded_list}
 use Rattle.lru_shard.specs.declared.unit.Refused.{Refused}
 use Rattle.lru_shard.specs.declared.unit.Cause.{Cause}
 use Rattle.lru_shard.specs.declared.unit.Cause.TheVariants.{Memory, Weight, Length}
+use Rattle.lru_list.specs.Linked.{most_items}
 use Rattle.lru_shard.specs.Row.{Row, row_code, weight_of, HasDistinctKeys}
 
 pub record Shard (T : Type 0) : Type 0 where
@@ -15,9 +16,15 @@ shard_code {T} code =
     code_by (List (Row T) × ℕ) (coded× (coded_list (row_code code)) coded_ℕ) (λ s. (s.rows, s.cap))
     (λ p. record { rows = p.0; cap = p.1 }) (λ _. refl)
 
+-- the number of a cause
+abbrev pub number_of : Cause → ℕ
+number_of Memory = 1
+number_of Weight = 2
+number_of Length = 3
+
 -- how many rows a shard may have: no more than its cap, nor than a linked list has places for
 abbrev pub most_rows : ℕ → ℕ
-most_rows cap = min cap 4294967293
+most_rows cap = min cap most_items
 
 -- how long and how heavy a list of rows is
 pub record Size : Type 0 where

@@ -1,11 +1,12 @@
 -- The calls of a shard: what each may answer, and which rows it leaves.
-use Rattle.std.specs.Prelude.{◌≡◌, ℕ, ◌+◌, min, max, not, Bool, true, false, List, take, Option, Some, None, Result, Ok, Err, if◌then◌else◌, option_map, IsTrue, IsFalse}
+use Rattle.std.specs.Prelude.{◌≡◌, ℕ, ◌+◌, min, max, not, Bool, true, false, List, map, take, Option, Some, None, Result, Ok, Err, if◌then◌else◌, option_map, IsTrue, IsFalse}
 use Rattle.std.specs.Option.{option_map_or}
+use Rattle.std.specs.List.{FoldsTo}
 use Rattle.std.specs.Borrow.{Bor, MutBor}
 use Rattle.lru_shard.specs.declared.unit.Refused.{Refused}
 use Rattle.lru_shard.specs.declared.unit.Cause.{Cause}
 use Rattle.lru_shard.specs.declared.unit.Cause.TheVariants.{Memory, Weight, Length}
-use Rattle.lru_shard.specs.Row.{Row, row, row_of, is_held, first, last, with_weight, with_value}
+use Rattle.lru_shard.specs.Row.{Row, row, row_of, pair_of, is_held, first, last, with_weight, with_value}
 use Rattle.lru_shard.specs.Shard.{Shard, shard, size_of, and_row, is_full, refusal, MayRefuse, Accepts, Declines, Refuses}
 
 -- a present row grows by delta, up to the most but never down to it; no weight is above the greatest number
@@ -30,6 +31,11 @@ module _ {T : Type 0} where
   -- what an item of an iterator over rows shows
   abbrev pub shown : Bor T × ℕ → T × ℕ
   shown item = (item.0.now, item.1)
+
+  -- a closure was called with the data and the weight of each of these rows, in order
+  abbrev pub VisitsEach : {F : Type 0} → (F → Bor T × ℕ → F → Type 0) → F → List (Row T) → Type 0
+  VisitsEach {F} Step visit rows =
+      (items : List (Bor T × ℕ)) × ((left : F) × ((map shown items ≡ map pair_of rows) × FoldsTo Step visit items left))
 
   -- the weight that a key has, 0 where it has no row
   abbrev pub weight_at : List (Row T) → ℕ → ℕ

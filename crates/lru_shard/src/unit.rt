@@ -1,15 +1,16 @@
 //! One shard: rows in the order of their last use, under a cap on their weight.
 ghost use Rattle.std.specs.Prelude.{◌≡◌, ℕ, ◌+◌, ◌<◌, cond, nat_eq, eqb, length, Some, None, IsTrue};
 ghost use Rattle.std.specs.HashMap as hash;
+ghost use Rattle.lru_shard.specs.Shard.{number_of};
 ghost use Rattle.lru_shard.specs.Unit.{raised, started};
 
-use lru_list::linked_list::{Index, LinkedList, LinkedListIter};
+use lru_list::linked_list::{Index, LinkedList, LinkedListIter, MOST_ITEMS};
 use std::alloc::{AllocError, Global};
 use std::collections::HashMap;
 use std::iter::FusedIterator;
 use std::marker::Model;
 
-/// Why a call was refused. The number of a cause is its value: `cause as u8`.
+/// Why a call was refused. The number of a cause is its value: `cause as u8`, or `number`.
 #[derive(Clone, Copy, Debug, PartialEq, Eq)]
 pub enum Cause {
     /// A growth was refused.
@@ -18,6 +19,15 @@ pub enum Cause {
     Weight = 2,
     /// The shard has as many rows as it may have.
     Length = 3,
+}
+
+impl Cause {
+    /// The number of this cause.
+    pub fn number(self) -> u8
+        ensures { result ≡ number_of self }
+    {
+        self as u8
+    }
 }
 
 /// A refused call: why, and what it was given, handed back.
@@ -86,9 +96,6 @@ fn started(delta: usize, max_weight: Option<usize>) -> usize
         Some(most) => delta.min(most).max(1),
     }
 }
-
-/// The most rows that any shard has: as many as a linked list has places for.
-const MOST_ROWS: usize = 4294967293;
 
 /// Rows with distinct keys, most recent first, under a cap on the sum of their weights.
 /// It has at most as many rows as its cap, and never more than 4294967293.
@@ -237,7 +244,7 @@ impl<T> LruUnit<T> {
     fn is_full(&self) -> bool
         ensures { result ≡ is_full self.now.cap (size_of self.now.rows) }
     {
-        self.order.len() >= self.cap.min(MOST_ROWS)
+        self.order.len() >= self.cap.min(MOST_ITEMS)
     }
 }
 

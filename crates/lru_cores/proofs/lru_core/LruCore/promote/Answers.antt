@@ -11,19 +11,19 @@ pub invariant_of-self : goal.invariant_of-self
 invariant_of-self g c =
     let i = c.self.inside in
     let lt : c.args.key % g.row.N < g.row.N = omega (arith, c.self.invariant.some) in
-    let acc = edits_access c.index_mut-unit.result.now c.args.key c.access.new.self (x_valid g.row.N i.units.items i.totals.weight i.totals.len c.self.invariant (c.args.key % g.row.N) lt c.index_mut-unit.result.now c.index_mut-unit.ensures.value) c.access.ensures.rows in
-    same_units g.row.N i.units.items i.totals.weight i.totals.len c.self.invariant (c.args.key % g.row.N) lt c.index_mut-unit.result.now c.index_mut-unit.ensures.value c.args.key refl c.access.new.self acc.valid acc.edit acc.same_weight acc.same_length
+    let acc = edits_access c.index_mut.result.now c.args.key c.access.new.self (x_valid g.row.N i.units.items i.totals.weight i.totals.len c.self.invariant (c.args.key % g.row.N) lt c.index_mut.result.now c.index_mut.ensures.value) c.access.ensures.rows in
+    same_units g.row.N i.units.items i.totals.weight i.totals.len c.self.invariant (c.args.key % g.row.N) lt c.index_mut.result.now c.index_mut.ensures.value c.args.key refl c.access.new.self acc.valid acc.edit acc.same_weight acc.same_length
 
 pub returns-clause-answer : goal.returns-clause-answer
 returns-clause-answer g c =
     let i = c.self.inside in
     let lt : c.args.key % g.row.N < g.row.N = omega (arith, c.self.invariant.some) in
-    rw (← c.self.view_is) (c.access.ensures.answer ∙ sym (ap (λ rows. is_held rows c.args.key) (home_list g.row.N i.units.items i.totals.weight i.totals.len c.self.invariant (c.args.key % g.row.N) lt c.index_mut-unit.result.now c.index_mut-unit.ensures.value c.args.key refl)))
+    rw (← c.self.view_is) (c.access.ensures.answer ∙ sym (ap (λ rows. is_held rows c.args.key) (home_list g.row.N i.units.items i.totals.weight i.totals.len c.self.invariant (c.args.key % g.row.N) lt c.index_mut.result.now c.index_mut.ensures.value c.args.key refl)))
 
 pub returns-clause-rows : goal.returns-clause-rows
 returns-clause-rows g c =
     let i = c.self.inside in
     let lt : c.args.key % g.row.N < g.row.N = omega (arith, c.self.invariant.some) in
-    let acc = edits_access c.index_mut-unit.result.now c.args.key c.access.new.self (x_valid g.row.N i.units.items i.totals.weight i.totals.len c.self.invariant (c.args.key % g.row.N) lt c.index_mut-unit.result.now c.index_mut-unit.ensures.value) c.access.ensures.rows in
-    rw (← c.self.view_is) (leaves g.row.N i.units.items i.totals.weight i.totals.len c.self.invariant (c.args.key % g.row.N) lt c.index_mut-unit.result.now c.index_mut-unit.ensures.value c.args.key refl c.access.new.self acc.valid acc.edit (accessed (get_or (lists_of i.units.items) (c.args.key % length (lists_of i.units.items)) []) c.args.key)
-    (ap (λ (s : Shard g.row.T.Denot). s.rows) c.access.ensures.rows ∙ ap (λ rows. accessed rows c.args.key) (sym (home_list g.row.N i.units.items i.totals.weight i.totals.len c.self.invariant (c.args.key % g.row.N) lt c.index_mut-unit.result.now c.index_mut-unit.ensures.value c.args.key refl))) i.weight_limit i.watermark i.evicted_weight i.evicted_len)
+    let acc = edits_access c.index_mut.result.now c.args.key c.access.new.self (x_valid g.row.N i.units.items i.totals.weight i.totals.len c.self.invariant (c.args.key % g.row.N) lt c.index_mut.result.now c.index_mut.ensures.value) c.access.ensures.rows in
+    rw (← c.self.view_is) (leaves g.row.N i.units.items i.totals.weight i.totals.len c.self.invariant (c.args.key % g.row.N) lt c.index_mut.result.now c.index_mut.ensures.value c.args.key refl c.access.new.self acc.valid acc.edit (accessed (get_or (lists_of i.units.items) (c.args.key % length (lists_of i.units.items)) []) c.args.key)
+    (ap (λ (s : Shard g.row.T.Denot). s.rows) c.access.ensures.rows ∙ ap (λ rows. accessed rows c.args.key) (sym (home_list g.row.N i.units.items i.totals.weight i.totals.len c.self.invariant (c.args.key % g.row.N) lt c.index_mut.result.now c.index_mut.ensures.value c.args.key refl))) i.weight_limit i.watermark i.evicted_weight i.evicted_len)
