@@ -1,9 +1,9 @@
-//! The orders that are measured: those of `crates/lru_plug`, and peers from Rust.
+//! The orders that are measured: those of `crates/lru_bench_half`, and peers from Rust.
 use crate::plan::{Phase, Work};
 use crate::watch;
 
 extern "C" {
-    fn lru_plug_run(
+    fn lru_bench_half_run(
         subject: u64,
         limit: usize,
         plan: *const u64,
@@ -18,7 +18,7 @@ extern "C" {
 /// Who is measured.
 #[derive(Clone, Copy, PartialEq)]
 pub enum Subject {
-    /// An order of `crates/lru_plug`, by its number there.
+    /// An order of `crates/lru_bench_half`, by its number there.
     Plug(u64),
     Hashlink,
     Lru,
@@ -44,7 +44,7 @@ impl Subject {
             Subject::Plug(number) => {
                 let flat: Vec<u64> = plan.iter().flat_map(Phase::numbers).collect();
                 let done = unsafe {
-                    lru_plug_run(
+                    lru_bench_half_run(
                         number,
                         limit,
                         flat.as_ptr(),

@@ -17,6 +17,9 @@ use std::marker::Model;
 ///
 /// The core is over where the sum of all weights is above its weight limit, or where it has a
 /// watermark and more rows than that. Calls may make it over; evictions bring it back.
+///
+/// Only the constructors, `reserve_shard`, `peek_lru`, `evict_to_limit` and a call that makes a row for a missing key
+/// take memory.
 #[derive(Drop)]
 pub struct LruCore<T, const N: usize> {
     units: Vec<LruUnit<T>>,
@@ -393,7 +396,7 @@ impl<T: Drop, const N: usize> LruCore<T, N> {
     }
 
     /// Gives a key another weight, in its place, and answers the weight that it had; `None` where it has
-    /// no row. A weight of 0 counts as 1. It takes no memory.
+    /// no row. A weight of 0 counts as 1.
     ///
     /// It may make the core over, and evicts nothing. It is refused for Weight alone, and changes nothing
     /// then.
@@ -410,7 +413,7 @@ impl<T: Drop, const N: usize> LruCore<T, N> {
         answer
     }
 
-    /// Puts a key's row first, and answers whether there is one. It takes no memory.
+    /// Puts a key's row first, and answers whether there is one.
     pub fn promote(&mut self, key: u64) -> bool
         ensures answer { result ≡ is_held (list_at self.old (home self.old key)) key }
         ensures rows { self.new ≡ with_list self.old (home self.old key) (accessed (list_at self.old (home self.old key)) key) }
@@ -421,7 +424,7 @@ impl<T: Drop, const N: usize> LruCore<T, N> {
     }
 
     /// Puts a key's row first unless it is among the first `top`, and answers whether there is one.
-    /// With `top` 0 a row that is there is always put first. It takes no memory.
+    /// With `top` 0 a row that is there is always put first.
     pub fn promote_top_n(&mut self, key: u64, top: usize) -> bool
         ensures answer { result ≡ is_held (list_at self.old (home self.old key)) key }
         ensures rows { self.new ≡ with_list self.old (home self.old key) (promoted_past (list_at self.old (home self.old key)) key top) }
@@ -435,8 +438,7 @@ impl<T: Drop, const N: usize> LruCore<T, N> {
         unit.access(key)
     }
 
-    /// Takes a key's row out, and answers its data and weight. It counts as no eviction, and takes no
-    /// memory.
+    /// Takes a key's row out, and answers its data and weight. It counts as no eviction.
     pub fn remove(&mut self, key: u64) -> Option<(T, usize)>
         ensures answer { result ≡ option_map pair_of (row_of (list_at self.old (home self.old key)) key) }
         ensures rows { self.new ≡ with_list self.old (home self.old key) (without (list_at self.old (home self.old key)) key) }
@@ -468,7 +470,7 @@ impl<T: Drop, const N: usize> LruCore<T, N> {
     }
 
     /// Evicts the last row of the shard `shard` modulo N, whatever the limits are, and answers its data
-    /// and weight. It takes no memory.
+    /// and weight.
     pub fn evict_shard(&mut self, shard: u64) -> Option<(T, usize)>
         ensures { EvictsFrom self.old (home self.old shard) result self.new }
     {
@@ -480,7 +482,7 @@ impl<T: Drop, const N: usize> LruCore<T, N> {
     /// Where the core is over, evicts the last row of the victim of two draws, and answers its data
     /// and weight: the victim is the first shard that is not empty, from the longer of the two on
     /// (the first where they are as long) and round the circle. Else it answers `None`, and nothing
-    /// changes. It takes no memory.
+    /// changes.
     pub fn evict_step(&mut self, a: usize, b: usize) -> Option<(T, usize)>
         requires a { a < N }
         requires b { b < N }

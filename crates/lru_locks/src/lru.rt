@@ -257,8 +257,8 @@ impl Counters {
 
 /// N shards, each a list of rows, most recent first, behind a lock. A key's shard is the key modulo N.
 ///
-/// It answers as an `LruCore` does, for many threads at once: a call on a key takes the lock of that
-/// key's shard and no other, so calls on other shards don't wait for it. A closure that is handed in is
+/// It answers, refuses and takes memory as an `LruCore` does, for many threads at once: a call on a key takes the lock
+/// of that key's shard and no other, so calls on other shards don't wait for it. A closure that is handed in is
 /// called under the lock, and must make no call that waits for the same shard.
 ///
 /// The counters are sums over all shards that other threads may change at any time.
@@ -485,11 +485,7 @@ impl<T, const N: usize> Lru<T, N> {
 impl<T: Drop, const N: usize> Lru<T, N> {
     ghost use Rattle.lru_locks.specs.LruCalls.{HandsBack, MayAnswer};
 
-    /// Puts a row first in the shard of its key, in place of the key's, and answers that shard.
-    /// A weight of 0 counts as 1.
-    ///
-    /// It may make the `Lru` over, and evicts nothing. A refusal, for Length, Weight or Memory as a
-    /// shard refuses, hands the data back and changes nothing.
+    /// As `LruCore::admit`: puts a row first in the shard of its key, and answers that shard.
     pub fn admit(
         &self,
         rt: &impl Wait,
@@ -510,11 +506,7 @@ impl<T: Drop, const N: usize> Lru<T, N> {
         Ok(shard)
     }
 
-    /// Puts a row last in the shard of its key where the key has none, and answers true; else it answers
-    /// false, and the data is dropped. A weight of 0 is kept.
-    ///
-    /// It may make the `Lru` over, and evicts nothing. A refusal, for Length, Weight or Memory as a
-    /// shard refuses, hands the data back and changes nothing.
+    /// As `LruCore::insert_tail`: puts a row last where its key has none, and answers whether it did.
     pub fn insert_tail(
         &self,
         rt: &impl Wait,
@@ -532,11 +524,7 @@ impl<T: Drop, const N: usize> Lru<T, N> {
         answer
     }
 
-    /// Adds to a key's weight, puts its row first, and answers the new weight, as `LruUnit` does.
-    ///
-    /// It may make the `Lru` over, and evicts nothing. A refusal, for Length, Weight or Memory as a
-    /// shard refuses, comes before `admit_data` is called, and changes nothing. `admit_data` is called
-    /// under the lock of the key's shard.
+    /// As `LruCore::increment_weight`: answers the new weight. `admit_data` is called under the lock.
     pub fn increment_weight<F: FnOnce() -> T + Drop>(
         &self,
         rt: &impl Wait,
@@ -557,13 +545,8 @@ impl<T: Drop, const N: usize> Lru<T, N> {
         answer
     }
 
-    /// Updates a key's data and weight, or admits what `admit_data` gives, puts the row first, and answers
-    /// the weight that the key had, `None` for a new row, as `LruUnit` does. The closures are called under
-    /// the lock of the key's shard.
-    ///
-    /// It may make the `Lru` over, and evicts nothing. A refusal is a shard's: a new key is refused for
-    /// Length or Memory before `admit_data` is called, and for Weight after it, which hands back what it
-    /// gave; a present one for Weight alone, which keeps what `update` wrote.
+    /// As `LruCore::update_or_admit`: answers the weight that the key had, `None` for a new row. The closures are
+    /// called under the lock.
     pub fn update_or_admit<U, A>(
         &self,
         rt: &impl Wait,
@@ -586,11 +569,7 @@ impl<T: Drop, const N: usize> Lru<T, N> {
         answer
     }
 
-    /// Gives a key another weight, in its place, and answers the weight that it had; `None` where it has
-    /// no row. A weight of 0 counts as 1. It takes no memory.
-    ///
-    /// It may make the `Lru` over, and evicts nothing. It is refused for Weight alone, and changes nothing
-    /// then.
+    /// As `LruCore::set_weight`: answers the weight that the key had, `None` where it has no row.
     pub fn set_weight(
         &self,
         rt: &impl Wait,
@@ -607,16 +586,13 @@ impl<T: Drop, const N: usize> Lru<T, N> {
         answer
     }
 
-    /// Puts a key's row first, and answers whether there is one. It takes no memory.
+    /// Puts a key's row first, and answers whether there is one.
     pub fn promote(&self, rt: &impl Wait, key: u64) -> bool {
         self.units[self.shard_of(key)].write(rt).promote(key)
     }
 
-    /// Puts a key's row first unless it is among the first `top`, and answers whether there is one.
-    /// With `top` 0 a row that is there is always put first. It takes no memory.
-    ///
-    /// It looks first, together with other readers of the shard, and takes the lock for writing only
-    /// where the row is not among the first `top`.
+    /// As `LruCore::promote_top_n`. It looks first, together with other readers of the shard, and takes the lock for
+    /// writing only where the row is not among the first `top`.
     pub fn promote_top_n(&self, rt: &impl Wait, key: u64, top: usize) -> bool {
         self.is_among_first(rt, key, top) || self.promote(rt, key)
     }
@@ -628,8 +604,7 @@ impl<T: Drop, const N: usize> Lru<T, N> {
             .is_among_first(key, top)
     }
 
-    /// Takes a key's row out, and answers its data and weight. It counts as no eviction, and takes no
-    /// memory.
+    /// Takes a key's row out, and answers its data and weight. It counts as no eviction.
     pub fn remove(&self, rt: &impl Wait, key: u64) -> Option<(T, usize)>
         ensures { IfSome result (λ pair. pair.1 ≤ cap_of N) }
     {
@@ -641,8 +616,7 @@ impl<T: Drop, const N: usize> Lru<T, N> {
         answer
     }
 
-    /// Evicts the last row of the shard `shard` modulo N, whatever the limits are, and answers its data
-    /// and weight. It takes no memory.
+    /// Evicts the last row of the shard `shard` modulo N, whatever the limits are.
     pub fn evict_shard(&self, rt: &impl Wait, shard: u64) -> Option<(T, usize)>
         ensures { IfSome result (λ pair. pair.1 ≤ cap_of N) }
     {

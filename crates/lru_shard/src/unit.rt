@@ -100,7 +100,7 @@ fn started(delta: usize, max_weight: Option<usize>) -> usize
 /// Rows with distinct keys, most recent first, under a cap on the sum of their weights.
 /// It has at most as many rows as its cap, and never more than 4294967293.
 ///
-/// Each call that takes no memory says so, and so does each call on a key that is there.
+/// Only `with_capacity`, `reserve` and a call that makes a row for a missing key take memory.
 #[derive(Drop)]
 pub struct LruUnit<T> {
     lookup_table: HashMap<u64, Node<T>>,
@@ -215,7 +215,7 @@ impl<T> LruUnit<T> {
         !self.order.exist_near_head(&key, limit)
     }
 
-    /// Puts a key's row first, and answers whether there is one. It takes no memory.
+    /// Puts a key's row first, and answers whether there is one.
     pub fn access(&mut self, key: u64) -> bool
         ensures answer { result ≡ is_held self.old.rows key }
         ensures rows { self.new ≡ shard (accessed self.old.rows key) self.old.cap }
@@ -469,7 +469,7 @@ impl<T: Drop> LruUnit<T> {
     }
 
     /// Gives a key another weight, in its place, and answers the weight that it had; `None` where it has
-    /// no row. It takes no memory.
+    /// no row.
     ///
     /// It is refused for Weight alone, and changes nothing then.
     pub fn set_weight(&mut self, key: u64, weight: usize) -> Result<Option<usize>, Cause>
@@ -487,7 +487,7 @@ impl<T: Drop> LruUnit<T> {
         Ok(Some(old))
     }
 
-    /// Takes a key's row out, and answers its data and weight. It takes no memory.
+    /// Takes a key's row out, and answers its data and weight.
     pub fn remove(&mut self, key: u64) -> Option<(T, usize)>
         ensures answer { result ≡ option_map pair_of (row_of self.old.rows key) }
         ensures rows { self.new ≡ shard (without self.old.rows key) self.old.cap }
@@ -502,7 +502,7 @@ impl<T: Drop> LruUnit<T> {
         Some((data, weight))
     }
 
-    /// Takes the row out that was used longest ago, and answers its data and weight. It takes no memory.
+    /// Takes the row out that was used longest ago, and answers its data and weight.
     pub fn evict(&mut self) -> Option<(T, usize)>
         ensures answer { result ≡ option_map pair_of (last_row self.old.rows) }
         ensures rows { self.new ≡ shard (without_last self.old.rows) self.old.cap }

@@ -14,7 +14,6 @@ use Rattle.pingora_lru_files.specs.declared.reports.TempFileCleanupReport.{TempF
 use Rattle.pingora_lru_files.specs.Names.{has_slash}
 use Rattle.lru_tool.specs.Commands.{Asked, Do, ListRows, Save, Load}
 use Rattle.pingora_lru_files.specs.Stores.{Meaning, SaveResult, LoadResult, SavesCore, LoadsCore}
-use Rattle.rand_core.specs.Stream.{Stream}
 use Rattle.lru_tool.specs.Storing.{State}
 
 abbrev pub line : List ℕ → List ℕ
@@ -110,13 +109,14 @@ usage_text = line (codes "usage: lru_tool LIMIT WATERMARK SEED")
 -- a command may write this text, and leave this state
 abbrev pub Answers : {F : Type 0} → Meaning F → State F → Asked → List ℕ → State F → Type 0
 Answers m old (Do call) text new =
-    (reply : Reply Keyed) × (Gives old.core call reply new.core × ((text ≡ reply_text reply) × (new.folder ≡ old.folder)))
+    (reply : Reply Keyed) × (Gives old.core old.words call reply new.core new.words × ((text ≡ reply_text reply) × (new.folder ≡ old.folder)))
 Answers m old (ListRows s) text new = (text ≡ rows_text (map pair_of (list_at old.core s))) × (new ≡ old)
 Answers m old (Save dir file) text new =
-    (result : SaveResult) × ((drawn_from : Stream) × ((rest : Stream) × (SavesCore m dir file 2 old.core drawn_from old.folder result rest new.folder
-    × ((text ≡ save_text result) × (new.core ≡ old.core)))))
+    (result : SaveResult) × (SavesCore m dir file 2 old.core old.words old.folder result new.words new.folder
+    × ((text ≡ save_text result) × (new.core ≡ old.core)))
 Answers m old (Load dir file) text new =
-    (result : LoadResult) × (LoadsCore m dir file 2 old.core old.folder result new.core new.folder × (text ≡ load_text result))
+    (result : LoadResult) × (LoadsCore m dir file 2 old.core old.folder result new.core new.folder
+    × ((text ≡ load_text result) × (new.words ≡ old.words)))
 
 -- the lines, from number n on, may write this text, and leave this folder: each command's reply in turn, up to and with the first bad line
 abbrev pub Serves : {F : Type 0} → Meaning F → State F → List (Option Asked) → ℕ → List ℕ → F → Type 0

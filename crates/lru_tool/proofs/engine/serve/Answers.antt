@@ -16,7 +16,7 @@ use Rattle.lru_tool.proofs.engine.serve.Goals as goal
 pub loop-line-init : goal.loop-line-init
 loop-line-init g c =
     let m : Meaning g.row.F.Denot = record { files = g.F.Folder.files; folders = g.F.Folder.folders; clock = g.F.Folder.clock; stopped_since = g.F.Folder.stopped_since; faults = g.F.Folder.faults; keeps = g.F.Folder.keeps } in
-    let state : State g.row.F.Denot = record { core = c.args.core.now; folder = c.args.folder.now } in
+    let state : State g.row.F.Denot = record { core = c.args.core.now; folder = c.args.folder.now; words = g.R.Rng.stream c.args.rng.now } in
     let rest = c.into_iter-rest.result in
     let items : into_iter_items rest ≡ c.args.lines.items = c.into_iter-rest.ensures.rest in
     let len : into_iter_len rest ≡ c.len-count.result = c.into_iter-rest.ensures.len ∙ sym c.len-count.ensures in (
@@ -40,9 +40,9 @@ loop-line-init g c =
 pub loop-line-preserved : goal.loop-line-preserved
 loop-line-preserved g c =
     let m : Meaning g.row.F.Denot = record { files = g.F.Folder.files; folders = g.F.Folder.folders; clock = g.F.Folder.clock; stopped_since = g.F.Folder.stopped_since; faults = g.F.Folder.faults; keeps = g.F.Folder.keeps } in
-    let before : State g.row.F.Denot = record { core = c.args.core.now; folder = c.args.folder.now } in
-    let state : State g.row.F.Denot = record { core = c.loop-line.core; folder = c.loop-line.folder } in
-    let after : State g.row.F.Denot = record { core = c.answer.new.core; folder = c.answer.new.folder } in
+    let before : State g.row.F.Denot = record { core = c.args.core.now; folder = c.args.folder.now; words = g.R.Rng.stream c.args.rng.now } in
+    let state : State g.row.F.Denot = record { core = c.loop-line.core; folder = c.loop-line.folder; words = g.R.Rng.stream c.loop-line.rng } in
+    let after : State g.row.F.Denot = record { core = c.answer.new.core; folder = c.answer.new.folder; words = g.R.Rng.stream c.answer.new.rng } in
     let inv = c.loop-line.invariant in
     let done = inv.0.0 in
     let left = into_iter_items c.next.new.self in
@@ -77,8 +77,8 @@ loop-line-preserved g c =
 pub returns-clause-text : goal.returns-clause-text
 returns-clause-text g c =
     let m : Meaning g.row.F.Denot = record { files = g.F.Folder.files; folders = g.F.Folder.folders; clock = g.F.Folder.clock; stopped_since = g.F.Folder.stopped_since; faults = g.F.Folder.faults; keeps = g.F.Folder.keeps } in
-    let before : State g.row.F.Denot = record { core = c.args.core.now; folder = c.args.folder.now } in
-    let state : State g.row.F.Denot = record { core = c.loop-line.core; folder = c.loop-line.folder } in
+    let before : State g.row.F.Denot = record { core = c.args.core.now; folder = c.args.folder.now; words = g.R.Rng.stream c.args.rng.now } in
+    let state : State g.row.F.Denot = record { core = c.loop-line.core; folder = c.loop-line.folder; words = g.R.Rng.stream c.loop-line.rng } in
     let inv = c.loop-line.invariant in
     let none : into_iter_items c.loop-line.rest ≡ [] = nil_from_length (into_iter_items c.loop-line.rest) (omega (arith, inv.1.1.1.1.0, c.in_default.ensures.cases.0)) in
     let zero : into_iter_len c.loop-line.rest ≡ 0 = omega (arith, inv.1.1.1.1.0, ap length none) in (
@@ -94,7 +94,7 @@ returns-clause-text g c =
 pub returns-in-None-clause-text : goal.returns-in-None-clause-text
 returns-in-None-clause-text g c =
     let m : Meaning g.row.F.Denot = record { files = g.F.Folder.files; folders = g.F.Folder.folders; clock = g.F.Folder.clock; stopped_since = g.F.Folder.stopped_since; faults = g.F.Folder.faults; keeps = g.F.Folder.keeps } in
-    let state : State g.row.F.Denot = record { core = c.loop-line.core; folder = c.loop-line.folder } in
+    let state : State g.row.F.Denot = record { core = c.loop-line.core; folder = c.loop-line.folder; words = g.R.Rng.stream c.loop-line.rng } in
     let inv = c.loop-line.invariant in
     let done = inv.0.0 in
     let left = into_iter_items c.next.new.self in

@@ -1,6 +1,6 @@
 //! A run of calls that are given as values.
-use pingora_lru::calls::{Call, Reply, run};
-use pingora_lru::lru_core::LruCore;
+use lru_cores::calls::{Call, Reply, run};
+use lru_cores::lru_core::LruCore;
 use rand::rngs::StdRng;
 use rand_core::SeedableRng;
 use std::test::Fail;

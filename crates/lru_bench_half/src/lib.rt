@@ -30,7 +30,7 @@ const TOOLCHAIN: u64 = 2;
 /// than there are where a place is past the keys, where a count has no place, or where no memory was found
 /// for the order.
 #[unsafe(no_mangle)]
-pub extern "C" fn lru_plug_run(
+pub extern "C" fn lru_bench_half_run(
     alloc: Global,
     subject: u64,
     limit: usize,

@@ -1,9 +1,9 @@
 use Rattle.std.proofs.Common.{not, sym, ap, ◌∙◌}
 use Rattle.std.proofs.lemmas.Bool.{eq-eqb, false≢true}
-use Rattle.pingora_lru.specs.Linked.{item_at}
-use Rattle.pingora_lru.proofs.LinkedLaws.{place_from_peek, live_from_next}
-use Rattle.pingora_lru_tests.proofs.Peeks.{found}
-use Rattle.pingora_lru_tests.proofs.linked_list_tests.is_live.Goals as goal
+use Rattle.lru_list.specs.Linked.{item_at}
+use Rattle.lru_list.proofs.LinkedLaws.{place_from_peek, live_from_next}
+use Rattle.lru_list_tests.proofs.Peeks.{found}
+use Rattle.lru_list_tests.proofs.linked_list_tests.is_live.Goals as goal
 
 pub next_index-requires : goal.next_index-requires
 next_index-requires g c =

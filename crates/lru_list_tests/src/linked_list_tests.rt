@@ -1,8 +1,8 @@
 //! The linked list, by its worked rows, and each of its calls at two types of items.
 ghost use Rattle.std.specs.Prelude.{IsTrue};
-ghost use Rattle.pingora_lru.specs.Linked.{IsLive};
+ghost use Rattle.lru_list.specs.Linked.{IsLive};
 
-use pingora_lru::linked_list::{Index, LinkedList, LinkedListU64, PushError};
+use lru_list::linked_list::{Index, LinkedList, LinkedListU64, PushError};
 use std::alloc::AllocError;
 use std::test::Fail;
 

@@ -1,5 +1,5 @@
 //! One shard, by its worked rows, and each of its calls.
-use pingora_lru::unit::{Cause, LruUnit, Refused};
+use lru_shard::unit::{Cause, LruUnit, Refused};
 use std::process::Abort;
 use std::test::Fail;
 

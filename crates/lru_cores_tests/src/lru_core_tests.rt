@@ -1,8 +1,8 @@
 //! N shards under one limit, by their worked rows, and each of a core's calls.
 ghost use Rattle.std.specs.Prelude.{◌<◌};
 
-use pingora_lru::lru_core::{LruCore, inclusion_law};
-use pingora_lru::unit::{Cause, Refused};
+use lru_cores::lru_core::{LruCore, inclusion_law};
+use lru_shard::unit::{Cause, Refused};
 use rand::rngs::StdRng;
 use rand_core::{Rng, SeedableRng};
 use std::test::Fail;

@@ -1,7 +1,7 @@
-use Rattle.pingora_lru.specs.Linked.{item_at}
-use Rattle.pingora_lru.proofs.LinkedLaws.{place_from_peek}
-use Rattle.pingora_lru_tests.proofs.Peeks.{found}
-use Rattle.pingora_lru_tests.proofs.linked_list_tests.neighbours.Goals as goal
+use Rattle.lru_list.specs.Linked.{item_at}
+use Rattle.lru_list.proofs.LinkedLaws.{place_from_peek}
+use Rattle.lru_list_tests.proofs.Peeks.{found}
+use Rattle.lru_list_tests.proofs.linked_list_tests.neighbours.Goals as goal
 
 pub prev_index-requires : goal.prev_index-requires
 prev_index-requires g c =

@@ -1,0 +1,11 @@
+//! Tests of `lru_locks`: an `Lru` by its worked rows, beside a core, and under two threads.
+#![tactic(auto)]
+
+#[cfg(test)]
+mod replays;
+#[cfg(test)]
+mod rows;
+#[cfg(test)]
+mod shown;
+#[cfg(test)]
+mod threads;

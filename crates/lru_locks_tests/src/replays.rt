@@ -1,0 +1,236 @@
+// Drawn calls on an `Lru` and on a core answer the same, and leave the same, by one thread and by two.
+ghost use Rattle.lru_cores.specs.Calls.{IsAllowed};
+
+use crate::shown::{core_state_of, state_of, text_of};
+use lru_cores::calls;
+use lru_cores::calls::{Call, Reply};
+use lru_cores::lru_core::LruCore;
+use lru_locks::lru::Lru;
+use lru_shard::unit::Refused;
+use rand::RngExt;
+use rand::rngs::StdRng;
+use rand_core::SeedableRng;
+use std::alloc::{AllocError, Global};
+use std::sync::Wait;
+use std::test::Fail;
+use std::thread;
+use std::thread::Threads;
+
+// Which calls are drawn: those on any key and shard, or those alone that take one of one shard of two.
+#[derive(Clone, Copy)]
+enum Of {
+    All,
+    Shard(u64),
+}
+
+fn drawn_call<const N: usize>(rng: &mut StdRng, of: Of) -> Call<u64>
+    ensures { IsAllowed N result }
+{
+    let any = rng.random_range(0..8u64);
+    let data = rng.random_range(0..1000u64);
+    let weight = rng.random_range(0..6usize);
+    let most = rng.random_range(0..8usize);
+    let (key, shard, kinds) = match of {
+        Of::All => (any, rng.random_range(0..5u64), 15u8),
+        Of::Shard(shard) => (any / 2 * 2 + shard % 2, shard % 2, 12u8),
+    };
+    match rng.random_range(0..kinds) {
+        0 => Call::Admit { key, data, weight },
+        1 => Call::InsertTail { key, data, weight },
+        2 => Call::IncrementWeight {
+            key,
+            data,
+            delta: weight,
+            max_weight: if most < 6 { Some(most) } else { None },
+        },
+        3 => Call::UpdateOrAdmit {
+            key,
+            present: data,
+            missing: any,
+            delta: weight,
+        },
+        4 => Call::SetWeight { key, weight },
+        5 => Call::Promote { key },
+        6 => Call::PromoteTopN { key, top: most / 2 },
+        7 => Call::Remove { key },
+        8 => Call::Peek { key },
+        9 => Call::PeekWeight { key },
+        10 => Call::PeekLru {
+            shard: shard as usize,
+        },
+        11 => Call::EvictShard { shard },
+        12 => Call::EvictToLimit,
+        13 => Call::SetWeightLimit { limit: 15 + most },
+        _ => Call::Totals,
+    }
+}
+
+fn update<R: Wait, const N: usize>(
+    rt: &R,
+    lru: &Lru<u64, N>,
+    key: u64,
+    present: u64,
+    missing: u64,
+    delta: usize,
+) -> Result<Option<usize>, Refused<Option<(u64, usize)>>> {
+    lru.update_or_admit(
+        rt,
+        key,
+        |value: &mut u64, weight: usize| {
+            *value = present;
+            weight.saturating_add(delta)
+        },
+        || (missing, delta),
+    )
+}
+
+// Does a call on an `Lru`. An `evict_step` is no call of it.
+fn answer_of<R: Wait, const N: usize>(
+    rt: &R,
+    alloc: Global,
+    rng: &mut StdRng,
+    lru: &Lru<u64, N>,
+    call: Call<u64>,
+) -> Reply<u64> {
+    match call {
+        Call::Admit { key, data, weight } => Reply::Shard(lru.admit(rt, key, data, weight)),
+        Call::InsertTail { key, data, weight } => Reply::Inserted(lru.insert_tail(
+            rt, key, data, weight,
+        )),
+        Call::IncrementWeight {
+            key,
+            data,
+            delta,
+            max_weight,
+        } => Reply::Weight(lru.increment_weight(rt, key, || data, delta, max_weight)),
+        Call::UpdateOrAdmit {
+            key,
+            present,
+            missing,
+            delta,
+        } => Reply::Updated(update(rt, lru, key, present, missing, delta)),
+        Call::SetWeight { key, weight } => Reply::Was(lru.set_weight(rt, key, weight)),
+        Call::Promote { key } => Reply::Held(lru.promote(rt, key)),
+        Call::PromoteTopN { key, top } => Reply::Held(lru.promote_top_n(rt, key, top)),
+        Call::Remove { key } => Reply::Left(lru.remove(rt, key)),
+        Call::EvictShard { shard } => Reply::Left(lru.evict_shard(rt, shard)),
+        Call::EvictStep { .. } => Reply::Left(None),
+        Call::EvictToLimit => Reply::Evicted(lru.evict_to_limit(rt, alloc, rng)),
+        Call::SetWeightLimit { limit } => {
+            lru.set_weight_limit(limit);
+            Reply::Done
+        }
+        Call::Peek { key } => Reply::Held(lru.peek(rt, key)),
+        Call::PeekWeight { key } => Reply::Known(lru.peek_weight(rt, key)),
+        Call::PeekLru { shard } => Reply::Last(lru.peek_lru(rt, shard)),
+        Call::Totals => Reply::Totals {
+            len: lru.len(),
+            weight: lru.weight(),
+            evicted_len: lru.evicted_len(),
+            evicted_weight: lru.evicted_weight(),
+        },
+    }
+}
+
+// The answers of so many drawn calls on an `Lru`. Calls are drawn by one generator, and shards by another.
+fn answers_of<R: Wait, const N: usize>(
+    rt: &R,
+    alloc: Global,
+    lru: &Lru<u64, N>,
+    seed: u64,
+    of: Of,
+) -> Result<String, AllocError> {
+    let mut rng = StdRng::seed_from_u64(seed);
+    let mut draws = StdRng::seed_from_u64(seed);
+    let mut text = String::new(alloc);
+    for _ in 0..500u32 {
+        let call = drawn_call::<N>(&mut rng, of);
+        let reply = answer_of(rt, alloc, &mut draws, lru, call);
+        text.push_str(text_of(alloc, reply)?.as_str())?;
+    }
+    Ok(text)
+}
+
+// The answers of the same calls on a core.
+fn core_answers_of<const N: usize>(
+    alloc: Global,
+    core: &mut LruCore<u64, N>,
+    seed: u64,
+    of: Of,
+) -> Result<String, AllocError> {
+    let mut rng = StdRng::seed_from_u64(seed);
+    let mut draws = StdRng::seed_from_u64(seed);
+    let mut text = String::new(alloc);
+    for _ in 0..500u32 {
+        let call = drawn_call::<N>(&mut rng, of);
+        let reply = calls::answer(core, alloc, &mut draws, call);
+        text.push_str(text_of(alloc, reply)?.as_str())?;
+    }
+    Ok(text)
+}
+
+// One call at a time, and the whole state after each.
+#[test]
+fn answers_as_a_core(rt: HostRuntime) -> Result<(), Fail> {
+    let alloc: Global = rt.alloc();
+    for seed in 0..20u64 {
+        let mut rng = StdRng::seed_from_u64(seed);
+        let mut again = StdRng::seed_from_u64(seed);
+        let mut draws = StdRng::seed_from_u64(seed);
+        let mut core_draws = StdRng::seed_from_u64(seed);
+        let lru = Lru::<u64, 3>::with_capacity_and_watermark(alloc, 20, 2, Some(5))?;
+        let mut core = LruCore::<u64, 3>::with_capacity_and_watermark(alloc, 20, 2, Some(5))?;
+        for turn in 0..500u32 {
+            let call = drawn_call::<3>(&mut rng, Of::All);
+            let same = drawn_call::<3>(&mut again, Of::All);
+            assert_eq!(rt;
+                text_of(alloc, answer_of(&rt, alloc, &mut draws, &lru, call))?,
+                text_of(
+                    alloc,
+                    calls::answer(&mut core, alloc, &mut core_draws, same)
+                )?,
+                "seed {seed} turn {turn}"
+            );
+            assert_eq!(rt;
+                state_of(&rt, alloc, &lru)?,
+                core_state_of(alloc, &core)?,
+                "seed {seed} turn {turn}"
+            );
+        }
+    }
+    Ok(())
+}
+
+// Two threads, each on one shard.
+fn answers_of_both<R: Threads + Wait + Sync>(
+    rt: &R,
+    alloc: Global,
+    lru: &Lru<u64, 2>,
+    seed: u64,
+) -> (Result<String, AllocError>, Result<String, AllocError>) {
+    thread::join(
+        rt,
+        || answers_of(rt, alloc, lru, seed, Of::Shard(0)),
+        || answers_of(rt, alloc, lru, seed, Of::Shard(1)),
+    )
+}
+
+#[test]
+fn two_threads_answer_as_a_core(rt: HostRuntime) -> Result<(), Fail> {
+    let alloc: Global = rt.alloc();
+    for seed in 0..20u64 {
+        let lru = Lru::<u64, 2>::with_capacity_and_watermark(alloc, 20, 2, Some(5))?;
+        let mut core = LruCore::<u64, 2>::with_capacity_and_watermark(alloc, 20, 2, Some(5))?;
+        let (even, odd) = answers_of_both(&rt, alloc, &lru, seed);
+        let core_even = core_answers_of(alloc, &mut core, seed, Of::Shard(0))?;
+        let core_odd = core_answers_of(alloc, &mut core, seed, Of::Shard(1))?;
+        assert_eq!(rt; even?, core_even, "seed {seed}");
+        assert_eq!(rt; odd?, core_odd, "seed {seed}");
+        assert_eq!(rt;
+            state_of(&rt, alloc, &lru)?,
+            core_state_of(alloc, &core)?,
+            "seed {seed}"
+        );
+    }
+    Ok(())
+}

@@ -1,0 +1,66 @@
+// Two threads at two shards work at once.
+use crate::shown::rows_of;
+use lru_locks::lru::Lru;
+use std::alloc::Global;
+use std::sync::Wait;
+use std::sync::atomic::{AtomicBool, Ordering};
+use std::test::Fail;
+use std::thread;
+use std::thread::Threads;
+
+// Whether a flag is raised soon.
+fn is_raised(flag: &AtomicBool) -> bool {
+    for _ in 0..1_000_000u32 {
+        if flag.load(Ordering::SeqCst) {
+            return true;
+        }
+        thread::yield_now();
+    }
+    false
+}
+
+// One thread holds shard 0 until another has used shard 1. Whether it saw that.
+fn works_at_once<R: Threads + Wait + Sync>(rt: &R, lru: &Lru<u64, 2>) -> (bool, bool) {
+    let first = AtomicBool::new(false);
+    let second = AtomicBool::new(false);
+    let one = &first;
+    let two = &second;
+    thread::join(
+        rt,
+        move || {
+            let mut seen = false;
+            let _ = lru.update_or_admit(
+                rt,
+                0,
+                |value: &mut u64, weight: usize| {
+                    one.store(true, Ordering::SeqCst);
+                    seen = is_raised(two);
+                    *value = 7;
+                    weight
+                },
+                || (0, 1),
+            );
+            seen
+        },
+        move || {
+            let seen = is_raised(one);
+            let admitted = lru.admit(rt, 1, 5, 1).is_ok();
+            two.store(true, Ordering::SeqCst);
+            seen && admitted
+        },
+    )
+}
+
+#[test]
+fn shards_work_at_once(rt: HostRuntime) -> Result<(), Fail> {
+    let alloc: Global = rt.alloc();
+    let lru = Lru::<u64, 2>::with_capacity(alloc, 10, 1)?;
+    lru.admit(&rt, 0, 1, 1)?;
+    assert_eq!(rt; works_at_once(&rt, &lru), (true, true));
+    assert_eq!(rt; lru.len(), 2);
+    assert_eq!(rt;
+        rows_of(&rt, alloc, &lru, 0)?.as_slice(),
+        [(7, 1)].as_slice()
+    );
+    Ok(())
+}

@@ -1,0 +1,137 @@
+// Evictions of one shard and of two, and the two cores of which one keeps a beginning of the other's rows.
+use crate::made;
+use lru_cores::lru_core::LruCore;
+use lru_shard::unit::Cause;
+use rand::rngs::StdRng;
+use rand_core::{Rng, SeedableRng};
+use std::alloc::Global;
+use std::io;
+use std::io::Write;
+
+// The first sixteen rows, shard by shard, as data and weight, and all counters.
+type Shown = ([(u64, usize); 16], [usize; 4]);
+
+fn shown<const N: usize>(core: &LruCore<u64, N>) -> Shown {
+    let mut rows = [(u64::MAX, 0); 16];
+    let mut slots = rows.iter_mut();
+    for shard in 0..core.shards() {
+        for (data, weight) in core.iter_shard(shard) {
+            if let Some(slot) = slots.next() {
+                *slot = (*data, weight);
+            }
+        }
+    }
+    (
+        rows,
+        [
+            core.len(),
+            core.weight(),
+            core.evicted_len(),
+            core.evicted_weight(),
+        ],
+    )
+}
+
+// Admits a key as its own data, at the second try where the first was refused for memory and changed nothing.
+fn admit<const N: usize>(core: &mut LruCore<u64, N>, key: u64, weight: usize) -> bool {
+    let before = shown(core);
+    match core.admit(key, key, weight) {
+        Err(refused)
+            if refused.cause == Cause::Memory && refused.held == key && before == shown(core) => {
+            core.admit(key, key, weight).is_ok()
+        }
+        answer => answer.is_ok(),
+    }
+}
+
+fn write_pairs<W: Write>(pairs: &[(u64, usize)], writer: &mut W) -> io::Result<()> {
+    for (data, weight) in pairs {
+        writeln!(writer, "evicted {data} {weight}")?;
+    }
+    Ok(())
+}
+
+// Evicts to the limit, and where memory cuts it short evicts the rest.
+fn evict<R: Rng, W: Write, const N: usize>(
+    core: &mut LruCore<u64, N>,
+    alloc: Global,
+    rng: &mut R,
+    writer: &mut W,
+) -> io::Result<()> {
+    match core.evict_to_limit(alloc, rng) {
+        Ok(pairs) => write_pairs(&pairs, writer),
+        Err(stopped) => {
+            write_pairs(&stopped.evicted, writer)?;
+            match core.evict_to_limit(alloc, rng) {
+                Ok(pairs) => write_pairs(&pairs, writer),
+                Err(_) => writeln!(writer, "refused twice"),
+            }
+        }
+    }
+}
+
+fn write_shown<W: Write, const N: usize>(core: &LruCore<u64, N>, writer: &mut W) -> io::Result<()> {
+    let (rows, counters) = shown(core);
+    let rows = &rows[..core.len().min(16)];
+    writeln!(writer, "{counters:?} {rows:?}")
+}
+
+// Five rows of weight 2 under a limit of 10, which falls to 4.
+fn one_shard<W: Write>(alloc: Global, writer: &mut W) -> io::Result<()> {
+    let mut rng = StdRng::seed_from_u64(7);
+    let mut core = made(
+        alloc,
+        |alloc| LruCore::<u64, 1>::with_capacity(alloc, 10, 0),
+    )?;
+    for key in 0..5u64 {
+        let admitted = admit(&mut core, key, 2);
+        writeln!(writer, "admit {key} {admitted}")?;
+    }
+    core.set_weight_limit(4);
+    evict(&mut core, alloc, &mut rng, writer)?;
+    write_shown(&core, writer)
+}
+
+// Six rows above a watermark of 2.
+fn two_shards<W: Write>(alloc: Global, writer: &mut W) -> io::Result<()> {
+    let mut rng = StdRng::seed_from_u64(1);
+    let mut core = made(
+        alloc,
+        |alloc| LruCore::<u64, 2>::with_capacity_and_watermark(alloc, 100, 0, Some(2)),
+    )?;
+    for key in 0..6u64 {
+        let admitted = admit(&mut core, key, 1);
+        writeln!(writer, "admit {key} {admitted}")?;
+    }
+    // Which rows leave hangs on the draws: how many leave does not.
+    let evicted = match core.evict_to_limit(alloc, &mut rng) {
+        Ok(pairs) => pairs.len(),
+        Err(stopped) => match core.evict_to_limit(alloc, &mut rng) {
+            Ok(pairs) => stopped.evicted.len().saturating_add(pairs.len()),
+            Err(_) => 0,
+        },
+    };
+    let len = core.len();
+    writeln!(writer, "{evicted} rows left, and {len} are left")
+}
+
+// The limits 3 and 5, and the keys 1, 2, 3, 1, 4 of weight 2.
+fn two_limits<W: Write>(alloc: Global, writer: &mut W) -> io::Result<()> {
+    let mut rng = StdRng::seed_from_u64(7);
+    let mut small = made(alloc, |alloc| LruCore::<u64, 1>::with_capacity(alloc, 3, 0))?;
+    let mut large = made(alloc, |alloc| LruCore::<u64, 1>::with_capacity(alloc, 5, 0))?;
+    for key in [1, 2, 3, 1, 4u64] {
+        let admitted = (admit(&mut small, key, 2), admit(&mut large, key, 2));
+        writeln!(writer, "admit {key} {admitted:?}")?;
+        evict(&mut small, alloc, &mut rng, writer)?;
+        evict(&mut large, alloc, &mut rng, writer)?;
+    }
+    write_shown(&small, writer)?;
+    write_shown(&large, writer)
+}
+
+pub fn script<W: Write>(alloc: Global, writer: &mut W) -> io::Result<()> {
+    one_shard(alloc, writer)?;
+    two_shards(alloc, writer)?;
+    two_limits(alloc, writer)
+}
