@@ -3,3 +3,4 @@ pub mod PlacesLemmas
 pub mod FilesLemmas
 pub mod Moments
 pub mod CauseLemmas
+pub mod InOrderLemmas

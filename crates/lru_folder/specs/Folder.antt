@@ -1,5 +1,5 @@
 -- What is open in a folder, and how its calls follow one another in time.
-use Rattle.std.specs.Prelude.{◌≡◌, ◌⊎◌, ◌<◌, ◌≤◌, ℕ, List, [], ◌++◌, length, Result, IsErrOf}
+use Rattle.std.specs.Prelude.{◌≡◌, ◌⊎◌, ◌<◌, ◌≤◌, ℕ, suc, List, [], ◌∷◌, ◌++◌, length, Result, IsErrOf}
 use Rattle.lru_folder.specs.declared.fault.FolderFault.{FolderFault}
 use Rattle.lru_folder.specs.declared.fault.FolderFault.TheVariants.{Io}
 use Rattle.lru_folder.specs.Files.{Files}
@@ -56,3 +56,8 @@ pub record HasCause {T : Type 0} (before now : ℕ) (result : Result T FolderFau
   pub later : before ≤ now
   pub failed : IsErrOf result Io → before < now
   pub told : before < now → IsErrOf result Io
+
+-- Steps in order, the first with this number, each from where the one before it left the folder.
+abbrev pub InOrder : {F T : Type 0} → (ℕ → T → F → F → Type 0) → ℕ → List T → F → F → Type 0
+InOrder Step n [] old new = new ≡ old
+InOrder {F} Step n (t ∷ ts) old new = (mid : F) × Step n t old mid × InOrder Step (suc n) ts mid new

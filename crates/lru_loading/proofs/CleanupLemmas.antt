@@ -10,10 +10,8 @@ use Rattle.lru_folder.specs.declared.fault.FolderFault.{FolderFault}
 use Rattle.lru_folder.specs.declared.fault.FolderFault.TheVariants.{NotFound, Io}
 use Rattle.lru_folder.specs.Files.{Files, AllOrNone, removed}
 use Rattle.lru_folder.proofs.FilesLemmas.{decide, get-remove_same, get-remove_other}
-use Rattle.lru_loading.specs.Cleanup.{IsCleanup, Removal, IsSettled, RemovesEach, AreThere, is_removed, removal_blame}
+use Rattle.lru_loading.specs.Cleanup.{Removal, IsSettled, RemovesEach, AreThere, is_removed, removal_blame}
 use Rattle.lru_folder.specs.Blames.{Blame}
-use Rattle.lru_folder.specs.Places.{Folders}
-use Rattle.lru_folder.specs.declared.reports.TempFileCleanupReport.{TempFileCleanupReport}
 use Rattle.std.proofs.lemmas.List.Sums.{sum_by-append}
 use Rattle.lru_folder.specs.declared.listed.Listed.{Listed}
 use Rattle.lru_folder.specs.Listings.{name_of}
@@ -139,7 +137,7 @@ pub record EachSoFar (kept : Type 0) (paths rest : List (List ℕ)) (rose : Type
   pub blamed : after ≡ before ++ filter_map removal_blame done
   pub settling : kept → Settling rest rose old new done
 
-pub each_none : (kept : Type 0) (paths : List (List ℕ)) (rose : Type 0) (old : Files) (before : List Blame) → (kept → AreThere old paths) → EachSoFar kept paths paths rose old old 0 before before
+unfoldable pub each_none : (kept : Type 0) (paths : List (List ℕ)) (rose : Type 0) (old : Files) (before : List Blame) → (kept → AreThere old paths) → EachSoFar kept paths paths rose old old 0 before before
 each_none kept paths rose old before there = record {
   done = [];
   parts = refl;
@@ -148,7 +146,7 @@ each_none kept paths rose old before there = record {
   settling = λ k. settling_none paths rose old (there k);
 }
 
-pub each_more : (kept : Type 0) (paths : List (List ℕ)) (path : List ℕ) (rest : List (List ℕ)) (rose rose' : Type 0) (old mid new : Files) (count count' : ℕ) (before after after' : List Blame) (answer : Result (Unit {0}) FolderFault)
+unfoldable pub each_more : (kept : Type 0) (paths : List (List ℕ)) (path : List ℕ) (rest : List (List ℕ)) (rose rose' : Type 0) (old mid new : Files) (count count' : ℕ) (before after after' : List Blame) (answer : Result (Unit {0}) FolderFault)
     → EachSoFar kept paths (path ∷ rest) rose old mid count before after → (kept → rose → rose') → (kept → AllOrNone (removed path) mid new)
     → (kept → get mid path ≢ None → IsSettled rose' new (record { path = path; answer = answer }))
     → count' ≡ count + cond (is_ok answer) 1 0 → after' ≡ after ++ filter_map removal_blame (record { path = path; answer = answer } ∷ [])
@@ -173,23 +171,3 @@ each_end kept paths rose old new count before after so_far k =
       settled = (so_far.settling k).settled;
       others = λ q. subst (λ (ps : List (List ℕ)). (get new q ≡ get old q) ⊎ (Contains ps q × (get new q ≡ None))) all ((so_far.settling k).others q);
     }
-
--- what a cleanup says stays so when the folder has failed before it
-pub IsCleanup-weaker : (dir file_name : List ℕ) (folders : Folders) (rose rose' : Type 0) (old new : Files) (report : TempFileCleanupReport) → (rose → rose')
-    → IsCleanup dir file_name folders rose old new report → IsCleanup dir file_name folders rose' old new report
-IsCleanup-weaker dir file_name folders rose rose' old new report rises (inl absent) = inl absent
-IsCleanup-weaker dir file_name folders rose rose' old new report rises (inr (inl unlisted)) =
-    inr (inl (record { failed = rises unlisted.failed; same = unlisted.same; removed = unlisted.removed; blamed = unlisted.blamed }))
-IsCleanup-weaker dir file_name folders rose rose' old new report rises (inr (inr (there, clean))) = inr (inr (
-  there,
-  record {
-    removals = clean.removals;
-    each = record {
-      tried = clean.each.tried;
-      settled = All-weaker (IsSettled rose new) (IsSettled rose' new) (λ r. stays r.path new new (inl refl) rose rose' r rises) clean.removals clean.each.settled;
-      others = clean.each.others;
-    };
-    removed = clean.removed;
-    blamed = clean.blamed;
-  },
-))

@@ -79,12 +79,12 @@ module _ {E : Type 0} where
       (calls.0, calls.1, CallsFrom-push step turns (suc n) turn calls.0 mid after calls.2 (subst (λ k. TurnCalls step k mid turn after) at here))
 
   -- before the first turn
-  pub load_none : {C : Type 0} (step : C → ℕ → Bor (List ℕ) → Result (Unit {0}) E → C → Type 0) (kept rose : Type 0) (files : Files) (dir file_name : List ℕ) (before : C)
+  unfoldable pub load_none : {C : Type 0} (step : C → ℕ → Bor (List ℕ) → Result (Unit {0}) E → C → Type 0) (kept rose : Type 0) (files : Files) (dir file_name : List ℕ) (before : C)
       → IsLoad step kept rose files dir file_name before before 0 0 0 []
   load_none step kept rose files dir file_name before = record { turns = []; each = refl; calls = refl; so = tt; loaded_shards = refl; missing_shards = refl; failed_shards = refl }
 
   -- and with one more
-  pub load_more : {C : Type 0} (step : C → ℕ → Bor (List ℕ) → Result (Unit {0}) E → C → Type 0) (kept rose rose' : Type 0) (files : Files) (dir file_name : List ℕ) (before mid after : C)
+  unfoldable pub load_more : {C : Type 0} (step : C → ℕ → Bor (List ℕ) → Result (Unit {0}) E → C → Type 0) (kept rose rose' : Type 0) (files : Files) (dir file_name : List ℕ) (before mid after : C)
       (n loaded loaded' missing missing' : ℕ) (failures failures' : List (ShardLoadFailure E)) (turn : LoadTurn E) → IsLoad step kept rose files dir file_name before mid n loaded missing failures → (kept → rose → rose')
       → TurnCalls step n mid turn after → IsTrueTurn kept rose' files (shard_path dir file_name n) n turn
       → loaded' ≡ loaded + cond (is_loaded turn) 1 0 → missing' ≡ missing + cond (is_missing turn) 1 0 → failures' ≡ failures ++ failure_of n turn
@@ -118,42 +118,41 @@ module _ {E : Type 0} where
   failures_by (Ok done) = []
   failures_by (Err failure) = failure ∷ []
 
-  loaded_turn : (n : ℕ) (turn : LoadTurn E) → cond (is_loaded turn) 1 0 ≡ loaded_by (outcome_of n turn)
+  pub loaded_turn : (n : ℕ) (turn : LoadTurn E) → cond (is_loaded turn) 1 0 ≡ loaded_by (outcome_of n turn)
   loaded_turn n Missing = refl
   loaded_turn n (Unread failure) = refl
   loaded_turn n (Given bytes (Ok done)) = refl
   loaded_turn n (Given bytes (Err error)) = refl
 
-  missing_turn : (n : ℕ) (turn : LoadTurn E) → cond (is_missing turn) 1 0 ≡ missing_by (outcome_of n turn)
+  pub missing_turn : (n : ℕ) (turn : LoadTurn E) → cond (is_missing turn) 1 0 ≡ missing_by (outcome_of n turn)
   missing_turn n Missing = refl
   missing_turn n (Unread failure) = refl
   missing_turn n (Given bytes (Ok done)) = refl
   missing_turn n (Given bytes (Err error)) = refl
 
-  failed_turn : (n : ℕ) (turn : LoadTurn E) → failure_of n turn ≡ failures_by (outcome_of n turn)
+  pub failed_turn : (n : ℕ) (turn : LoadTurn E) → failure_of n turn ≡ failures_by (outcome_of n turn)
   failed_turn n Missing = refl
   failed_turn n (Unread failure) = refl
   failed_turn n (Given bytes (Ok done)) = refl
   failed_turn n (Given bytes (Err error)) = refl
 
   -- a shard's call more
-  pub load_next : {C : Type 0} (step : C → ℕ → Bor (List ℕ) → Result (Unit {0}) E → C → Type 0) (kept rose kept_then rose_then rose' : Type 0) (files files_then : Files) (dir file_name : List ℕ) (before mid after : C)
+  unfoldable pub load_next : {C : Type 0} (step : C → ℕ → Bor (List ℕ) → Result (Unit {0}) E → C → Type 0) (kept rose kept_then rose_then rose' : Type 0) (files files_then : Files) (dir file_name : List ℕ) (before mid after : C)
       (n loaded loaded' missing missing' : ℕ) (failures failures' : List (ShardLoadFailure E)) (result : Result ShardLoad (ShardLoadFailure E))
       → IsLoad step kept rose files dir file_name before mid n loaded missing failures
-      → (turn : LoadTurn E) × (result ≡ outcome_of n turn) × TurnCalls step n mid turn after × IsTrueTurn kept_then rose_then files_then (shard_path dir file_name n) n turn
+      → (turn : LoadTurn E) → result ≡ outcome_of n turn → TurnCalls step n mid turn after → IsTrueTurn kept_then rose_then files_then (shard_path dir file_name n) n turn
       → (kept → kept_then) → (kept → files_then ≡ files) → (kept → rose → rose') → (kept → rose_then → rose')
       → loaded' ≡ loaded + loaded_by result → missing' ≡ missing + missing_by result → failures' ≡ failures ++ failures_by result
       → IsLoad step kept rose' files dir file_name before after (n + 1) loaded' missing' failures'
-  load_next step kept rose kept_then rose_then rose' files files_then dir file_name before mid after n loaded loaded' missing missing' failures failures' result so_far here keeps same rises rises_then is_load is_miss is_fail =
-      let turn = here.0 in
-      load_more step kept rose rose' files dir file_name before mid after n loaded loaded' missing missing' failures failures' turn so_far rises here.2
-      (IsTrueTurn-weaker kept_then kept rose_then rose' files_then files keeps rises_then same (shard_path dir file_name n) n turn here.3)
-      (is_load ∙ ap (λ k. loaded + k) (ap loaded_by here.1 ∙ sym (loaded_turn n turn)))
-      (is_miss ∙ ap (λ k. missing + k) (ap missing_by here.1 ∙ sym (missing_turn n turn)))
-      (is_fail ∙ ap (λ fs. failures ++ fs) (ap failures_by here.1 ∙ sym (failed_turn n turn)))
+  load_next step kept rose kept_then rose_then rose' files files_then dir file_name before mid after n loaded loaded' missing missing' failures failures' result so_far turn ended calls so keeps same rises rises_then is_load is_miss is_fail =
+      load_more step kept rose rose' files dir file_name before mid after n loaded loaded' missing missing' failures failures' turn so_far rises calls
+      (IsTrueTurn-weaker kept_then kept rose_then rose' files_then files keeps rises_then same (shard_path dir file_name n) n turn so)
+      (is_load ∙ ap (λ k. loaded + k) (ap loaded_by ended ∙ sym (loaded_turn n turn)))
+      (is_miss ∙ ap (λ k. missing + k) (ap missing_by ended ∙ sym (missing_turn n turn)))
+      (is_fail ∙ ap (λ fs. failures ++ fs) (ap failures_by ended ∙ sym (failed_turn n turn)))
 
   -- the whole load, when the folder has gone on
-  pub load_over : {C : Type 0} (step : C → ℕ → Bor (List ℕ) → Result (Unit {0}) E → C → Type 0) (kept rose rose' : Type 0) (files : Files) (dir file_name : List ℕ) (before after : C)
+  unfoldable pub load_over : {C : Type 0} (step : C → ℕ → Bor (List ℕ) → Result (Unit {0}) E → C → Type 0) (kept rose rose' : Type 0) (files : Files) (dir file_name : List ℕ) (before after : C)
       (n shards loaded missing : ℕ) (failures : List (ShardLoadFailure E)) → IsLoad step kept rose files dir file_name before after n loaded missing failures → n ≡ shards → (kept → rose → rose')
       → IsLoad step kept rose' files dir file_name before after shards loaded missing failures
   load_over step kept rose rose' files dir file_name before after n shards loaded missing failures load all rises = record {

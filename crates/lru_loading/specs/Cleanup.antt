@@ -1,15 +1,18 @@
 -- What a cleanup of temp files does.
-use Rattle.std.specs.Prelude.{◌≡◌, ◌≢◌, ◌⊎◌, ℕ, Bool, List, [], ◌∷◌, ◌++◌, map, filter, count_by, replicate, All, Contains, IsTrue, not, Option, None, option_map, Result, is_ok, MatchResult}
+use Rattle.std.specs.Prelude.{◌≡◌, ◌≢◌, ◌⊎◌, ◌<◌, ℕ, Bool, List, [], ◌∷◌, ◌++◌, map, filter, count_by, replicate, All, Contains, IsTrue, not, Option, None, option_map, Result, is_ok, IfOk, MatchResult}
 use Rattle.std.specs.List.{filter_map}
 use Rattle.std.specs.Result.{result_err}
 use Rattle.std.specs.Str.{is_utf8}
 use Rattle.std.specs.FinMap.{get}
+use Rattle.lru_folder.specs.declared.folder_call.FolderCall.TheVariants as call
 use Rattle.lru_folder.specs.declared.fault.FolderFault.{FolderFault}
 use Rattle.lru_folder.specs.declared.fault.FolderFault.TheVariants.{NotFound, Io}
 use Rattle.lru_folder.specs.declared.reports.TempFileCleanupReport.{TempFileCleanupReport}
 use Rattle.lru_folder.specs.Names.{is_temp_name, path_text}
 use Rattle.lru_folder.specs.Files.{Files}
-use Rattle.lru_folder.specs.Places.{Folders, can_list, names_in}
+use Rattle.lru_folder.specs.Folder.{HasCause, InOrder}
+use Rattle.lru_folder.specs.Meaning.{Meaning}
+use Rattle.lru_folder.specs.Places.{can_list, names_in}
 use Rattle.lru_folder.specs.Blames.{Blame, blame_of, ReadDir, ReadDirEntry, Remove}
 
 -- the paths of a folder's temp files, in byte order of their names
@@ -41,32 +44,49 @@ pub record RemovesEach (paths : List (List ℕ)) (rose : Type 0) (old new : File
   pub settled : All (IsSettled rose new) removals
   pub others : (q : List ℕ) → (get new q ≡ get old q) ⊎ (Contains paths q × (get new q ≡ None))
 
--- The temp files were tried, and the report says how that went. Then it has a failure for each name that is no text.
-pub record RemovesTemps (dir file_name : List ℕ) (rose : Type 0) (old new : Files) (report : TempFileCleanupReport) : Type 0 where
+-- A removal, as the folder answered it.
+pub record RemovesOne {F : Type 0} (m : Meaning F) (number : ℕ) (removal : Removal) (old new : F) : Type 0 where
+  pub done : IfOk removal.answer (λ _. get (m.files new) removal.path ≡ None)
+  pub cause : HasCause (m.faults old) (m.faults new) removal.answer
+  pub called : m.last_call new ≡ call.Remove
+
+-- The temp files were tried one after another, in byte order of their names, and the report says how that went. Then it
+-- has a failure for each name that is no text.
+pub record RemovesTemps {F : Type 0} (m : Meaning F) (dir file_name : List ℕ) (old new : F) (report : TempFileCleanupReport) : Type 0 where
   pub removals : List Removal
-  pub each : RemovesEach (temp_paths dir file_name old) rose old new removals
+  pub each : RemovesEach (temp_paths dir file_name (m.files old)) (m.faults old < m.faults new) (m.files old) (m.files new) removals
+  pub in_order : InOrder (RemovesOne m) 0 removals old new
   pub removed : report.removed_files ≡ count_by is_removed removals
   pub blamed : map blame_of report.failures.items
-      ≡ filter_map removal_blame removals ++ replicate (unreadable_count dir old) (record { call = ReadDirEntry; path = dir; cause = Io })
+      ≡ filter_map removal_blame removals ++ replicate (unreadable_count dir (m.files old)) (record { call = ReadDirEntry; path = dir; cause = Io })
 
 -- The folder is not there, so there is nothing to report,
-pub record FindsNoFolder (dir : List ℕ) (folders : Folders) (old new : Files) (report : TempFileCleanupReport) : Type 0 where
-  pub absent : ¬ IsTrue (can_list folders dir)
-  pub same : new ≡ old
+pub record FindsNoFolder {F : Type 0} (m : Meaning F) (dir : List ℕ) (old new : F) (report : TempFileCleanupReport) : Type 0 where
+  pub absent : ¬ IsTrue (can_list (m.folders old) dir)
+  pub same : m.files new ≡ m.files old
+  pub quiet : m.faults new ≡ m.faults old
   pub removed : report.removed_files ≡ 0
   pub blamed : report.failures.items ≡ []
 
 -- or the device kept it from being listed,
-pub record FailsToList (dir : List ℕ) (rose : Type 0) (old new : Files) (report : TempFileCleanupReport) : Type 0 where
-  pub failed : rose
-  pub same : new ≡ old
+pub record FailsToList {F : Type 0} (m : Meaning F) (dir : List ℕ) (old new : F) (report : TempFileCleanupReport) : Type 0 where
+  pub failed : m.faults old < m.faults new
+  pub called : m.last_call new ≡ call.List
+  pub same : m.files new ≡ m.files old
   pub removed : report.removed_files ≡ 0
   pub blamed : map blame_of report.failures.items ≡ record { call = ReadDir; path = dir; cause = Io } ∷ []
 
--- or it was listed.
-abbrev pub IsCleanup : List ℕ → List ℕ → Folders → Type 0 → Files → Files → TempFileCleanupReport → Type 0
-IsCleanup dir file_name folders rose old new report =
-    FindsNoFolder dir folders old new report ⊎ (FailsToList dir rose old new report ⊎ (IsTrue (can_list folders dir) × RemovesTemps dir file_name rose old new report))
+-- or it was listed, and then its temp files were removed.
+pub record ListsAndRemoves {F : Type 0} (m : Meaning F) (dir file_name : List ℕ) (old new : F) (report : TempFileCleanupReport) : Type 0 where
+  pub there : IsTrue (can_list (m.folders old) dir)
+  pub listed : F
+  pub same : m.files listed ≡ m.files old
+  pub quiet : m.faults listed ≡ m.faults old
+  pub removes : RemovesTemps m dir file_name listed new report
+
+abbrev pub IsCleanup : {F : Type 0} → Meaning F → List ℕ → List ℕ → F → F → TempFileCleanupReport → Type 0
+IsCleanup m dir file_name old new report =
+    FindsNoFolder m dir old new report ⊎ (FailsToList m dir old new report ⊎ ListsAndRemoves m dir file_name old new report)
 
 -- the paths are there, each once
 abbrev pub AreThere : Files → List (List ℕ) → Type 0

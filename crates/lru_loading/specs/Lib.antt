@@ -6,3 +6,4 @@ pub use Rattle.lru_folder.specs.Files
 pub use Rattle.lru_folder.specs.Folder
 pub use Rattle.lru_folder.specs.Names
 pub use Rattle.lru_folder.specs.Places
+pub use Rattle.lru_folder.specs.Meaning

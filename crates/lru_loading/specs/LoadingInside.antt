@@ -20,3 +20,13 @@ outcome_of shard (Given bytes (Err error)) = Err (failure.Deserialize shard erro
 abbrev pub IsReadFault : Type 0 → ReadError → Type 0
 IsReadFault rose (Folder fault) = (fault ≢ NotFound) × (fault ≡ Io → rose)
 IsReadFault rose Memory = Unit {0}
+
+-- a fault of the folder
+abbrev pub IfFolder : ReadError → Type 0 → Type 0
+IfFolder (Folder fault) P = P
+IfFolder Memory P = Unit {0}
+
+-- the device failed
+abbrev pub IsReadDeviceFault : ReadError → Type 0
+IsReadDeviceFault (Folder fault) = fault ≡ Io
+IsReadDeviceFault Memory = ⊥

@@ -2,7 +2,8 @@
 ghost use Rattle.std.specs.Prelude.{◌≡◌, ◌↔◌, ◌+◌, ◌<◌, ◌≤◌, [], ◌∷◌, ◌++◌, List, IfOk, OnErr, count_by, filter, is_none, map, replicate, string_bytes, vec_capacity, vec_len};
 ghost use Rattle.std.specs.List.{filter_map};
 ghost use Rattle.lru_folder.specs.Blames.{blame_of, ReadDir, ReadDirEntry};
-ghost use Rattle.lru_loading.specs.Cleanup.{AreThere, IsCleanup, RemovesEach, RemovesTemps, Removal, is_removed, removal_blame};
+ghost use Rattle.lru_loading.specs.Cleanup.{AreThere, IsCleanup, RemovesEach, RemovesOne, RemovesTemps, Removal, is_removed, removal_blame};
+ghost use Rattle.lru_folder.specs.Folder.{InOrder};
 ghost use Rattle.lru_folder.specs.Listings.{name_of};
 ghost use Rattle.lru_folder.specs.Names.{is_temp_name, path_text};
 ghost use Rattle.lru_folder.specs.Places.{listing};
@@ -63,6 +64,7 @@ fn remove_each<F: Folder>(
     requires there { F.keeps folder.old → AreThere (F.files folder.old) (map string_bytes paths.items) }
     ensures removals { (removals : List Removal)
         × (F.keeps folder.old → RemovesEach (map string_bytes paths.items) (F.faults folder.old < F.faults folder.new) (F.files folder.old) (F.files folder.new) removals)
+        × (F.keeps folder.old → InOrder (RemovesOne (record { files = F.files; folders = F.folders; clock = F.clock; stopped_since = F.stopped_since; faults = F.faults; last_call = F.last_call; keeps = F.keeps })) 0 removals folder.old folder.new)
         × (result ≡ count_by is_removed removals)
         × (map blame_of failures.new.items ≡ map blame_of failures.old.items ++ filter_map removal_blame removals) }
     ensures room { vec_len failures.new ≤ vec_len failures.old + vec_len paths }
@@ -93,7 +95,8 @@ fn remove_listed<F: Folder>(
     listed: &[Listed],
 ) -> Result<TempFileCleanupReport, AllocError>
     requires { F.keeps folder.old → map name_of listed.now ≡ listing dir_path.now (F.files folder.old) }
-    ensures ok { F.keeps folder.old → IfOk result (RemovesTemps dir_path.now file_name.now (F.faults folder.old < F.faults folder.new) (F.files folder.old) (F.files folder.new)) }
+    ensures ok { F.keeps folder.old → IfOk result (RemovesTemps (record { files = F.files; folders = F.folders; clock = F.clock; stopped_since = F.stopped_since; faults = F.faults; last_call = F.last_call; keeps = F.keeps })
+        dir_path.now file_name.now folder.old folder.new) }
     ensures err { OnErr result (folder.new ≡ folder.old) }
     ensures later { F.keeps folder.old → F.faults folder.old ≤ F.faults folder.new }
     ensures places { F.keeps folder.old → F.folders folder.new ≡ F.folders folder.old }
@@ -136,7 +139,8 @@ pub(crate) fn remove_temp_files<F: Folder>(
     dir_path: &str,
     file_name: &str,
 ) -> Result<TempFileCleanupReport, AllocError>
-    ensures ok { F.keeps folder.old → IfOk result (IsCleanup dir_path.now file_name.now (F.folders folder.old) (F.faults folder.old < F.faults folder.new) (F.files folder.old) (F.files folder.new)) }
+    ensures ok { F.keeps folder.old → IfOk result (IsCleanup (record { files = F.files; folders = F.folders; clock = F.clock; stopped_since = F.stopped_since; faults = F.faults; last_call = F.last_call; keeps = F.keeps })
+        dir_path.now file_name.now folder.old folder.new) }
     ensures err { F.keeps folder.old → OnErr result (F.files folder.new ≡ F.files folder.old) }
     ensures later { F.keeps folder.old → F.faults folder.old ≤ F.faults folder.new }
     ensures places { F.keeps folder.old → F.folders folder.new ≡ F.folders folder.old }

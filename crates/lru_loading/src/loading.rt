@@ -1,21 +1,20 @@
 // Shards loaded from their files.
-ghost use Rattle.std.specs.Prelude.{◌≡◌, ◌≢◌, ◌↔◌, ◌+◌, ◌<◌, ◌≤◌, ℕ, List, false, length, IfOk, IfErr, OnErr, MatchResult, map, Option, option_map, string_bytes, vec_len};
-ghost use Rattle.std.specs.List.Sorted.{IsStrictlyIncreasing};
+ghost use Rattle.std.specs.Prelude.{◌≡◌, ◌≢◌, ◌↔◌, ◌<◌, ◌≤◌, ℕ, List, false, length, IfOk, IfErr, IsErrAnd, Option, option_map, string_bytes, vec_len};
+ghost use Rattle.lru_folder.specs.Blames.{failed_call};
 ghost use Rattle.std.specs.FinMap.{get};
-ghost use Rattle.lru_loading.specs.Cleanup.{IsCleanup};
 ghost use Rattle.lru_folder.specs.Folder.{IsReading, Reading};
-ghost use Rattle.lru_loading.specs.Loading.{failed_shard, IsLoad, IsTrueTurn, IsUnread, LoadTurn, TurnCalls};
-ghost use Rattle.lru_loading.specs.LoadingInside.{IsReadFault};
-ghost use Rattle.lru_loading.specs.LoadingInside.{outcome_of};
+ghost use Rattle.lru_loading.specs.LoadingInside.{outcome_of, IfFolder, IsReadDeviceFault, IsReadFault};
+ghost use Rattle.lru_loading.specs.Loading.{IfIo, IsDeviceFault, IsTrueTurn, IsUnread, LoadsOne, LoadsShards, LoadTurn, TurnCalls};
 ghost use Rattle.lru_folder.specs.Names.{has_slash, shard_path};
 
 use crate::cleanup::remove_temp_files;
+use log::{Log, info, warn};
 use lru_folder::errors::{ShardFileError, ShardLoadFailure};
 use lru_folder::fault::FolderFault;
 use lru_folder::folder::Folder;
+use lru_folder::folder_call::FolderCall;
 use lru_folder::names::shard_path;
 use lru_folder::reports::{ShardLoadReport, TempFileCleanupReport};
-use log::{Log, info, warn};
 use std::alloc::{AllocError, Global};
 use std::fmt::Display;
 
@@ -51,6 +50,8 @@ fn read_opened<F: Folder>(alloc: Global, folder: &mut F, len: u64) -> Result<Vec
     requires { IsReading (F.opened folder.old) }
     ensures whole { F.keeps folder.old → (left : List ℕ) → F.opened folder.old ≡ Reading left → len ≡ length left → IfOk result (λ bytes. bytes.items ≡ left) }
     ensures cause { F.keeps folder.old → IfErr result (IsReadFault (F.faults folder.old < F.faults folder.new)) }
+    ensures named { F.keeps folder.old → IfErr result (λ e. IfFolder e (F.last_call folder.new ≡ FolderCall.Read)) }
+    ensures told { F.keeps folder.old → F.faults folder.old < F.faults folder.new → IsErrAnd result IsReadDeviceFault }
     ensures files { F.keeps folder.old → F.files folder.new ≡ F.files folder.old }
     ensures later { F.keeps folder.old → F.faults folder.old ≤ F.faults folder.new }
     ensures places { F.keeps folder.old → F.folders folder.new ≡ F.folders folder.old }
@@ -78,6 +79,8 @@ fn read_shard<F: Folder, E>(
 ) -> Result<Option<Vec<u8>>, ShardLoadFailure<E>>
     ensures found { F.keeps folder.old → IfOk result (λ bytes. option_map (λ b. b.items) bytes ≡ get (F.files folder.old) (shard_path dir_path.now file_name.now shard)) }
     ensures unread { IfErr result (IsUnread (F.keeps folder.old) (F.faults folder.old < F.faults folder.new) (shard_path dir_path.now file_name.now shard) shard) }
+    ensures named { F.keeps folder.old → IfErr result (λ f. IfIo f (λ e. F.last_call folder.new ≡ failed_call e)) }
+    ensures told { F.keeps folder.old → F.faults folder.old < F.faults folder.new → IsErrAnd result IsDeviceFault }
     ensures files { F.keeps folder.old → F.files folder.new ≡ F.files folder.old }
     ensures later { F.keeps folder.old → F.faults folder.old ≤ F.faults folder.new }
     ensures places { F.keeps folder.old → F.folders folder.new ≡ F.folders folder.old }
@@ -124,7 +127,9 @@ fn load_from_file<F: Folder, E, C: FnMut(usize, &[u8]) -> Result<(), E>>(
     ensures callable { C.IsAlwaysCallable deserialize.new }
     ensures turn { (turn : LoadTurn E) × (result ≡ outcome_of shard turn)
         × TurnCalls C.step shard deserialize.old turn deserialize.new
-        × IsTrueTurn (F.keeps folder.old) (F.faults folder.old < F.faults folder.new) (F.files folder.old) (shard_path dir_path.now file_name.now shard) shard turn }
+        × IsTrueTurn (F.keeps folder.old) (F.faults folder.old < F.faults folder.new) (F.files folder.old) (shard_path dir_path.now file_name.now shard) shard turn
+        × (F.keeps folder.old → LoadsOne (record { files = F.files; folders = F.folders; clock = F.clock; stopped_since = F.stopped_since; faults = F.faults; last_call = F.last_call; keeps = F.keeps })
+        dir_path.now file_name.now shard turn folder.old folder.new) }
     ensures files { F.keeps folder.old → F.files folder.new ≡ F.files folder.old }
     ensures later { F.keeps folder.old → F.faults folder.old ≤ F.faults folder.new }
     ensures places { F.keeps folder.old → F.folders folder.new ≡ F.folders folder.old }
@@ -187,26 +192,9 @@ pub fn load_shards<F: Folder, L: Log, E: Display, C: FnMut(usize, &[u8]) -> Resu
     requires name { has_slash file_name.now ≡ false }
     requires callable { C.IsAlwaysCallable deserialize.old }
 
-    // Each shard had its turn, and the report tells how the turns ended.
-    ensures loads { IfOk result (λ report. IsLoad C.step (F.keeps folder.old) (F.faults folder.old < F.faults folder.new) (F.files folder.old)
-        dir_path.now file_name.now deserialize.old deserialize.new shards report.loaded_shards report.missing_shards report.failures.items) }
-    ensures errors { IfOk result (λ report. report.error_shards ≡ length report.failures.items) }
-    ensures sum { IfOk result (λ report. report.loaded_shards + report.missing_shards + report.error_shards ≡ shards) }
+    ensures loads { LoadsShards (record { files = F.files; folders = F.folders; clock = F.clock; stopped_since = F.stopped_since; faults = F.faults; last_call = F.last_call; keeps = F.keeps })
+        C.step dir_path.now file_name.now shards deserialize.old folder.old result deserialize.new folder.new }
 
-    // The failures name their shards, each once, from shard 0 up.
-    ensures named { IfOk result (λ report. IsStrictlyIncreasing (map failed_shard report.failures.items)) }
-
-    // Then the temp files were removed, or memory kept them all.
-    ensures cleaned { F.keeps folder.old → IfOk result (λ report. MatchResult report.temp_cleanup
-        (IsCleanup dir_path.now file_name.now (F.folders folder.old) (F.faults folder.old < F.faults folder.new) (F.files folder.old) (F.files folder.new))
-        (λ _. F.files folder.new ≡ F.files folder.old)) }
-
-    // Or there was no room for the report.
-    ensures unmoved { OnErr result ((folder.new ≡ folder.old) × (deserialize.new ≡ deserialize.old)) }
-
-    ensures later { F.keeps folder.old → F.faults folder.old ≤ F.faults folder.new }
-    ensures places { F.keeps folder.old → F.folders folder.new ≡ F.folders folder.old }
-    ensures kept { F.keeps folder.old ↔ F.keeps folder.new }
     ensures callable { C.IsAlwaysCallable deserialize.new }
 {
     let mut failures = Vec::with_capacity(alloc, shards)?;

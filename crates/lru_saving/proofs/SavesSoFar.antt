@@ -5,7 +5,8 @@ use Rattle.lru_folder.specs.declared.fault.FolderFault.TheVariants.{NotFound, Me
 use Rattle.lru_folder.specs.declared.errors.ShardSaveFailure.{ShardSaveFailure}
 use Rattle.lru_folder.specs.declared.errors.ShardSaveFailure.TheVariants as failure
 use Rattle.lru_folder.specs.Files.{Files, Same}
-use Rattle.lru_folder.specs.Folder.{Passes}
+use Rattle.lru_folder.specs.Folder.{InOrder, Passes}
+use Rattle.lru_folder.proofs.InOrderLemmas.{in_order-push}
 use Rattle.lru_folder.proofs.Moments.{started, goes_on, then_run}
 use Rattle.lru_folder.specs.Meaning.{Meaning}
 use Rattle.lru_folder.specs.Names.{has_slash, temp_path}
@@ -13,7 +14,7 @@ use Rattle.lru_folder.specs.Places.{Folders, folder_of, is_there, MakesAll}
 use Rattle.lru_saving.specs.Saving.{HasReason, source_of}
 use Rattle.lru_saving.specs.Progress.{Progress, TakesTurn, next_of}
 use Rattle.std.proofs.lemmas.Bool.{ltb-true}
-use Rattle.lru_saving.specs.Turns.{SaveTurn, EachTurn, Ends, EachOldOrGiven, IsKept, IsRefused, IfIo, SavesOne, SavesInOrder, SavesEach, failures_of}
+use Rattle.lru_saving.specs.Turns.{SaveTurn, EachTurn, Ends, EachOldOrGiven, IsKept, IsRefused, IfIo, SavesOne, SavesEach, failures_of}
 use Rattle.lru_folder.proofs.NamesLemmas.{has_slash-temp_text}
 use Rattle.lru_folder.proofs.PlacesLemmas.{there}
 use Rattle.lru_saving.proofs.Putting.{same_progress}
@@ -28,7 +29,7 @@ pub record IsSoFar {E : Type 0} (dir file_name : List ℕ) (shards : ℕ) (turns
 -- what the folder holds
 pub record SavesSoFar {F E : Type 0} (m : Meaning F) (dir file_name : List ℕ) (turns : List (SaveTurn E)) (old made new : F) : Type 0 where
   pub each : SavesEach m dir file_name turns old new
-  pub in_order : SavesInOrder m dir file_name 0 turns made new
+  pub in_order : InOrder (SavesOne m dir file_name) 0 turns made new
   pub later : m.faults old ≤ m.faults new
   pub is_there_now : (shard word : ℕ) → shard < 2 ^ 64 → word < 2 ^ 32 → is_there (m.folders new) (folder_of (temp_path dir file_name shard word)) ≡ true
 
@@ -84,16 +85,6 @@ knows_one {E} dir file_name shards turns turn old new so_far left takes =
           (subst (λ (p : Progress E). Ends p.dir p.file_name p.next turn) is takes.ends);
     }
 
--- one turn more in order
-pub in_order-push : {F E : Type 0} (m : Meaning F) (dir file_name : List ℕ) (shard at : ℕ) (turns : List (SaveTurn E)) (turn : SaveTurn E) (old mid new : F) → at ≡ length turns + shard
-    → SavesInOrder m dir file_name shard turns old mid → SavesOne m dir file_name at turn mid new → SavesInOrder m dir file_name shard (turns ++ turn ∷ []) old new
-in_order-push m dir file_name shard at [] turn old mid new is so_far one =
-    let here : at ≡ shard = omega arith in
-    (new, subst (λ f. SavesOne m dir file_name shard turn f new) so_far (subst (λ n. SavesOne m dir file_name n turn mid new) here one), refl)
-in_order-push m dir file_name shard at (first ∷ turns) turn old mid new is so_far one =
-    let later : at ≡ length turns + suc shard = omega arith in
-    (so_far.0, so_far.1, in_order-push m dir file_name (suc shard) at turns turn so_far.0 mid new later so_far.2 one)
-
 module _ {F E : Type 0} (m : Meaning F) (dir file_name : List ℕ) (old : F) where
   -- once the folder is made, before the first turn
   pub saves_none : (new : F) → ((f : Files) → m.stopped_since old (m.clock old) f → f ≡ m.files old) → Passes m.clock m.stopped_since m.files Same old new
@@ -131,7 +122,7 @@ module _ {F E : Type 0} (m : Meaning F) (dir file_name : List ℕ) (old : F) whe
           EachTurn-push (λ i t. IfSome t.failed IsRefused) turns turn (so_far.each.refused then_same)
           (refused_by _ (m.faults mid) (m.faults new) turn.failed (so_far.is_there_now (length turns) turn.word small short) now_same one.reason);
     };
-    in_order = in_order-push m dir file_name 0 (length turns) turns turn made mid new (omega arith) so_far.in_order one;
+    in_order = in_order-push (SavesOne m dir file_name) 0 (length turns) turns turn made mid new (omega arith) so_far.in_order one;
     later = omega (arith, so_far.later, one.later);
     is_there_now = λ shard word a b. ap (λ (f : Folders). is_there f (folder_of (temp_path dir file_name shard word))) one.places ∙ so_far.is_there_now shard word a b;
   }

@@ -6,12 +6,12 @@ use Rattle.lru_folder.specs.declared.errors.ShardSaveError.TheVariants.{Setup}
 use Rattle.lru_folder.specs.declared.errors.ShardSaveSetupError.TheVariants.{Memory}
 use Rattle.lru_folder.specs.declared.reports.ShardSaveReport.{ShardSaveReport}
 use Rattle.lru_folder.specs.Files.{Same}
-use Rattle.lru_folder.specs.Folder.{Passes}
+use Rattle.lru_folder.specs.Folder.{InOrder, Passes}
 use Rattle.lru_folder.specs.Meaning.{Meaning}
 use Rattle.lru_folder.specs.Places.{MakesAll, MakesSome}
 use Rattle.lru_saving.specs.Progress.{IfCreateDir, IfSetup, IsBegun, IsSaveOf, NamesFolder}
 use Rattle.lru_saving.specs.Saving.{HasReason}
-use Rattle.lru_saving.specs.Turns.{Given, RunsTo, SavesEach, SavesInOrder, SaveTurn}
+use Rattle.lru_saving.specs.Turns.{Given, RunsTo, SavesEach, SavesOne, SaveTurn}
 
 -- what a save answers
 abbrev pub SaveResultOf : Type 0 → Type 0
@@ -35,7 +35,7 @@ pub record TakesTurns {F S E : Type 0} (m : Meaning F) (step : S → ℕ → Giv
   -- the folder is made first, and then each turn does to it what a saver's turn does
   pub made : F
   pub makes : m.keeps old → IsMade m dir old made
-  pub in_order : m.keeps old → SavesInOrder m dir file_name 0 turns made new
+  pub in_order : m.keeps old → InOrder (SavesOne m dir file_name) 0 turns made new
   pub saves : m.keeps old → SavesEach m dir file_name turns old new
 
 -- A save of so many shards.

@@ -110,12 +110,6 @@ pub record SavesOne {F E : Type 0} (m : Meaning F) (dir file_name : List ℕ) (s
   pub told : m.faults old < m.faults new → IsSomeAnd turn.failed IsDeviceFault
   pub places : m.folders new ≡ m.folders old
 
--- the turns in order, from this shard on, each from where the one before it left the folder
-abbrev pub SavesInOrder : {F E : Type 0} → Meaning F → List ℕ → List ℕ → ℕ → List (SaveTurn E) → F → F → Type 0
-SavesInOrder m dir file_name shard [] old new = new ≡ old
-SavesInOrder {F} m dir file_name shard (turn ∷ turns) old new =
-    (mid : F) × SavesOne m dir file_name shard turn old mid × SavesInOrder m dir file_name (suc shard) turns mid new
-
 -- What all turns do to the folder.
 pub record SavesEach {F E : Type 0} (m : Meaning F) (dir file_name : List ℕ) (turns : List (SaveTurn E)) (old new : F) : Type 0 where
   -- a stop at any moment leaves each shard's file old or whole new

@@ -6,3 +6,4 @@ pub mod SnapshotJoins
 pub mod SnapshotRuns
 pub mod SnapshotCalls
 pub mod SnapshotRestores
+pub mod RowLaws

@@ -11,7 +11,7 @@ if_ok P Q f (Ok x) h = f x h
 if_ok P Q f (Err e) h = h
 
 module _ {C D E : Type 0} (step : C → ℕ → Bor (List ℕ) → Result (Unit {0}) E → C → Type 0) (seen : D → ℕ → Bor (List ℕ) → Result (Unit {0}) E → D → Type 0) (view : C → D) (n : ℕ) (shows : (f g : C) (k : ℕ) (shown : Bor (List ℕ)) (answer : Result (Unit {0}) E) → k < n → step f k shown answer g → seen (view f) k shown answer (view g)) where
-  turn_seen : (shard : ℕ) (f : C) (turn : LoadTurn E) (g : C) → shard < n → TurnCalls step shard f turn g → TurnCalls seen shard (view f) turn (view g)
+  pub turn_seen : (shard : ℕ) (f : C) (turn : LoadTurn E) (g : C) → shard < n → TurnCalls step shard f turn g → TurnCalls seen shard (view f) turn (view g)
   turn_seen shard f Missing g lt h = ap view h
   turn_seen shard f (Unread failure) g lt h = ap view h
   turn_seen shard f (Given bytes answer) g lt h = (h.0, h.1, shows f g shard h.0 answer lt h.2)
@@ -21,7 +21,7 @@ module _ {C D E : Type 0} (step : C → ℕ → Bor (List ℕ) → Result (Unit 
   calls_seen shard f (turn ∷ turns) g le h =
       (view h.0, turn_seen shard f turn h.0 (omega arith) h.1, calls_seen (suc shard) h.0 turns g (omega arith) h.2)
 
-  pub load_seen : (kept rose : Type 0) (files : Files) (dir file_name : List ℕ) (before after : C) (loaded missing : ℕ) (failures : List (ShardLoadFailure E)) → IsLoad step kept rose files dir file_name before after n loaded missing failures → IsLoad seen kept rose files dir file_name (view before) (view after) n loaded missing failures
+  unfoldable pub load_seen : (kept rose : Type 0) (files : Files) (dir file_name : List ℕ) (before after : C) (loaded missing : ℕ) (failures : List (ShardLoadFailure E)) → IsLoad step kept rose files dir file_name before after n loaded missing failures → IsLoad seen kept rose files dir file_name (view before) (view after) n loaded missing failures
   load_seen kept rose files dir file_name before after loaded missing failures h = record {
     turns = h.turns;
     each = h.each;

@@ -5,7 +5,7 @@ use Rattle.std.proofs.lemmas.Bool.{cond_both, cases_eq, eq-eqb, ne_eqb, lt-ltb}
 use Rattle.std.proofs.lemmas.List.{take_all}
 use Rattle.pingora_lru.specs.Row.{Row, times, HasDistinctKeys, is_held, row_of}
 use Rattle.pingora_lru.specs.Core.{Core, list_at, home}
-use Rattle.pingora_lru.proofs.Rows.{times-append, times_no, row_of_absent}
+use Rattle.lru_snapshot.proofs.RowLaws.{times-append, times_no, row_of_absent}
 use Rattle.lru_snapshot.specs.declared.snapshot.Keyed.{Keyed}
 use Rattle.lru_snapshot.specs.SnapshotLoads.{row_of_pair, Joins}
 use Rattle.lru_snapshot.proofs.SnapshotLoadLemmas.{map_take_more}

@@ -5,7 +5,7 @@ use Rattle.std.proofs.lemmas.Bool.{le-ltb, lt-ltb}
 use Rattle.pingora_lru.specs.declared.unit.Cause.TheVariants.{Weight, Length}
 use Rattle.pingora_lru.specs.Row.{Row, weight_of}
 use Rattle.pingora_lru.specs.Shard.{most_rows}
-use Rattle.pingora_lru.proofs.Rows.{weight-append, weight-cons}
+use Rattle.lru_snapshot.proofs.RowLaws.{weight-append, weight-cons}
 use Rattle.lru_snapshot.specs.declared.snapshot.Keyed.{Keyed}
 use Rattle.lru_snapshot.specs.SnapshotLoads.{row_of_pair, limit_passed}
 use Rattle.lru_snapshot.proofs.SnapshotLoadLemmas.{map_round}

@@ -9,7 +9,7 @@ use Rattle.pingora_lru.specs.Core.{Core, list_at, with_list, home}
 use Rattle.pingora_lru.specs.CoreCalls.{CoreInsertsTail}
 use Rattle.lru_snapshot.specs.declared.snapshot.Keyed.{Keyed}
 use Rattle.lru_snapshot.specs.SnapshotLoads.{row_of_pair, TellTheirKeys}
-use Rattle.pingora_lru.proofs.Rows.{without_there, row_of_absent}
+use Rattle.lru_snapshot.proofs.RowLaws.{without_there, row_of_absent}
 
 module _ {T : Type 0} where
   pub list_at-with : (c : Core T) (s : ℕ) (rows : List (Row T)) → s < length c.lists → list_at (with_list c s rows) s ≡ rows

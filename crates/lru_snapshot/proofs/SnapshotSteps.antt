@@ -6,7 +6,7 @@ use Rattle.std.proofs.lemmas.Bool.{eq-eqb}
 use Rattle.pingora_lru.specs.Row.{Row, times, HasDistinctKeys, without}
 use Rattle.pingora_lru.specs.Core.{Core, list_at, with_list, home}
 use Rattle.pingora_lru.specs.CoreCalls.{CoreInsertsTail}
-use Rattle.pingora_lru.proofs.Rows.{times-append, times_yes}
+use Rattle.lru_snapshot.proofs.RowLaws.{times-append, times_yes}
 use Rattle.lru_snapshot.specs.declared.snapshot.Keyed.{Keyed}
 use Rattle.lru_snapshot.specs.SnapshotLoads.{row_of_pair, Joins}
 use Rattle.lru_snapshot.proofs.SnapshotLoadLemmas.{list_at-with, with_list-twice, with_list-own, home-with, removed, put_more, map_round, map_take_more, map_drop_more}

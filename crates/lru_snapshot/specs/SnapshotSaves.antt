@@ -1,24 +1,19 @@
 -- What the turns of a core's save are given.
-use Rattle.std.specs.Prelude.{◌≡◌, ◌<◌, ℕ, List, [], ◌∷◌, Some, IfOk, map}
+use Rattle.std.specs.Prelude.{◌≡◌, ◌<◌, ℕ, List, Some, IfOk, map}
 use Rattle.std.specs.FinMap.{get}
 use Rattle.lru_folder.specs.Files.{Files}
 use Rattle.lru_snapshot.specs.SnapshotLoads.{rows_of}
 use Rattle.std.specs.declared.alloc.AllocError.{AllocError}
-use Rattle.rand_core.specs.Stream.{Stream, next_u32}
 use Rattle.pingora_lru.specs.Row.{pair_of}
 use Rattle.pingora_lru.specs.Core.{Core, list_at}
 use Rattle.lru_snapshot.specs.declared.snapshot.Keyed.{Keyed}
 use Rattle.lru_snapshot.specs.Snapshot.{bytes_of}
-use Rattle.lru_saving.specs.Turns.{SaveTurn}
+use Rattle.lru_folder.specs.Names.{shard_path}
+use Rattle.lru_saving.specs.Turns.{Given}
 
--- the turn was given the bytes of the shard's rows, unless memory was refused
-abbrev pub GivesShard : Core Keyed → ℕ → SaveTurn AllocError → Type 0
-GivesShard core shard turn = IfOk turn.given (λ bytes. bytes.items ≡ bytes_of (map pair_of (list_at core shard)))
-
--- each turn draws one word
-abbrev pub DrawsWords : {E : Type 0} → Stream → List (SaveTurn E) → Stream → Type 0
-DrawsWords s [] rest = s ≡ rest
-DrawsWords s (turn ∷ turns) rest = (turn.word ≡ (next_u32 s).0) × DrawsWords (next_u32 s).1 turns rest
+-- a call for the bytes of a shard gives those of its rows, unless memory was refused
+abbrev pub GivesShard : Core Keyed → Unit {0} → ℕ → Given AllocError → Unit {0} → Type 0
+GivesShard core before shard given after = IfOk given (λ bytes. bytes.items ≡ bytes_of (map pair_of (list_at core shard)))
 
 -- the file of each of n shards tells the rows that a core has there
 abbrev pub TellCore : Files → List ℕ → List ℕ → ℕ → Core Keyed → Type 0

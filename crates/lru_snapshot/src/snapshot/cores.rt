@@ -1,22 +1,20 @@
 // A core saved shard by shard, and loaded again.
-ghost use Rattle.std.specs.Prelude.{◌≡◌, ℕ, [], ◌<◌, false, length, IfErr, IfOk, map};
-ghost use Rattle.pingora_lru.specs.Core.{Core, list_at};
+ghost use Rattle.std.specs.Prelude.{◌≡◌, ◌<◌, false, IfErr, IfOk, map};
+ghost use Rattle.pingora_lru.specs.Core.{list_at};
 ghost use Rattle.pingora_lru.specs.Row.{pair_of};
-ghost use Rattle.lru_snapshot.specs.declared.snapshot.Keyed.{Keyed};
 ghost use Rattle.lru_folder.specs.Names.{has_slash};
 ghost use Rattle.lru_saving.specs.Progress.{IfSetup};
 ghost use Rattle.lru_snapshot.specs.Snapshot.{bytes_of};
-ghost use Rattle.lru_snapshot.specs.SnapshotSaves.{TellCore};
 ghost use Rattle.lru_snapshot.specs.SnapshotLoads.{LoadsShard};
-ghost use Rattle.lru_snapshot.specs.Stores.{LoadsCore, SavesCore};
+ghost use Rattle.lru_snapshot.specs.Stores.{LoadsCore, Restores, SavesCore};
 
-use lru_folder::errors::ShardSaveError;
-use lru_folder::folder::Folder;
-use lru_loading::loading::load_shards;
-use lru_folder::reports::{ShardLoadReport, ShardSaveReport};
-use lru_saving::saving::save_shards;
 use crate::snapshot::{Keyed, LoadError, load_shard, shard_bytes};
 use log::Log;
+use lru_folder::errors::ShardSaveError;
+use lru_folder::folder::Folder;
+use lru_folder::reports::{ShardLoadReport, ShardSaveReport};
+use lru_loading::loading::load_shards;
+use lru_saving::saving::save_shards;
 use pingora_lru::lru_core::LruCore;
 use rand_core::Rng;
 use std::alloc::{AllocError, Global};
@@ -34,7 +32,7 @@ pub fn save_core<F: Folder, R: Rng, L: Log, const N: usize>(
 ) -> Result<ShardSaveReport<AllocError>, ShardSaveError<AllocError>>
     requires { has_slash file_name.now ≡ false }
 
-    ensures saves { SavesCore (record { files = F.files; folders = F.folders; clock = F.clock; stopped_since = F.stopped_since; faults = F.faults; keeps = F.keeps })
+    ensures saves { SavesCore (record { files = F.files; folders = F.folders; clock = F.clock; stopped_since = F.stopped_since; faults = F.faults; last_call = F.last_call; keeps = F.keeps })
         dir_path.now file_name.now N core.now (R.stream rng.old) folder.old result (R.stream rng.new) folder.new }
 
     // Where no shard had its turn, no word is drawn.
@@ -65,13 +63,11 @@ pub fn load_core<F: Folder, L: Log, const N: usize>(
 ) -> Result<ShardLoadReport<LoadError>, AllocError>
     requires { has_slash file_name.now ≡ false }
 
-    ensures loads { LoadsCore (record { files = F.files; folders = F.folders; clock = F.clock; stopped_since = F.stopped_since; faults = F.faults; keeps = F.keeps })
+    ensures loads { LoadsCore (record { files = F.files; folders = F.folders; clock = F.clock; stopped_since = F.stopped_since; faults = F.faults; last_call = F.last_call; keeps = F.keeps })
         dir_path.now file_name.now N core.old folder.old result core.new folder.new }
 
     // An empty core that loads all shards from files that tell another's rows has its lists.
-    ensures restores { F.keeps folder.old → (saved : Core Keyed) → TellCore (F.files folder.old) dir_path.now file_name.now N saved
-        → ((s : ℕ) → list_at core.old s ≡ []) → length core.old.lists ≡ N
-        → IfOk result (λ report. report.loaded_shards ≡ N → (s : ℕ) → s < N → list_at core.new s ≡ list_at saved s) }
+    ensures restores { F.keeps folder.old → Restores (F.files folder.old) dir_path.now file_name.now N core.old result core.new }
 {
     // The shards asked for are below N.
     let mut deserialize = |shard: usize, bytes: &[u8]|

@@ -36,8 +36,9 @@ returns-clause-ok g c k =
     record {
       removals = removals;
       each = subst (λ (ps : List (List ℕ)). RemovesEach ps rose files new removals) paths (tried.1 k);
-      removed = tried.2;
+      in_order = tried.2 k;
+      removed = tried.3;
       blamed = ap (map blame_of) appended ∙ map-append blame_of reported unreadable
-          ∙ ap (λ (bs : List Blame). bs ++ map blame_of unreadable) (tried.3 ∙ ap (λ fs. map blame_of fs ++ filter_map removal_blame removals) (c.in_ok-failures.ensures {u = tt}).items)
+          ∙ ap (λ (bs : List Blame). bs ++ map blame_of unreadable) (tried.4 ∙ ap (λ fs. map blame_of fs ++ filter_map removal_blame removals) (c.in_ok-failures.ensures {u = tt}).items)
           ∙ ap (λ (bs : List Blame). filter_map removal_blame removals ++ bs) (found.unreadable ∙ names);
     }

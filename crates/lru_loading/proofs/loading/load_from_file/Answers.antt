@@ -7,7 +7,20 @@ pub returns-in_err-bytes-clause-turn : goal.returns-in_err-bytes-clause-turn
 returns-in_err-bytes-clause-turn g c =
     let failure = c.in_err-bytes.field-0.0 in
     let handed : c.from_residual.result ≡ Err failure = search rules in
-    (Unread failure, handed, refl, (c.in_err-bytes.ensures {u = tt}).unread)
+    let read = c.in_err-bytes.ensures {u = tt} in (
+      Unread failure,
+      handed,
+      refl,
+      read.unread,
+      λ k. record {
+        so = read.unread;
+        named = read.named k;
+        told = read.told k;
+        later = read.later k;
+        files = read.files k;
+        places = read.places k;
+      },
+    )
 
 pub returns-in-Ok-clause-turn : goal.returns-in-Ok-clause-turn
 returns-in-Ok-clause-turn g c = (
@@ -15,6 +28,14 @@ returns-in-Ok-clause-turn g c = (
   refl,
   (c.deref.result, c.deref.ensures.value, c.in-Ok.ensures {u = tt}),
   λ k. sym ((c.in_ok-bytes.ensures {u = tt}).found k) ∙ ap (option_map (λ b. b.items)) c.in-Some.is,
+  λ k. let read = c.in_ok-bytes.ensures {u = tt} in record {
+    so = λ k. sym ((c.in_ok-bytes.ensures {u = tt}).found k) ∙ ap (option_map (λ b. b.items)) c.in-Some.is;
+    named = tt;
+    told = λ rose. read.told k rose;
+    later = read.later k;
+    files = read.files k;
+    places = read.places k;
+  },
 )
 
 pub returns-clause-turn : goal.returns-clause-turn
@@ -23,4 +44,12 @@ returns-clause-turn g c = (
   refl,
   (c.deref.result, c.deref.ensures.value, c.in-Err.ensures {u = tt}),
   λ k. sym ((c.in_ok-bytes.ensures {u = tt}).found k) ∙ ap (option_map (λ b. b.items)) c.in-Some.is,
+  λ k. let read = c.in_ok-bytes.ensures {u = tt} in record {
+    so = λ k. sym ((c.in_ok-bytes.ensures {u = tt}).found k) ∙ ap (option_map (λ b. b.items)) c.in-Some.is;
+    named = tt;
+    told = λ rose. read.told k rose;
+    later = read.later k;
+    files = read.files k;
+    places = read.places k;
+  },
 )
