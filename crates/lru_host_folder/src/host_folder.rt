@@ -5,7 +5,6 @@ ghost use Rattle.lru_folder.specs.Folder as mode;
 use crate::host_open::HostOpen;
 use lru_folder::fault::FolderFault;
 use lru_folder::folder::Folder;
-use lru_folder::folder_call::FolderCall;
 use lru_folder::listed::Listed;
 use std::fs::OpenFile;
 use std::io::{ErrorKind, Read, Write};
@@ -80,6 +79,7 @@ impl<R: Files + AllocGlobal + Clone + Drop> HostFolder<R> {
 impl<R: Files + AllocGlobal + Clone + Drop> Folder for HostFolder<R> {
     ghost use Rattle.std.specs.FinMap as map;
     ghost use Rattle.std.specs.FinSet as set;
+    ghost use Rattle.lru_folder.specs.declared.folder_call.FolderCall.TheVariants.{Make};
 
     ghost files = { λ _. map.empty };
 
@@ -93,7 +93,7 @@ impl<R: Files + AllocGlobal + Clone + Drop> Folder for HostFolder<R> {
 
     ghost faults = { λ _. 0 };
 
-    ghost last_call = { λ _. FolderCall.Make };
+    ghost last_call = { λ _. Make };
 
     ghost keeps = { λ _. ⊥ };
 

@@ -3,6 +3,7 @@ pub use Rattle.lru_folder.specs.Files
 pub use Rattle.lru_folder.specs.Places
 pub use Rattle.lru_folder.specs.Listings
 pub use Rattle.lru_folder.specs.Folder
+pub use Rattle.lru_folder.specs.Meaning
 pub use Rattle.lru_folder.specs.TextsFault
 pub use Rattle.lru_folder.specs.Texts
 pub use Rattle.lru_folder.specs.Blames
@@ -12,6 +13,7 @@ pub use Rattle.lru_memory_folder.specs.Plans
 pub use Rattle.lru_saving.specs.Saving
 pub use Rattle.lru_saving.specs.Turns
 pub use Rattle.lru_saving.specs.Progress
+pub use Rattle.lru_saving.specs.Saves
 pub use Rattle.lru_loading.specs.Cleanup
 pub use Rattle.lru_loading.specs.Loading
 pub use Rattle.lru_snapshot.specs.Snapshot

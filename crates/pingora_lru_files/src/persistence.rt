@@ -13,6 +13,8 @@ pub use lru_folder::errors::{
 pub use lru_folder::fault::FolderFault;
 /// The calls through which files are saved, loaded and removed.
 pub use lru_folder::folder::Folder;
+/// The calls of a folder, by name.
+pub use lru_folder::folder_call::FolderCall;
 /// The host's file system.
 pub use lru_host_folder::host_folder::HostFolder;
 /// One entry of a folder's list.
