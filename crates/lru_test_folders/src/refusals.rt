@@ -6,7 +6,6 @@ use pingora_lru_files::persistence::{
 };
 use pingora_lru_files::snapshot::LoadError;
 use std::alloc::AllocError;
-use std::process::Abort;
 
 /// What a save with an allocator answers.
 pub type Saved = Result<ShardSaveReport<AllocError>, ShardSaveError<AllocError>>;
@@ -45,7 +44,7 @@ fn is_unloaded_for_memory(failure: &ShardLoadFailure<LoadError>) -> bool {
 }
 
 /// Whether the bytes of a shard were refused as damaged.
-pub(crate) fn is_damaged(failure: &ShardLoadFailure<LoadError>) -> bool {
+pub fn is_damaged(failure: &ShardLoadFailure<LoadError>) -> bool {
     match failure {
         ShardLoadFailure::Deserialize { source, .. } => *source == LoadError::Damaged,
         _ => false,
@@ -53,7 +52,7 @@ pub(crate) fn is_damaged(failure: &ShardLoadFailure<LoadError>) -> bool {
 }
 
 /// The shard that a failure names.
-pub(crate) fn unloaded_shard(failure: &ShardLoadFailure<LoadError>) -> usize {
+pub fn unloaded_shard(failure: &ShardLoadFailure<LoadError>) -> usize {
     match failure {
         ShardLoadFailure::Memory { shard } => *shard,
         ShardLoadFailure::Deserialize { shard, .. } => *shard,
@@ -61,65 +60,88 @@ pub(crate) fn unloaded_shard(failure: &ShardLoadFailure<LoadError>) -> usize {
     }
 }
 
-/// Whether a save was refused memory. Asserts that it was not refused anything else, and that its counts are right.
-pub(crate) fn is_save_refused(rt: &impl Abort, saved: &Saved) -> bool {
+/// How a call ended whose allocations may have been refused, one of them at most.
+#[derive(Clone, Copy, Debug, PartialEq, Eq)]
+pub enum Ending {
+    /// It did all that it was to do.
+    Whole,
+    /// It was refused memory, and nothing else.
+    Refused,
+    /// It ended otherwise, or its counts are wrong.
+    Wrong,
+}
+
+/// How a save of two shards ended.
+pub fn end_of_save(saved: &Saved) -> Ending {
     match saved {
         Ok(report) if report.failures.is_empty() => {
-            assert_eq!(rt; (report.saved_shards, report.failed_shards), (2, 0));
-            false
+            if (report.saved_shards, report.failed_shards) == (2, 0) {
+                Ending::Whole
+            } else {
+                Ending::Wrong
+            }
         }
         Ok(report) => {
-            assert_eq!(rt; (report.saved_shards, report.failed_shards), (1, 1));
-            assert_eq!(rt; report.failures.len(), 1);
-            assert!(rt; is_unsaved_for_memory(&report.failures[0]));
-            true
+            let is_one = (report.saved_shards, report.failed_shards) == (1, 1);
+            if is_one && report.failures.len() == 1 && is_unsaved_for_memory(&report.failures[0]) {
+                Ending::Refused
+            } else {
+                Ending::Wrong
+            }
         }
-        Err(ShardSaveError::Setup(ShardSaveSetupError::Memory)) => true,
+        Err(ShardSaveError::Setup(ShardSaveSetupError::Memory)) => Ending::Refused,
         Err(ShardSaveError::Setup(ShardSaveSetupError::CreateDir { source, .. })) => {
-            assert_eq!(rt; *source, FolderFault::Memory);
-            true
+            if *source == FolderFault::Memory {
+                Ending::Refused
+            } else {
+                Ending::Wrong
+            }
         }
-        Err(ShardSaveError::AllShardsFailed { .. }) => {
-            assert!(rt; false, "one refusal failed two shards");
-            true
-        }
+        Err(ShardSaveError::AllShardsFailed { .. }) => Ending::Wrong,
     }
 }
 
-/// Whether a cleanup of one temp file was refused memory. Asserts that it was not refused anything else.
-fn is_cleanup_refused(
-    rt: &impl Abort,
-    cleanup: &Result<TempFileCleanupReport, AllocError>,
-) -> bool {
+/// How a cleanup of one temp file ended.
+fn end_of_cleanup(cleanup: &Result<TempFileCleanupReport, AllocError>) -> Ending {
     match cleanup {
         Ok(report) if report.failures.is_empty() => {
-            assert_eq!(rt; report.removed_files, 1);
-            false
+            if report.removed_files == 1 {
+                Ending::Whole
+            } else {
+                Ending::Wrong
+            }
         }
         Ok(report) => {
-            assert_eq!(rt; (report.removed_files, report.failures.len()), (0, 1));
-            assert_eq!(rt; source_of(&report.failures[0]), FolderFault::Memory);
-            true
+            let is_one = (report.removed_files, report.failures.len()) == (0, 1);
+            if is_one && source_of(&report.failures[0]) == FolderFault::Memory {
+                Ending::Refused
+            } else {
+                Ending::Wrong
+            }
         }
-        Err(AllocError) => true,
+        Err(AllocError) => Ending::Refused,
     }
 }
 
-/// Whether a load of two shards and a temp file was refused memory. Asserts that it was not refused anything else, and
-/// that its counts are right.
-pub(crate) fn is_load_refused(rt: &impl Abort, loaded: &Loaded) -> bool {
+/// How a load of two shards and a temp file ended.
+pub fn end_of_load(loaded: &Loaded) -> Ending {
     let Ok(report) = loaded else {
-        return true;
+        return Ending::Refused;
     };
-    let is_kept = is_cleanup_refused(rt, &report.temp_cleanup);
-    assert_eq!(rt; report.missing_shards, 0);
-    assert_eq!(rt; report.error_shards, report.failures.len());
-    if report.failures.is_empty() {
-        assert_eq!(rt; report.loaded_shards, 2);
-        return is_kept;
+    let cleaned = end_of_cleanup(&report.temp_cleanup);
+    if report.missing_shards != 0 || report.error_shards != report.failures.len() {
+        return Ending::Wrong;
     }
-    assert_eq!(rt; (report.loaded_shards, report.error_shards), (1, 1));
-    assert!(rt; is_unloaded_for_memory(&report.failures[0]));
-    assert!(rt; !is_kept, "one refusal failed a shard and the cleanup");
-    true
+    if report.failures.is_empty() {
+        if report.loaded_shards == 2 {
+            return cleaned;
+        }
+        return Ending::Wrong;
+    }
+    let is_one = (report.loaded_shards, report.error_shards) == (1, 1);
+    if is_one && is_unloaded_for_memory(&report.failures[0]) && cleaned == Ending::Whole {
+        Ending::Refused
+    } else {
+        Ending::Wrong
+    }
 }

@@ -2,6 +2,7 @@
 ghost use Rattle.std.specs.FinMap.{empty};
 ghost use Rattle.std.specs.FinSet.{empty as nothing};
 ghost use Rattle.std.specs.Prelude.{◌≡◌, [], false, if◌then◌else◌};
+ghost use Rattle.lru_folder.specs.declared.folder_call.FolderCall.TheVariants.{Make};
 ghost use Rattle.pingora_lru_files.specs.Folder.{Opened, Closed, Lost, Writing};
 
 use pingora_lru_files::persistence::{Folder, FolderFault, Listed};
@@ -30,7 +31,7 @@ pub struct Shelf<'a> {
 
 impl<'a> Shelf<'a> {
     /// A folder with these files, whose listing is given too. The path `stuck` can be neither removed nor created.
-    pub(crate) fn new(
+    pub fn new(
         alloc: Global,
         files: &'a [(&'a str, File<'a>)],
         listing: Result<&'a [&'a str], FolderFault>,
@@ -76,6 +77,8 @@ impl Folder for Shelf<'_> {
     ghost stopped_since = { λ _ _ _. ⊥ };
 
     ghost faults = { λ _. 0 };
+
+    ghost last_call = { λ _. Make };
 
     ghost keeps = { λ _. ⊥ };
 

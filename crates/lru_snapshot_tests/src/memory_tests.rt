@@ -3,12 +3,14 @@
 // allocation is refused, at most one of two runs of a script meets a refusal.
 ghost use Rattle.std.specs.Prelude.{◌<◌};
 
-use crate::refusals::{Loaded, is_damaged, is_load_refused, is_save_refused, unloaded_shard};
-use crate::two_shards::{
-    EVEN_BYTES, ODD_BYTES, assert_old_or_new, folder_to_load, folder_to_save, has_temp, is_old,
+use log::sink;
+use lru_test_folders::refusals::{
+    Ending, Loaded, Saved, end_of_load, end_of_save, is_damaged, unloaded_shard,
+};
+use lru_test_folders::two_shards::{
+    EVEN_BYTES, ODD_BYTES, folder_to_load, folder_to_save, has_temp, is_old, is_old_or_new,
     is_saved,
 };
-use log::sink;
 use pingora_lru::lru_core::LruCore;
 use pingora_lru::unit::Cause;
 use pingora_lru_files::snapshot::{
@@ -167,6 +169,13 @@ fn the_rows_of_a_shard(rt: HostRuntime) -> Result<(), Fail> {
     Ok(())
 }
 
+/// Whether a save was refused memory. Asserts that it was not refused anything else.
+fn is_save_refused(rt: &impl Abort, saved: &Saved) -> bool {
+    let ending = end_of_save(saved);
+    assert!(rt; ending != Ending::Wrong);
+    ending == Ending::Refused
+}
+
 /// Saves a core over old files. Where a shard, or the whole save, is refused memory, it is made again.
 fn save_core_at_last(rt: &impl Abort, alloc: Global, refusals: &mut usize) -> Result<(), Fail> {
     let core = filled(alloc)?;
@@ -176,7 +185,7 @@ fn save_core_at_last(rt: &impl Abort, alloc: Global, refusals: &mut usize) -> Re
     let first = save_core(alloc, &mut folder, &mut rng, &log, "d", "c", &core);
     if is_save_refused(rt, &first) {
         *refusals = refusals.saturating_add(1);
-        assert_old_or_new(rt, &folder);
+        assert!(rt; is_old_or_new(&folder));
         assert!(rt; first.is_ok() || is_old(&folder));
         let second = save_core(alloc, &mut folder, &mut rng, &log, "d", "c", &core);
         assert!(rt; !is_save_refused(rt, &second));
@@ -193,6 +202,13 @@ fn a_save_of_a_core(rt: HostRuntime) -> Result<(), Fail> {
     save_core_at_last(&rt, rt.alloc(), &mut refusals)?;
     assert!(rt; refusals <= 1);
     Ok(())
+}
+
+/// Whether a load was refused memory. Asserts that it was not refused anything else.
+fn is_load_refused(rt: &impl Abort, loaded: &Loaded) -> bool {
+    let ending = end_of_load(loaded);
+    assert!(rt; ending != Ending::Wrong);
+    ending == Ending::Refused
 }
 
 /// Asserts that a core has the rows of each shard that was loaded, and no others.

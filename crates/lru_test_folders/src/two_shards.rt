@@ -1,7 +1,6 @@
 // The files of two shards, for tests of want of memory: each is made anew where the first try finds none.
 use pingora_lru_files::persistence::MemoryFolder;
 use std::alloc::{AllocError, Global};
-use std::process::Abort;
 
 /// The rows of shard 0, key 4, value 40, weight 1 before key 2, value 20, weight 3.
 pub const EVEN_BYTES: [u8; 48] = [
@@ -18,7 +17,7 @@ pub const ODD_BYTES: [u8; 24] = [
 const TEMP: &str = "d/c.0.0000002a.tmp";
 
 /// The bytes of each of the two.
-pub(crate) fn bytes_of(alloc: Global, shard: usize) -> Result<Vec<u8>, AllocError> {
+pub fn bytes_of(alloc: Global, shard: usize) -> Result<Vec<u8>, AllocError> {
     if shard == 0 {
         EVEN_BYTES.as_slice().to_vec(alloc)
     } else {
@@ -27,7 +26,7 @@ pub(crate) fn bytes_of(alloc: Global, shard: usize) -> Result<Vec<u8>, AllocErro
 }
 
 /// Whether these are the bytes of that one.
-pub(crate) fn is_bytes(shard: usize, bytes: &[u8]) -> bool {
+pub fn is_bytes(shard: usize, bytes: &[u8]) -> bool {
     if shard == 0 {
         bytes == EVEN_BYTES.as_slice()
     } else {
@@ -43,7 +42,7 @@ fn folder_with(alloc: Global, zero: &[u8], one: &[u8]) -> Result<MemoryFolder, A
 }
 
 /// A folder in which older files stand under both names.
-pub(crate) fn folder_to_save(alloc: Global) -> Result<MemoryFolder, AllocError> {
+pub fn folder_to_save(alloc: Global) -> Result<MemoryFolder, AllocError> {
     match folder_with(alloc, b"old", b"older") {
         Ok(folder) => Ok(folder),
         Err(AllocError) => folder_with(alloc, b"old", b"older"),
@@ -51,7 +50,7 @@ pub(crate) fn folder_to_save(alloc: Global) -> Result<MemoryFolder, AllocError> 
 }
 
 /// A folder with the files of both.
-pub(crate) fn folder_to_load(alloc: Global) -> Result<MemoryFolder, AllocError> {
+pub fn folder_to_load(alloc: Global) -> Result<MemoryFolder, AllocError> {
     match folder_with(alloc, &EVEN_BYTES, &ODD_BYTES) {
         Ok(folder) => Ok(folder),
         Err(AllocError) => folder_with(alloc, &EVEN_BYTES, &ODD_BYTES),
@@ -59,26 +58,26 @@ pub(crate) fn folder_to_load(alloc: Global) -> Result<MemoryFolder, AllocError> 
 }
 
 /// Whether the older files stand there.
-pub(crate) fn is_old(folder: &MemoryFolder) -> bool {
+pub fn is_old(folder: &MemoryFolder) -> bool {
     folder.get("d/c.0") == Some(b"old".as_slice())
         && folder.get("d/c.1") == Some(b"older".as_slice())
 }
 
 /// Whether both files have their bytes.
-pub(crate) fn is_saved(folder: &MemoryFolder) -> bool {
+pub fn is_saved(folder: &MemoryFolder) -> bool {
     folder.get("d/c.0") == Some(EVEN_BYTES.as_slice())
         && folder.get("d/c.1") == Some(ODD_BYTES.as_slice())
 }
 
-/// Asserts that each file is as it was or has its bytes.
-pub(crate) fn assert_old_or_new(rt: &impl Abort, folder: &MemoryFolder) {
+/// Whether each file is as it was or has its bytes.
+pub fn is_old_or_new(folder: &MemoryFolder) -> bool {
     let zero = folder.get("d/c.0");
     let one = folder.get("d/c.1");
-    assert!(rt; zero == Some(b"old".as_slice()) || zero == Some(EVEN_BYTES.as_slice()));
-    assert!(rt; one == Some(b"older".as_slice()) || one == Some(ODD_BYTES.as_slice()));
+    (zero == Some(b"old".as_slice()) || zero == Some(EVEN_BYTES.as_slice()))
+        && (one == Some(b"older".as_slice()) || one == Some(ODD_BYTES.as_slice()))
 }
 
 /// Whether the temp file stands there.
-pub(crate) fn has_temp(folder: &MemoryFolder) -> bool {
+pub fn has_temp(folder: &MemoryFolder) -> bool {
     folder.get(TEMP).is_some()
 }

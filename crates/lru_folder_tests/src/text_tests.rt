@@ -24,100 +24,127 @@ fn text(alloc: Global, letters: &str) -> Result<String, AllocError> {
     String::from_str(alloc, letters)
 }
 
+/// How each fault is shown.
+const FAULTS: [(FolderFault, &str); 3] = [
+    (FolderFault::NotFound, "not found"),
+    (FolderFault::Memory, "out of memory"),
+    (FolderFault::Io, "input or output failed"),
+];
+
 #[test]
 fn faults(rt: HostRuntime) -> Result<(), Fail> {
-    let alloc = rt.alloc();
-    assert_shown(&rt, alloc, &FolderFault::NotFound, "not found")?;
-    assert_shown(&rt, alloc, &FolderFault::Memory, "out of memory")?;
-    assert_shown(&rt, alloc, &FolderFault::Io, "input or output failed")?;
+    for (fault, text) in FAULTS {
+        assert_shown(&rt, rt.alloc(), &fault, text)?;
+    }
     Ok(())
 }
 
-#[test]
-fn a_temp_file(rt: HostRuntime) -> Result<(), Fail> {
-    let alloc = rt.alloc();
-    let path = text(alloc, "d/t")?;
-    let source = FolderFault::Io;
-    let create = ShardFileError::Create { path, source };
-    assert_shown(
-        &rt,
-        alloc,
-        &create,
+/// What an error about a file is about.
+#[derive(Clone, Copy, Debug)]
+enum About {
+    Create,
+    Write,
+    Flush,
+    Open,
+    Read,
+    ReadDir,
+    ReadDirEntry,
+    Remove,
+    RenameToShard1,
+}
+
+/// Errors about files: what they are about, the path, the cause, and how they are shown.
+const FILE_ERRORS: [(About, &str, FolderFault, &str); 9] = [
+    (
+        About::Create,
+        "d/t",
+        FolderFault::Io,
         "failed to create d/t: input or output failed",
-    )?;
-    let path = text(alloc, "d/t")?;
-    let source = FolderFault::Memory;
-    let write = ShardFileError::Write { path, source };
-    assert_shown(&rt, alloc, &write, "failed to write to d/t: out of memory")?;
-    let path = text(alloc, "d/t")?;
-    let source = FolderFault::Io;
-    let flush = ShardFileError::Flush { path, source };
-    assert_shown(
-        &rt,
-        alloc,
-        &flush,
+    ),
+    (
+        About::Write,
+        "d/t",
+        FolderFault::Memory,
+        "failed to write to d/t: out of memory",
+    ),
+    (
+        About::Flush,
+        "d/t",
+        FolderFault::Io,
         "failed to flush temp file d/t: input or output failed",
-    )?;
-    Ok(())
-}
-
-#[test]
-fn a_temp_file_becomes_the_shard(rt: HostRuntime) -> Result<(), Fail> {
-    let alloc = rt.alloc();
-    let from = text(alloc, "d/t")?;
-    let to = text(alloc, "d/c.1")?;
-    let source = FolderFault::NotFound;
-    let rename = ShardFileError::Rename { from, to, source };
-    assert_shown(
-        &rt,
-        alloc,
-        &rename,
-        "failed to rename file from d/t to d/c.1: not found",
-    )?;
-    let path = text(alloc, "d/t")?;
-    let source = FolderFault::Io;
-    let remove = ShardFileError::Remove { path, source };
-    assert_shown(
-        &rt,
-        alloc,
-        &remove,
-        "failed to remove temp file d/t: input or output failed",
-    )?;
-    Ok(())
-}
-
-#[test]
-fn a_file_and_its_folder(rt: HostRuntime) -> Result<(), Fail> {
-    let alloc = rt.alloc();
-    let path = text(alloc, "d/c.1")?;
-    let source = FolderFault::Memory;
-    let open = ShardFileError::Open { path, source };
-    assert_shown(&rt, alloc, &open, "failed to open d/c.1: out of memory")?;
-    let path = text(alloc, "d/c.1")?;
-    let source = FolderFault::Io;
-    let read = ShardFileError::Read { path, source };
-    assert_shown(
-        &rt,
-        alloc,
-        &read,
+    ),
+    (
+        About::Open,
+        "d/c.1",
+        FolderFault::Memory,
+        "failed to open d/c.1: out of memory",
+    ),
+    (
+        About::Read,
+        "d/c.1",
+        FolderFault::Io,
         "failed to read from d/c.1: input or output failed",
-    )?;
-    let path = text(alloc, "d")?;
-    let list = ShardFileError::ReadDir { path, source };
-    assert_shown(
-        &rt,
-        alloc,
-        &list,
+    ),
+    (
+        About::ReadDir,
+        "d",
+        FolderFault::Io,
         "failed to read directory d: input or output failed",
-    )?;
-    let path = text(alloc, "d")?;
-    let entry = ShardFileError::ReadDirEntry { path, source };
-    assert_shown(
-        &rt,
-        alloc,
-        &entry,
+    ),
+    (
+        About::ReadDirEntry,
+        "d",
+        FolderFault::Io,
         "failed to read directory entry in d: input or output failed",
-    )?;
+    ),
+    (
+        About::Remove,
+        "d/t",
+        FolderFault::Io,
+        "failed to remove temp file d/t: input or output failed",
+    ),
+    (
+        About::RenameToShard1,
+        "d/t",
+        FolderFault::NotFound,
+        "failed to rename file from d/t to d/c.1: not found",
+    ),
+];
+
+/// The error.
+fn file_error(
+    alloc: Global,
+    about: About,
+    path: &str,
+    source: FolderFault,
+) -> Result<ShardFileError, AllocError> {
+    let path = text(alloc, path)?;
+    Ok(match about {
+        About::Create => ShardFileError::Create { path, source },
+        About::Write => ShardFileError::Write { path, source },
+        About::Flush => ShardFileError::Flush { path, source },
+        About::Open => ShardFileError::Open { path, source },
+        About::Read => ShardFileError::Read { path, source },
+        About::ReadDir => ShardFileError::ReadDir { path, source },
+        About::ReadDirEntry => ShardFileError::ReadDirEntry { path, source },
+        About::Remove => ShardFileError::Remove { path, source },
+        About::RenameToShard1 => {
+            let to = text(alloc, "d/c.1")?;
+            ShardFileError::Rename {
+                from: path,
+                to,
+                source,
+            }
+        }
+    })
+}
+
+#[test]
+fn errors_about_files(rt: HostRuntime) -> Result<(), Fail> {
+    for (about, path, source, text) in FILE_ERRORS {
+        let error = file_error(rt.alloc(), about, path, source)?;
+        assert_shown(&rt, rt.alloc(), &error, text)?;
+    }
     Ok(())
 }
 

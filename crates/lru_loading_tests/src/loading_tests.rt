@@ -1,6 +1,6 @@
 // What a load logs and reports.
-use crate::shelf::{File, Shelf};
 use log::sink;
+use lru_test_folders::shelf::{File, Shelf};
 use pingora_lru_files::persistence::{FolderFault, ShardLoadReport, load_shards};
 use std::alloc::{AllocError, Global};
 use std::process::Abort;

@@ -34,7 +34,7 @@ pub struct OddNames<R> {
 }
 
 impl<R> OddNames<R> {
-    pub(crate) fn new(rt: R) -> Self {
+    pub fn new(rt: R) -> Self {
         OddNames { rt }
     }
 }

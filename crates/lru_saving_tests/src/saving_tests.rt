@@ -149,29 +149,30 @@ fn stopped(alloc: Global, n: u64, part: usize) -> Result<MemoryFolder, Fail> {
     Ok(folder)
 }
 
-// A stop at each call leaves the file old, and the temp file missing or a front of the new bytes.
+/// The temp file of that save.
+const TEMP: &str = "c.0.0000002a.tmp";
+
+/// Stops at each of its calls, a write stopped after so many bytes: what the file and the temp file then have.
+const STOPS: [(u64, usize, &str, Option<&str>); 6] = [
+    (0, 0, "old", None),
+    (1, 0, "old", Some("")),
+    (1, 2, "old", Some("ne")),
+    (2, 0, "old", Some("new")),
+    (3, 0, "old", Some("new")),
+    (4, 0, "new", None),
+];
+
+// A stop at each call leaves the file old or new, and the temp file missing or a front of the new bytes.
 #[test]
 fn a_stop_leaves_old_or_new(rt: HostRuntime) -> Result<(), Fail> {
-    let temp = "c.0.0000002a.tmp";
-    let alloc = rt.alloc();
-    let in_create = stopped(alloc, 0, 0)?;
-    assert!(rt; in_create.get("c.0") == Some(b"old".as_slice()));
-    assert!(rt; in_create.get(temp).is_none());
-    let before_write = stopped(alloc, 1, 0)?;
-    assert!(rt; before_write.get("c.0") == Some(b"old".as_slice()));
-    assert!(rt; before_write.get(temp) == Some(b"".as_slice()));
-    let in_write = stopped(alloc, 1, 2)?;
-    assert!(rt; in_write.get("c.0") == Some(b"old".as_slice()));
-    assert!(rt; in_write.get(temp) == Some(b"ne".as_slice()));
-    let in_flush = stopped(alloc, 2, 0)?;
-    assert!(rt; in_flush.get("c.0") == Some(b"old".as_slice()));
-    assert!(rt; in_flush.get(temp) == Some(b"new".as_slice()));
-    let in_rename = stopped(alloc, 3, 0)?;
-    assert!(rt; in_rename.get("c.0") == Some(b"old".as_slice()));
-    assert!(rt; in_rename.get(temp) == Some(b"new".as_slice()));
-    let after = stopped(alloc, 4, 0)?;
-    assert!(rt; after.get("c.0") == Some(b"new".as_slice()));
-    assert!(rt; after.get(temp).is_none());
+    for (call, part, file, temp) in STOPS {
+        let folder = stopped(rt.alloc(), call, part)?;
+        assert!(rt; folder.get("c.0") == Some(file.as_bytes()));
+        match temp {
+            Some(front) => assert!(rt; folder.get(TEMP) == Some(front.as_bytes())),
+            None => assert!(rt; folder.get(TEMP).is_none()),
+        }
+    }
     Ok(())
 }
 
@@ -238,8 +239,11 @@ fn a_real_folder(rt: HostRuntime) -> Result<(), Fail> {
         |shard| bytes_of(alloc, shard, 9),
     );
     match refused {
-        Err(ShardSaveError::Setup(_)) => {}
-        _ => return Err("a file was taken for a folder")?,
+        Err(error) => assert_eq!(rt;
+            error.to_string(alloc)?.as_str(),
+            "failed to create saved_here/deep/c.0: input or output failed"
+        ),
+        Ok(_) => return Err("a file was taken for a folder")?,
     }
     fs::remove_dir_all(&rt, "saved_here")?;
     Ok(())

@@ -1,6 +1,6 @@
 // Loads and cleanups in real folders.
-use crate::odd_names::OddNames;
 use log::sink;
+use lru_test_folders::odd_names::OddNames;
 use pingora_lru_files::persistence::{
     Folder, HostFolder, Listed, ShardLoadReport, load_shards, save_shards,
 };

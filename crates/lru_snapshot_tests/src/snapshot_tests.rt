@@ -27,7 +27,7 @@ const ROW: [u8; 24] = [
 #[test]
 fn a_row_is_24_bytes(rt: HostRuntime) -> Result<(), Fail> {
     let mut core = empty::<2>(rt.alloc())?;
-    let _ = core.admit(2, Keyed { key: 2, value: 20 }, 2);
+    assert!(rt; core.admit(2, Keyed { key: 2, value: 20 }, 2).is_ok());
     let bytes = shard_bytes(rt.alloc(), &core, 0)?;
     assert_eq!(rt; bytes.as_slice(), ROW.as_slice());
     let none = shard_bytes(rt.alloc(), &core, 1)?;
@@ -35,41 +35,43 @@ fn a_row_is_24_bytes(rt: HostRuntime) -> Result<(), Fail> {
     Ok(())
 }
 
+/// The row with one byte more.
+const LONG: [u8; 25] = [
+    2, 0, 0, 0, 0, 0, 0, 0, 20, 0, 0, 0, 0, 0, 0, 0, 2, 0, 0, 0, 0, 0, 0, 0, 0,
+];
+
+// Loads into an empty core, one after another: the shard, the bytes, the answer, and the core's length and weight then.
 #[test]
 fn bytes_are_loaded_or_nothing_changes(rt: HostRuntime) -> Result<(), Fail> {
+    let loads: [(usize, &[u8], Result<usize, LoadError>, usize, usize); 5] = [
+        (0, &[], Ok(0), 0, 0),
+        (0, &LONG, Err(LoadError::Damaged), 0, 0),
+        (1, &ROW, Err(LoadError::Damaged), 0, 0),
+        (0, &ROW, Ok(1), 1, 2),
+        (0, &ROW, Err(LoadError::Damaged), 1, 2),
+    ];
     let mut core = empty::<2>(rt.alloc())?;
-    assert_eq!(rt; load_shard(rt.alloc(), &mut core, 0, b""), Ok(0));
-    let mut long = ROW.as_slice().to_vec(rt.alloc())?;
-    long.push(0)?;
-    assert_eq!(rt;
-        load_shard(rt.alloc(), &mut core, 0, &long),
-        Err(LoadError::Damaged)
-    );
-    assert_eq!(rt; core.len(), 0);
-    assert_eq!(rt;
-        load_shard(rt.alloc(), &mut core, 1, &ROW),
-        Err(LoadError::Damaged)
-    );
-    assert_eq!(rt; load_shard(rt.alloc(), &mut core, 0, &ROW), Ok(1));
-    assert_eq!(rt; core.weight(), 2);
-    assert_eq!(rt;
-        load_shard(rt.alloc(), &mut core, 0, &ROW),
-        Err(LoadError::Damaged)
-    );
-    assert_eq!(rt; core.len(), 1);
+    for (shard, bytes, answer, len, weight) in loads {
+        assert_eq!(rt; load_shard(rt.alloc(), &mut core, shard % 2, bytes), answer);
+        assert_eq!(rt; (core.len(), core.weight()), (len, weight));
+    }
     Ok(())
 }
 
+/// How each refusal is shown.
+const TEXTS: [(LoadError, &str); 4] = [
+    (LoadError::Damaged, "damaged"),
+    (LoadError::Unit(Cause::Weight), "refused weight"),
+    (LoadError::Unit(Cause::Length), "refused length"),
+    (LoadError::Unit(Cause::Memory), "refused memory"),
+];
+
 #[test]
 fn a_refusal_has_its_text(rt: HostRuntime) -> Result<(), Fail> {
-    let damaged = format!(in rt.alloc(); "{}", LoadError::Damaged)?;
-    assert_eq!(rt; damaged.as_str(), "damaged");
-    let weight = format!(in rt.alloc(); "{}", LoadError::Unit(Cause::Weight))?;
-    assert_eq!(rt; weight.as_str(), "refused weight");
-    let length = format!(in rt.alloc(); "{}", LoadError::Unit(Cause::Length))?;
-    assert_eq!(rt; length.as_str(), "refused length");
-    let memory = format!(in rt.alloc(); "{}", LoadError::Unit(Cause::Memory))?;
-    assert_eq!(rt; memory.as_str(), "refused memory");
+    for (error, text) in TEXTS {
+        let shown = error.to_string(rt.alloc())?;
+        assert_eq!(rt; shown.as_str(), text);
+    }
     Ok(())
 }
 
@@ -96,14 +98,11 @@ fn a_core_is_loaded_as_far_as_its_files_go(rt: HostRuntime) -> Result<(), Fail> 
 fn a_core_comes_back(rt: HostRuntime) -> Result<(), Fail> {
     let mut core = empty::<2>(rt.alloc())?;
     for key in 0..5u64 {
-        let _ = core.admit(
+        let data = Keyed {
             key,
-            Keyed {
-                key,
-                value: key + 10,
-            },
-            1,
-        );
+            value: key + 10,
+        };
+        assert!(rt; core.admit(key, data, 1).is_ok());
     }
     let mut folder = MemoryFolder::new(rt.alloc());
     let log = sink::Memory::new(rt.alloc());
