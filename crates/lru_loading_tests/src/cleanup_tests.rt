@@ -43,3 +43,21 @@ fn faults_are_no_missing_files(rt: HostRuntime) -> Result<(), Fail> {
     }
     Ok(())
 }
+
+#[test]
+fn a_large_file_is_read_whole(rt: HostRuntime) -> Result<(), Fail> {
+    let alloc = rt.alloc();
+    let large = vec![in alloc; 7u8; 100_000]?;
+    let mut folder = MemoryFolder::new(alloc).with("d/c.0", &large)?;
+    let log = sink::Memory::new(alloc);
+    let mut deserialize = |_shard: usize, bytes: &[u8]| {
+        if bytes == large.as_slice() {
+            Ok(())
+        } else {
+            Err("other bytes")
+        }
+    };
+    let report = load_shards(alloc, &mut folder, &log, "d", "c", 1, &mut deserialize)?;
+    assert_eq!(rt; (report.loaded_shards, report.error_shards), (1, 0));
+    Ok(())
+}

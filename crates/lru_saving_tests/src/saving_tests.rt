@@ -248,3 +248,24 @@ fn a_real_folder(rt: HostRuntime) -> Result<(), Fail> {
     fs::remove_dir_all(&rt, "saved_here")?;
     Ok(())
 }
+
+// The closure is asked for each shard once, from shard 0 up.
+#[test]
+fn each_shard_is_asked_for_once(rt: HostRuntime) -> Result<(), Fail> {
+    let alloc = rt.alloc();
+    let log = sink::Memory::new(alloc);
+    let mut rng = StdRng::seed_from_u64(7);
+    let mut folder = MemoryFolder::new(alloc);
+    let mut asked = Vec::new(alloc);
+    let give = |shard: usize| {
+        if asked.push(shard).is_err() {
+            Err("no memory")
+        } else {
+            Ok(Vec::new(alloc))
+        }
+    };
+    let report = save_shards(alloc, &mut folder, &mut rng, &log, "d", "c", 3, give)?;
+    assert_eq!(rt; report.saved_shards, 3);
+    assert_eq!(rt; asked.as_slice(), [0, 1, 2].as_slice());
+    Ok(())
+}

@@ -121,3 +121,18 @@ fn a_core_comes_back(rt: HostRuntime) -> Result<(), Fail> {
     }
     Ok(())
 }
+
+#[test]
+fn many_rows_come_back(rt: HostRuntime) -> Result<(), Fail> {
+    let mut core = empty::<1>(rt.alloc())?;
+    for key in 0..1200u64 {
+        assert!(rt; core.admit(key, Keyed { key, value: key }, 1).is_ok());
+    }
+    let bytes = shard_bytes(rt.alloc(), &core, 0)?;
+    assert_eq!(rt; bytes.len(), 28_800);
+    let mut back = empty::<1>(rt.alloc())?;
+    assert_eq!(rt; load_shard(rt.alloc(), &mut back, 0, &bytes), Ok(1200));
+    let again = shard_bytes(rt.alloc(), &back, 0)?;
+    assert_eq!(rt; again.as_slice(), bytes.as_slice());
+    Ok(())
+}
