@@ -1,7 +1,7 @@
 -- The whole program: what its arguments mean, and what it writes for an input.
 use Rattle.std.specs.Prelude.{ℕ, List, [], ◌∷◌, map, replicate, is_some, Option, Some, None, option_and_then, if◌then◌else◌}
 use Rattle.std.specs.List.{list_all}
-use Rattle.pingora_lru_files.specs.declared.snapshot.Keyed.{Keyed}
+use Rattle.lru_snapshot.specs.declared.snapshot.Keyed.{Keyed}
 use Rattle.lru_tool.specs.declared.settings.Settings.{Settings}
 use Rattle.lru_tool.specs.Lines.{number_of, most_of, lines_of}
 use Rattle.lru_tool.specs.Commands.{Asked, command_of}

@@ -1,7 +1,7 @@
 -- What the program writes.
 use Rattle.std.specs.declared.alloc.AllocError.{AllocError}
 use Rattle.std.specs.Prelude.{◌≡◌, ℕ, ◌+◌, ◌<◌, Bool, false, List, [], ◌∷◌, ◌++◌, length, map, codes, decimal, Option, Some, None, Result, Ok, Err, if◌then◌else◌}
-use Rattle.pingora_lru_files.specs.declared.snapshot.Keyed.{Keyed}
+use Rattle.lru_snapshot.specs.declared.snapshot.Keyed.{Keyed}
 use Rattle.pingora_lru.specs.declared.calls.Reply.{Reply}
 use Rattle.pingora_lru.specs.declared.calls.Reply.TheVariants.{Shard, Inserted, Weight as NewWeight, Updated, Was, Held, Left, Evicted, Known, Last, Totals, Done}
 use Rattle.pingora_lru.specs.declared.unit.Cause.{Cause}
@@ -9,8 +9,8 @@ use Rattle.pingora_lru.specs.declared.unit.Cause.TheVariants.{Memory, Weight, Le
 use Rattle.pingora_lru.specs.Row.{pair_of}
 use Rattle.pingora_lru.specs.Core.{list_at}
 use Rattle.pingora_lru.specs.Calls.{IsAllowed, Gives}
-use Rattle.pingora_lru_files.specs.declared.errors.ShardSaveError.TheVariants.{Setup, AllShardsFailed}
-use Rattle.pingora_lru_files.specs.declared.reports.TempFileCleanupReport.{TempFileCleanupReport}
+use Rattle.lru_folder.specs.declared.errors.ShardSaveError.TheVariants.{Setup, AllShardsFailed}
+use Rattle.lru_folder.specs.declared.reports.TempFileCleanupReport.{TempFileCleanupReport}
 use Rattle.pingora_lru_files.specs.Names.{has_slash}
 use Rattle.lru_tool.specs.Commands.{Asked, Do, ListRows, Save, Load}
 use Rattle.pingora_lru_files.specs.Stores.{Meaning, SaveResult, LoadResult, SavesCore, LoadsCore}

@@ -52,7 +52,7 @@ fn serve<F: Folder, R: Rng, L: Log, W: Write>(
 ) -> io::Result<bool>
     requires { All Possible (map (option_map asked) lines.items) }
     ensures text { OnOk result ((text : List ℕ)
-        × (Serves (record { files = F.files; folders = F.folders; clock = F.clock; stopped_since = F.stopped_since; faults = F.faults; keeps = F.keeps }) (record { core = core.old; folder = folder.old; words = R.stream rng.old })
+        × (Serves (record { files = F.files; folders = F.folders; clock = F.clock; stopped_since = F.stopped_since; faults = F.faults; last_call = F.last_call; keeps = F.keeps }) (record { core = core.old; folder = folder.old; words = R.stream rng.old })
         (map (option_map asked) lines.entry.items) 1 text folder.new
         × Appends (W.contents writer.old) (W.contents writer.new) text)) }
     ensures good { IfOk result (λ good. good ≡ list_all is_some (map (option_map asked) lines.entry.items)) }
@@ -102,7 +102,7 @@ pub fn run<F: Folder, L: Log, R: Read, W: Write>(
     ensures unmoved { settings_of (map string_bytes arguments.now) ≡ None → folder.new ≡ folder.old }
     ensures served { IfSome (settings_of (map string_bytes arguments.now)) (λ settings. result ≢ 1 → IfSome (R.remaining reader.old) (λ input.
         (result ≡ status_of (commands_of input)) × ((text : List ℕ)
-        × (Serves (record { files = F.files; folders = F.folders; clock = F.clock; stopped_since = F.stopped_since; faults = F.faults; keeps = F.keeps }) (record { core = fresh settings; folder = folder.old; words = StdRng.stream (StdRng.of_seed (StdRng.seed_of_u64 settings.seed)) })
+        × (Serves (record { files = F.files; folders = F.folders; clock = F.clock; stopped_since = F.stopped_since; faults = F.faults; last_call = F.last_call; keeps = F.keeps }) (record { core = fresh settings; folder = folder.old; words = StdRng.stream (StdRng.of_seed (StdRng.seed_of_u64 settings.seed)) })
         (commands_of input) 1 text folder.new
         × Appends (W.contents writer.old) (W.contents writer.new) text)))) }
     ensures kept { F.keeps folder.old ↔ F.keeps folder.new }

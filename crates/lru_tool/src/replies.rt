@@ -194,7 +194,7 @@ pub fn answer<F: Folder, R: Rng, L: Log, W: Write>(
 ) -> io::Result<()>
     requires { IsPossible (asked command) }
     ensures text { OnOk result ((text : List ℕ)
-        × (Answers (record { files = F.files; folders = F.folders; clock = F.clock; stopped_since = F.stopped_since; faults = F.faults; keeps = F.keeps })
+        × (Answers (record { files = F.files; folders = F.folders; clock = F.clock; stopped_since = F.stopped_since; faults = F.faults; last_call = F.last_call; keeps = F.keeps })
         (record { core = core.old; folder = folder.old; words = R.stream rng.old }) (asked command.entry) text (record { core = core.new; folder = folder.new; words = R.stream rng.new })
         × Appends (W.contents writer.old) (W.contents writer.new) text)) }
     ensures kept { F.keeps folder.old ↔ F.keeps folder.new }

@@ -2,6 +2,7 @@
 ghost use Rattle.std.specs.FinMap.{empty};
 ghost use Rattle.std.specs.Prelude.{◌≡◌, [], false, if◌then◌else◌};
 ghost use Rattle.std.specs.FinSet.{empty as nothing};
+ghost use Rattle.lru_folder.specs.declared.folder_call.FolderCall.TheVariants.{Make};
 ghost use Rattle.pingora_lru_files.specs.Folder.{Closed, Lost, Writing};
 
 use pingora_lru_files::persistence::{Folder, FolderFault, Listed};
@@ -42,6 +43,8 @@ impl Folder for Unlisted {
     ghost stopped_since = { λ _ _ _. ⊥ };
 
     ghost faults = { λ _. 0 };
+
+    ghost last_call = { λ _. Make };
 
     ghost keeps = { λ _. ⊥ };
 

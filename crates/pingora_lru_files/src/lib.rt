@@ -1,22 +1,5 @@
-//! Shards of an LRU, saved to files and loaded again.
+//! Shards of an LRU, saved to files and loaded again. What stands here is passed on from the crates beneath.
 #![tactic(auto)]
 
-mod calls;
-mod cleanup;
-mod errors;
-mod fault;
-mod folder;
-mod held;
-mod host_folder;
-mod host_open;
-mod listed;
-mod loading;
-mod memory_folder;
-mod names;
-mod open;
 pub mod persistence;
-mod places;
-mod reports;
-mod saving;
-mod shard_saver;
-pub mod snapshot;
+pub use lru_snapshot::snapshot;

@@ -6,24 +6,26 @@
 //! [`MemoryFolder`] keeps its files in memory.
 
 /// Why a shard was not saved or loaded: which file's call failed, and at which shard.
-pub use crate::errors::{
+pub use lru_folder::errors::{
     ShardFileError, ShardLoadFailure, ShardSaveError, ShardSaveFailure, ShardSaveSetupError,
 };
 /// Why a folder refused a call.
-pub use crate::fault::FolderFault;
+pub use lru_folder::fault::FolderFault;
 /// The calls through which files are saved, loaded and removed.
-pub use crate::folder::Folder;
+pub use lru_folder::folder::Folder;
+/// The calls of a folder, by name.
+pub use lru_folder::folder_call::FolderCall;
 /// The host's file system.
-pub use crate::host_folder::HostFolder;
+pub use lru_host_folder::host_folder::HostFolder;
 /// One entry of a folder's list.
-pub use crate::listed::Listed;
+pub use lru_folder::listed::Listed;
 /// Loads each shard from its file.
-pub use crate::loading::load_shards;
+pub use lru_loading::loading::load_shards;
 /// Files and folders in memory, whose calls can be told to fail.
-pub use crate::memory_folder::MemoryFolder;
+pub use lru_memory_folder::memory_folder::MemoryFolder;
 /// What a save, a load or a cleanup did.
-pub use crate::reports::{ShardLoadReport, ShardSaveReport, TempFileCleanupReport};
+pub use lru_folder::reports::{ShardLoadReport, ShardSaveReport, TempFileCleanupReport};
 /// Saves each shard into its file.
-pub use crate::saving::save_shards;
+pub use lru_saving::saving::save_shards;
 /// A save of shards that is made one shard at a time.
-pub use crate::shard_saver::ShardSaver;
+pub use lru_saving::shard_saver::ShardSaver;

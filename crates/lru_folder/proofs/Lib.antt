@@ -1,0 +1,6 @@
+pub mod NamesLemmas
+pub mod PlacesLemmas
+pub mod FilesLemmas
+pub mod Moments
+pub mod CauseLemmas
+pub mod InOrderLemmas

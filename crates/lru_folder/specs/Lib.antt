@@ -1,0 +1,9 @@
+pub mod Names
+pub mod Files
+pub mod Places
+pub mod Listings
+pub mod Folder
+pub mod Meaning
+pub mod TextsFault
+pub mod Texts
+pub mod Blames

@@ -1,0 +1,16 @@
+-- What a folder of some type means.
+use Rattle.std.specs.Prelude.{ℕ}
+use Rattle.lru_folder.specs.declared.folder_call.FolderCall.{FolderCall}
+use Rattle.lru_folder.specs.Files.{Files}
+use Rattle.lru_folder.specs.Places.{Folders}
+
+-- Its files and folders, its moments and what a stop since one of them could have left, how often it has failed, the
+-- call that was made last, and whether it keeps this meaning.
+pub record Meaning (F : Type 0) : Type 1 where
+  pub files : F → Files
+  pub folders : F → Folders
+  pub clock : F → ℕ
+  pub stopped_since : F → ℕ → Files → Type 0
+  pub faults : F → ℕ
+  pub last_call : F → FolderCall
+  pub keeps : F → Type 0

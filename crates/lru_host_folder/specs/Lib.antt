@@ -1,0 +1,2 @@
+pub mod HostInside
+pub use Rattle.lru_folder.specs.Folder

@@ -1,0 +1,3 @@
+pub mod CleanupLemmas
+pub mod CleanupNames
+pub mod LoadingLemmas

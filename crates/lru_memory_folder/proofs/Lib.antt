@@ -1,0 +1,6 @@
+pub mod CallsLemmas
+pub mod HeldLemmas
+pub mod MadeLemmas
+pub mod ListingLemmas
+pub mod MemoryLemmas
+pub mod PlanLemmas

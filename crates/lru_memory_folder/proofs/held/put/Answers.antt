@@ -1,0 +1,10 @@
+use Rattle.std.proofs.Common.{string_bytes, Some}
+use Rattle.std.proofs.lemmas.Map.Text.{btree_map_updates_text}
+use Rattle.lru_memory_folder.proofs.HeldLemmas.{files_in-insert}
+use Rattle.lru_memory_folder.proofs.held.put.Goals as goal
+
+pub returns-clause-ok : goal.returns-clause-ok
+returns-clause-ok c =
+    let path = string_bytes c.args.path in
+    files_in-insert c.args.held.now c.insert.new.self path c.args.bytes
+    (btree_map_updates_text path c.args.held.now c.insert.new.self (Some c.args.bytes) c.in_ok-insert.ensures.updates)

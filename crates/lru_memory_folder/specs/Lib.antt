@@ -1,0 +1,12 @@
+pub mod Calls
+pub mod Memory
+pub mod Plans
+pub mod HeldInside
+pub mod MadeInside
+pub mod MemoryInside
+pub mod MemoryLaws
+pub use Rattle.lru_folder.specs.Files
+pub use Rattle.lru_folder.specs.Folder
+pub use Rattle.lru_folder.specs.Listings
+pub use Rattle.lru_folder.specs.Names
+pub use Rattle.lru_folder.specs.Places

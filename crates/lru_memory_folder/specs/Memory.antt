@@ -1,0 +1,36 @@
+-- A folder in memory: what it began with, its calls since, and which of the next ones are made to fail.
+use Rattle.std.specs.Prelude.{ℕ, List, length}
+use Rattle.std.specs.FinMap.{from_entries}
+use Rattle.std.specs.FinSet.{from_list}
+use Rattle.lru_memory_folder.specs.declared.calls.Noted.{Noted}
+use Rattle.lru_memory_folder.specs.declared.calls.Plan.{Plan}
+use Rattle.lru_memory_folder.specs.Calls.{after, failures, StoppedSince}
+use Rattle.lru_folder.specs.Files.{Files}
+use Rattle.lru_folder.specs.Folder.{Opened}
+use Rattle.lru_folder.specs.Places.{Folders}
+use Rattle.lru_folder.specs.declared.folder_call.FolderCall.{FolderCall}
+
+pub record Memory : Type 0 where
+  pub begun : List (List ℕ × List ℕ)
+  pub calls : List Noted
+  pub made : List (List ℕ)
+  pub opened : Opened
+  pub plan : Plan
+  pub last : FolderCall
+
+-- the files now: the calls done on what was there
+abbrev pub files_of : Memory → Files
+files_of m = after m.calls (from_entries m.begun)
+
+abbrev pub folders_of : Memory → Folders
+folders_of m = from_list m.made
+
+-- the moment is the number of calls
+abbrev pub clock_of : Memory → ℕ
+clock_of m = length m.calls
+
+abbrev pub stopped_since_of : Memory → ℕ → Files → Type 0
+stopped_since_of m t = StoppedSince m.calls t (from_entries m.begun)
+
+abbrev pub faults_of : Memory → ℕ
+faults_of m = failures m.calls

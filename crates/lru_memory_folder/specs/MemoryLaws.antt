@@ -1,0 +1,25 @@
+-- The laws of a folder, of a folder in memory.
+use Rattle.std.specs.Prelude.{◌≡◌, ◌≤◌, ℕ, zero, suc, List, [], ◌∷◌, length}
+use Rattle.std.proofs.Common.{inr, refl, arith}
+use Rattle.std.specs.FinMap.{from_entries}
+use Rattle.lru_folder.specs.Files.{Files}
+use Rattle.lru_memory_folder.specs.declared.calls.Noted.{Noted}
+use Rattle.lru_memory_folder.specs.Calls.{effect, after, StoppedSince}
+use Rattle.lru_memory_folder.specs.Memory.{Memory, files_of, clock_of, stopped_since_of}
+
+-- the files now are among those that a stop could leave
+pub StoppedSince-now : (cs : List Noted) (t : ℕ) (start : Files) → t ≤ length cs → StoppedSince cs t start (after cs start)
+StoppedSince-now [] t start le = refl
+StoppedSince-now (c ∷ cs) zero start le = inr (inr (StoppedSince-now cs zero (effect c start) (omega arith)))
+StoppedSince-now (c ∷ cs) (suc t) start le = StoppedSince-now cs t (effect c start) (omega arith)
+
+-- since now there is nothing else
+pub StoppedSince-only : (cs : List Noted) (start m : Files) → StoppedSince cs (length cs) start m → m ≡ after cs start
+StoppedSince-only [] start m s = s
+StoppedSince-only (c ∷ cs) start m s = StoppedSince-only cs (effect c start) m s
+
+pub memory_counts_now : (m : Memory) (t : ℕ) → t ≤ clock_of m → stopped_since_of m t (files_of m)
+memory_counts_now m t le = StoppedSince-now m.calls t (from_entries m.begun) le
+
+pub memory_only_now : (m : Memory) (f : Files) → stopped_since_of m (clock_of m) f → f ≡ files_of m
+memory_only_now m f s = StoppedSince-only m.calls (from_entries m.begun) f s

@@ -1,0 +1,127 @@
+// The files that a folder in memory holds.
+ghost use Rattle.std.specs.Prelude.{◌≡◌, ◌+◌, ◌<◌, ◌^◌, drop, map, take, None, Some, IfOk, MatchOption, OnErr, OnOk, string_bytes, vec_len};
+ghost use Rattle.std.specs.FinMap.{get, insert, remove};
+ghost use Rattle.lru_folder.specs.Files.{bytes_at};
+ghost use Rattle.lru_memory_folder.specs.HeldInside.{files_in};
+ghost use Rattle.lru_folder.specs.Listings.{name_of};
+ghost use Rattle.lru_folder.specs.Places.{listing};
+
+use crate::places::name_after;
+use lru_folder::listed::Listed;
+use lru_folder::names::path_of;
+use std::alloc::{AllocError, Global};
+use std::collections::BTreeMap;
+
+/// The bytes of each path.
+pub(crate) type Held = BTreeMap<String, Vec<u8>>;
+
+/// The bytes of the path.
+pub(crate) fn find<'a>(held: &'a Held, path: &str) -> Option<&'a [u8]>
+    ensures { MatchOption result (get (files_in held.now.entries) path.now ≡ None)
+        (λ bytes. get (files_in held.now.entries) path.now ≡ Some bytes.now) }
+{
+    match held.get(path) {
+        Some(bytes) => Some(bytes),
+        None => None,
+    }
+}
+
+/// Gives the path these bytes. Where a new path finds no memory, nothing changes.
+pub(crate) fn put(held: &mut Held, path: String, bytes: Vec<u8>) -> Result<(), AllocError>
+    ensures ok { OnOk result (files_in held.new.entries ≡ insert (files_in held.old.entries) (string_bytes path) bytes.items) }
+    ensures err { OnErr result (held.new.entries ≡ held.old.entries) }
+{
+    held.insert(path, bytes)?;
+    Ok(())
+}
+
+/// Takes the path away.
+pub(crate) fn take_out(held: &mut Held, path: &str)
+    ensures { files_in held.new.entries ≡ remove (files_in held.old.entries) path.now }
+{
+    let _ = held.remove(path);
+}
+
+/// A copy of the bytes of the path, none where it is not there.
+pub(crate) fn copy_of(alloc: Global, held: &Held, path: &str) -> Result<Vec<u8>, AllocError>
+    ensures { IfOk result (λ bytes. bytes.items ≡ bytes_at (files_in held.now.entries) path.now) }
+{
+    match find(held, path) {
+        Some(bytes) => bytes.to_vec(alloc),
+        None => Ok(Vec::new(alloc)),
+    }
+}
+
+/// Gives the bytes of a path to another, which takes its place. Where that finds no memory, nothing changes.
+pub(crate) fn give(
+    held: &mut Held,
+    from: &str,
+    to: String,
+    bytes: Vec<u8>,
+) -> Result<(), AllocError>
+    ensures ok { OnOk result (files_in held.new.entries ≡ insert (remove (files_in held.old.entries) from.now) (string_bytes to) bytes.items) }
+    ensures err { OnErr result (held.new.entries ≡ held.old.entries) }
+{
+    let is_other = to.as_str() != from;
+    put(held, to, bytes)?;
+    if is_other {
+        take_out(held, from);
+    }
+    Ok(())
+}
+
+/// The first bytes of a piece, at most so many.
+pub(crate) fn front(piece: &[u8], max: usize) -> &[u8]
+    ensures { result.now ≡ take max piece.now }
+{
+    if max < piece.len() {
+        &piece[..max]
+    } else {
+        piece
+    }
+}
+
+/// A copy of the bytes of the path from a place on, at most so many.
+pub(crate) fn piece_at(
+    alloc: Global,
+    held: &Held,
+    path: &str,
+    at: usize,
+    max: usize,
+) -> Result<Vec<u8>, AllocError>
+    ensures piece { IfOk result (λ piece. piece.items ≡ take max (drop at (bytes_at (files_in held.now.entries) path.now))) }
+    ensures fits { IfOk result (λ piece. at + vec_len piece < 2 ^ 64) }
+{
+    match find(held, path) {
+        Some(bytes) => {
+            if at < bytes.len() {
+                front(&bytes[at..], max).to_vec(alloc)
+            } else {
+                Ok(Vec::new(alloc))
+            }
+        }
+        None => Ok(Vec::new(alloc)),
+    }
+}
+
+/// The names of the files in a folder, in byte order.
+pub(crate) fn names_of(alloc: Global, held: &Held, dir: &str) -> Result<Vec<Listed>, AllocError>
+    ensures { IfOk result (λ listed. map name_of listed.items ≡ listing dir.now (files_in held.now.entries)) }
+{
+    let front = path_of(alloc, dir, "")?;
+    let mut listed = Vec::new(alloc);
+    for path in held.keys() {
+        if let Some(name) = name_after(front.as_str(), path.as_str()) {
+            listed.push(Listed::Name(String::from_str(alloc, name)?))?;
+        }
+    }
+    Ok(listed)
+}
+
+/// A copy of all files.
+pub(crate) fn copy_all(held: &Held) -> Result<Held, AllocError>
+    ensures { IfOk result (λ copy. files_in copy.entries ≡ files_in held.now.entries) }
+{
+    let copy = held.clone()?;
+    Ok(copy)
+}

@@ -1,0 +1,8 @@
+//! A folder in memory, whose calls can be told to fail.
+#![tactic(auto)]
+
+pub mod calls;
+mod held;
+pub mod memory_folder;
+mod open;
+mod places;

@@ -1,0 +1,6 @@
+pub mod SaveSteps
+pub mod Putting
+pub mod TurnsLemmas
+pub mod SavesSoFar
+pub mod ShardTurns
+pub mod SaveEnds

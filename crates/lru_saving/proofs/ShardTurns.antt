@@ -1,0 +1,70 @@
+-- A save of a shard's file is the shard's turn.
+use Rattle.std.proofs.Common.{◌≡◌, ℕ, List, Option, Some, None, Ok, inl, inr, subst, arith}
+use Rattle.std.specs.Prelude.{Vec}
+use Rattle.std.specs.declared.alloc.Global.{Global}
+use Rattle.lru_folder.specs.declared.errors.ShardFileError.{ShardFileError}
+use Rattle.lru_folder.specs.declared.errors.ShardSaveFailure.{ShardSaveFailure}
+use Rattle.lru_folder.specs.declared.errors.ShardSaveFailure.TheVariants.{Io}
+use Rattle.lru_folder.specs.Blames.{failed_call}
+use Rattle.lru_folder.specs.Files.{Files}
+use Rattle.lru_folder.specs.Folder.{LeavesOnly}
+use Rattle.lru_folder.specs.Meaning.{Meaning}
+use Rattle.lru_folder.specs.Names.{shard_path, temp_path}
+use Rattle.lru_folder.specs.Places.{folder_of, is_there}
+use Rattle.lru_saving.specs.Saving.{IsOldOrNew, IsSaved, HasReason, source_of}
+use Rattle.lru_saving.specs.Turns.{IsOldOrGiven, SaveTurn, SavesOne}
+
+-- what the calls left
+abbrev pub Leaves : {F : Type 0} → Meaning F → List ℕ → F → F → List ℕ → List ℕ → Type 0
+Leaves m bytes old new temp path = LeavesOnly m.clock m.stopped_since m.files (IsOldOrNew temp path bytes (m.files old)) old new
+
+-- what holds of two paths and of bytes holds of the same ones
+pub at_paths : (P : List ℕ → List ℕ → List ℕ → Type 0) (temp temp' path path' bytes bytes' : List ℕ) → temp ≡ temp' → path ≡ path' → bytes ≡ bytes' → P temp path bytes → P temp' path' bytes'
+at_paths P temp temp' path path' bytes bytes' temp_is path_is bytes_is h =
+    subst (λ (p : List ℕ × List ℕ × List ℕ). P p.0 p.1 p.2) (λ i. (temp_is i, path_is i, bytes_is i)) h
+
+module _ {F E : Type 0} (m : Meaning F) (dir file_name : List ℕ) (shard word : ℕ) (bytes : Vec ℕ Global) (old new : F) where
+  abbrev turn : Option (ShardSaveFailure E) → SaveTurn E
+  turn failed = record { word = word; given = Ok bytes; failed = failed }
+
+  given_so : (failed : Option (ShardSaveFailure E)) (f : Files) → IsOldOrNew (temp_path dir file_name shard word) (shard_path dir file_name shard) bytes.items (m.files old) f → IsOldOrGiven dir file_name shard (turn failed) (m.files old) f
+  given_so failed f h = record { file = h.file; remnant = h.remnant; others = h.others }
+
+  any_moment : (failed : Option (ShardSaveFailure E)) → Leaves m bytes.items old new (temp_path dir file_name shard word) (shard_path dir file_name shard)
+      → LeavesOnly m.clock m.stopped_since m.files (IsOldOrGiven dir file_name shard (turn failed) (m.files old)) old new
+  any_moment failed h = record {
+    later = h.later;
+    each = λ f s. given_so failed f (h.each f s);
+    now = given_so failed (m.files new) h.now;
+    before = λ t f le s. elim (h.before t f le s) [
+      | inl was ↦ inl was
+      | inr so ↦ inr (given_so failed f so)
+    ];
+  }
+
+  pub ends_well : Leaves m bytes.items old new (temp_path dir file_name shard word) (shard_path dir file_name shard) → IsSaved (temp_path dir file_name shard word) (shard_path dir file_name shard) bytes.items (m.files old) (m.files new) → m.faults new ≡ m.faults old → m.folders new ≡ m.folders old
+      → SavesOne m dir file_name shard (turn None) old new
+  ends_well leaves saved same places = record {
+    any_moment = any_moment None leaves;
+    kept = saved.file;
+    gone = saved.gone;
+    named = tt;
+    reason = tt;
+    later = omega (arith, same);
+    told = λ rose. absurd (omega (arith, same, rose));
+    places = places;
+  }
+
+  pub ends_badly : (source : ShardFileError) → Leaves m bytes.items old new (temp_path dir file_name shard word) (shard_path dir file_name shard) → m.last_call new ≡ failed_call source
+      → HasReason (is_there (m.folders old) (folder_of (temp_path dir file_name shard word))) (m.faults old) (m.faults new) (source_of source) → m.folders new ≡ m.folders old
+      → SavesOne m dir file_name shard (turn (Some (Io shard source))) old new
+  ends_badly source leaves named reason places = record {
+    any_moment = any_moment (Some (Io shard source)) leaves;
+    kept = tt;
+    gone = tt;
+    named = named;
+    reason = reason;
+    later = reason.later;
+    told = reason.told;
+    places = places;
+  }

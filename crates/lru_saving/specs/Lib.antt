@@ -1,0 +1,11 @@
+pub mod Saving
+pub mod Turns
+pub mod Progress
+pub mod Saves
+pub mod SaverInside
+pub use Rattle.lru_folder.specs.Files
+pub use Rattle.lru_folder.specs.Folder
+pub use Rattle.lru_folder.specs.Names
+pub use Rattle.lru_folder.specs.Places
+pub use Rattle.lru_folder.specs.Meaning
+pub use Rattle.lru_folder.specs.Blames

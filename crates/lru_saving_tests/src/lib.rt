@@ -1,0 +1,9 @@
+//! Tests of saving shards to files.
+#![tactic(auto)]
+
+#[cfg(test)]
+mod plan_tests;
+#[cfg(test)]
+mod saving_memory_tests;
+#[cfg(test)]
+mod saving_tests;

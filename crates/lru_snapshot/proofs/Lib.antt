@@ -1,0 +1,9 @@
+pub mod SnapshotLemmas
+pub mod SnapshotLoadLemmas
+pub mod SnapshotSteps
+pub mod SnapshotLimits
+pub mod SnapshotJoins
+pub mod SnapshotRuns
+pub mod SnapshotCalls
+pub mod SnapshotRestores
+pub mod RowLaws

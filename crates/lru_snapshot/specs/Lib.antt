@@ -1,0 +1,17 @@
+pub mod Snapshot
+pub mod SnapshotLoads
+pub mod SnapshotSaves
+pub mod SnapshotTexts
+pub mod Stores
+pub use Rattle.lru_folder.specs.Files
+pub use Rattle.lru_folder.specs.Folder
+pub use Rattle.lru_folder.specs.Names
+pub use Rattle.lru_folder.specs.Places
+pub use Rattle.lru_loading.specs.Cleanup
+pub use Rattle.lru_loading.specs.Loading
+pub use Rattle.lru_saving.specs.Progress
+pub use Rattle.lru_saving.specs.Saving
+pub use Rattle.lru_saving.specs.Turns
+pub use Rattle.pingora_lru.specs.Core
+pub use Rattle.pingora_lru.specs.Row
+pub use Rattle.pingora_lru.specs.Shard

@@ -1,0 +1,21 @@
+-- What the turns of a core's save are given.
+use Rattle.std.specs.Prelude.{◌≡◌, ◌<◌, ℕ, List, Some, IfOk, map}
+use Rattle.std.specs.FinMap.{get}
+use Rattle.lru_folder.specs.Files.{Files}
+use Rattle.lru_snapshot.specs.SnapshotLoads.{rows_of}
+use Rattle.std.specs.declared.alloc.AllocError.{AllocError}
+use Rattle.pingora_lru.specs.Row.{pair_of}
+use Rattle.pingora_lru.specs.Core.{Core, list_at}
+use Rattle.lru_snapshot.specs.declared.snapshot.Keyed.{Keyed}
+use Rattle.lru_snapshot.specs.Snapshot.{bytes_of}
+use Rattle.lru_folder.specs.Names.{shard_path}
+use Rattle.lru_saving.specs.Turns.{Given}
+
+-- a call for the bytes of a shard gives those of its rows, unless memory was refused
+abbrev pub GivesShard : Core Keyed → Unit {0} → ℕ → Given AllocError → Unit {0} → Type 0
+GivesShard core before shard given after = IfOk given (λ bytes. bytes.items ≡ bytes_of (map pair_of (list_at core shard)))
+
+-- the file of each of n shards tells the rows that a core has there
+abbrev pub TellCore : Files → List ℕ → List ℕ → ℕ → Core Keyed → Type 0
+TellCore files dir file_name n core =
+    (s : ℕ) → s < n → (bytes : List ℕ) × ((get files (shard_path dir file_name s) ≡ Some bytes) × (rows_of bytes ≡ list_at core s))

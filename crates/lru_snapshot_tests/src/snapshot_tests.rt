@@ -1,0 +1,138 @@
+// What the bytes of a shard are, and what loading them does.
+ghost use Rattle.std.specs.Prelude.{◌<◌};
+
+use log::sink;
+use pingora_lru::lru_core::LruCore;
+use pingora_lru::unit::Cause;
+use pingora_lru_files::persistence::MemoryFolder;
+use pingora_lru_files::snapshot::{
+    Keyed, LoadError, load_core, load_shard, save_core, shard_bytes,
+};
+use rand::rngs::StdRng;
+use rand_core::SeedableRng;
+use std::alloc::{AllocError, Global};
+use std::test::Fail;
+
+fn empty<const N: usize>(alloc: Global) -> Result<LruCore<Keyed, N>, AllocError>
+    requires { 0 < N }
+{
+    LruCore::with_capacity(alloc, 100, 0)
+}
+
+/// The one row key 2, value 20, weight 2.
+const ROW: [u8; 24] = [
+    2, 0, 0, 0, 0, 0, 0, 0, 20, 0, 0, 0, 0, 0, 0, 0, 2, 0, 0, 0, 0, 0, 0, 0,
+];
+
+#[test]
+fn a_row_is_24_bytes(rt: HostRuntime) -> Result<(), Fail> {
+    let mut core = empty::<2>(rt.alloc())?;
+    assert!(rt; core.admit(2, Keyed { key: 2, value: 20 }, 2).is_ok());
+    let bytes = shard_bytes(rt.alloc(), &core, 0)?;
+    assert_eq!(rt; bytes.as_slice(), ROW.as_slice());
+    let none = shard_bytes(rt.alloc(), &core, 1)?;
+    assert_eq!(rt; none.len(), 0);
+    Ok(())
+}
+
+/// The row with one byte more.
+const LONG: [u8; 25] = [
+    2, 0, 0, 0, 0, 0, 0, 0, 20, 0, 0, 0, 0, 0, 0, 0, 2, 0, 0, 0, 0, 0, 0, 0, 0,
+];
+
+// Loads into an empty core, one after another: the shard, the bytes, the answer, and the core's length and weight then.
+#[test]
+fn bytes_are_loaded_or_nothing_changes(rt: HostRuntime) -> Result<(), Fail> {
+    let loads: [(usize, &[u8], Result<usize, LoadError>, usize, usize); 5] = [
+        (0, &[], Ok(0), 0, 0),
+        (0, &LONG, Err(LoadError::Damaged), 0, 0),
+        (1, &ROW, Err(LoadError::Damaged), 0, 0),
+        (0, &ROW, Ok(1), 1, 2),
+        (0, &ROW, Err(LoadError::Damaged), 1, 2),
+    ];
+    let mut core = empty::<2>(rt.alloc())?;
+    for (shard, bytes, answer, len, weight) in loads {
+        assert_eq!(rt; load_shard(rt.alloc(), &mut core, shard % 2, bytes), answer);
+        assert_eq!(rt; (core.len(), core.weight()), (len, weight));
+    }
+    Ok(())
+}
+
+/// How each refusal is shown.
+const TEXTS: [(LoadError, &str); 4] = [
+    (LoadError::Damaged, "damaged"),
+    (LoadError::Unit(Cause::Weight), "refused weight"),
+    (LoadError::Unit(Cause::Length), "refused length"),
+    (LoadError::Unit(Cause::Memory), "refused memory"),
+];
+
+#[test]
+fn a_refusal_has_its_text(rt: HostRuntime) -> Result<(), Fail> {
+    for (error, text) in TEXTS {
+        let shown = error.to_string(rt.alloc())?;
+        assert_eq!(rt; shown.as_str(), text);
+    }
+    Ok(())
+}
+
+#[test]
+fn a_core_is_loaded_as_far_as_its_files_go(rt: HostRuntime) -> Result<(), Fail> {
+    // key 0, value 0, weight 1
+    let whole = [
+        0, 0, 0, 0, 0, 0, 0, 0, 0, 0, 0, 0, 0, 0, 0, 0, 1, 0, 0, 0, 0, 0, 0, 0,
+    ];
+    let mut folder = MemoryFolder::new(rt.alloc())
+        .with("d/c.0", &whole)?
+        .with("d/c.2", &[0; 25])?;
+    let log = sink::Memory::new(rt.alloc());
+    let mut core = empty::<3>(rt.alloc())?;
+    let report = load_core(rt.alloc(), &mut folder, &log, "d", "c", &mut core)?;
+    assert_eq!(rt; report.loaded_shards, 1);
+    assert_eq!(rt; report.missing_shards, 1);
+    assert_eq!(rt; report.error_shards, 1);
+    assert_eq!(rt; core.shard_len(2), 0);
+    Ok(())
+}
+
+#[test]
+fn a_core_comes_back(rt: HostRuntime) -> Result<(), Fail> {
+    let mut core = empty::<2>(rt.alloc())?;
+    for key in 0..5u64 {
+        let data = Keyed {
+            key,
+            value: key + 10,
+        };
+        assert!(rt; core.admit(key, data, 1).is_ok());
+    }
+    let mut folder = MemoryFolder::new(rt.alloc());
+    let log = sink::Memory::new(rt.alloc());
+    let mut rng = StdRng::seed_from_u64(7);
+    let saved = save_core(rt.alloc(), &mut folder, &mut rng, &log, "d", "c", &core).map_err(
+        |_| "not saved",
+    )?;
+    assert_eq!(rt; saved.saved_shards, 2);
+    let mut back = empty::<2>(rt.alloc())?;
+    let report = load_core(rt.alloc(), &mut folder, &log, "d", "c", &mut back)?;
+    assert_eq!(rt; report.loaded_shards, 2);
+    for shard in 0..2 {
+        let old = shard_bytes(rt.alloc(), &core, shard)?;
+        let new = shard_bytes(rt.alloc(), &back, shard)?;
+        assert_eq!(rt; new.as_slice(), old.as_slice());
+    }
+    Ok(())
+}
+
+#[test]
+fn many_rows_come_back(rt: HostRuntime) -> Result<(), Fail> {
+    let mut core = empty::<1>(rt.alloc())?;
+    for key in 0..1200u64 {
+        assert!(rt; core.admit(key, Keyed { key, value: key }, 1).is_ok());
+    }
+    let bytes = shard_bytes(rt.alloc(), &core, 0)?;
+    assert_eq!(rt; bytes.len(), 28_800);
+    let mut back = empty::<1>(rt.alloc())?;
+    assert_eq!(rt; load_shard(rt.alloc(), &mut back, 0, &bytes), Ok(1200));
+    let again = shard_bytes(rt.alloc(), &back, 0)?;
+    assert_eq!(rt; again.as_slice(), bytes.as_slice());
+    Ok(())
+}

@@ -1,0 +1,7 @@
+//! Folders, files and answers for the tests of the shard files' crates.
+#![tactic(auto)]
+
+pub mod odd_names;
+pub mod refusals;
+pub mod shelf;
+pub mod two_shards;
