@@ -14,8 +14,9 @@ use std::{fs, io};
 
 /// The files of the operating system.
 ///
-/// That it keeps the meaning of a folder is a premise: nobody else writes there, and the disk gives back what was
-/// written. Nothing of that is proved.
+/// No theorem speaks of them: the clauses of a folder hold of each folder that keeps its meaning, and nothing says that
+/// this one does. While nobody else writes there and the disk gives back what was written it should, which is tried by
+/// real runs and not proved.
 #[derive(Drop)]
 pub struct HostFolder<R: Files> {
     rt: R,

@@ -2,7 +2,7 @@
 use Rattle.std.proofs.Common.{◌≡◌, ℕ, ◌+◌, ◌<◌, ◌≤◌, List, ◌∷◌, ◌++◌, length, take, drop, get_or, Some, sym, ap, ◌∙◌, arith}
 use Rattle.std.specs.Prelude.{map, if◌then◌else◌, None, nat_lt}
 use Rattle.std.proofs.lemmas.Bool.{le-ltb, lt-ltb}
-use Rattle.pingora_lru.specs.declared.unit.Cause.TheVariants.{Weight, Length}
+use Rattle.lru_shard.specs.declared.unit.Cause.TheVariants.{Weight, Length}
 use Rattle.pingora_lru.specs.Row.{Row, weight_of}
 use Rattle.pingora_lru.specs.Shard.{most_rows}
 use Rattle.lru_snapshot.proofs.RowLaws.{weight-append, weight-cons}

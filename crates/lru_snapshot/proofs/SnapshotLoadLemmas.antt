@@ -2,7 +2,7 @@
 use Rattle.std.proofs.Common.{◌≡◌, ℕ, ◌+◌, ◌<◌, false, List, [], ◌∷◌, ◌++◌, length, take, drop, get_or, Ok, Err, suc, sym, ap, ◌∙◌, refl, arith}
 use Rattle.std.specs.Prelude.{Option, Bool, map, is_some}
 use Rattle.std.proofs.lemmas.List.{get_or-set_same, set-set, set-get_or, length-set, take-append-drop, drop_more, take_more, map-append}
-use Rattle.pingora_lru.specs.declared.unit.Refused.{Refused}
+use Rattle.lru_shard.specs.declared.unit.Refused.{Refused}
 use Rattle.pingora_lru.specs.Row.{Row, row, pair_of, times, HasDistinctKeys, is_held, without}
 use Rattle.pingora_lru.specs.Shard.{Shard}
 use Rattle.pingora_lru.specs.Core.{Core, list_at, with_list, home}

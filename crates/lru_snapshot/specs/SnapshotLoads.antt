@@ -1,8 +1,8 @@
 -- Loading the bytes of a shard.
 use Rattle.std.specs.Prelude.{◌≡◌, ℕ, ◌%◌, ◌<◌, nat_lt, List, ◌++◌, length, map, Option, Some, None, Result, Ok, Err, All, if◌then◌else◌}
 use Rattle.std.specs.Borrow.{Bor}
-use Rattle.pingora_lru.specs.declared.unit.Cause.{Cause}
-use Rattle.pingora_lru.specs.declared.unit.Cause.TheVariants.{Memory, Weight, Length}
+use Rattle.lru_shard.specs.declared.unit.Cause.{Cause}
+use Rattle.lru_shard.specs.declared.unit.Cause.TheVariants.{Memory, Weight, Length}
 use Rattle.pingora_lru.specs.Row.{Row, row, times, HasDistinctKeys, weight_of}
 use Rattle.pingora_lru.specs.Shard.{most_rows}
 use Rattle.pingora_lru.specs.Core.{Core, cap_of, list_at, with_list, home}

@@ -2,7 +2,7 @@
 use Rattle.std.specs.Prelude.{ℕ, List, codes}
 use Rattle.lru_snapshot.specs.declared.snapshot.LoadError.{LoadError}
 use Rattle.lru_snapshot.specs.declared.snapshot.LoadError.TheVariants as unloaded
-use Rattle.pingora_lru.specs.declared.unit.Cause.TheVariants.{Memory, Weight, Length}
+use Rattle.lru_shard.specs.declared.unit.Cause.TheVariants.{Memory, Weight, Length}
 
 abbrev pub load_error_text : LoadError → List ℕ
 load_error_text unloaded.Damaged = codes "damaged"

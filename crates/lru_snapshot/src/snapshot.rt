@@ -7,7 +7,7 @@ ghost use Rattle.lru_snapshot.specs.declared.snapshot.Keyed.{Keyed};
 ghost use Rattle.lru_snapshot.specs.Snapshot.{bytes_of, pairs_of, pair_in, number_at};
 ghost use Rattle.lru_snapshot.specs.SnapshotLoads.{row_of_pair, rows_of, TellTheirKeys, Joins, limit_passed, Loads};
 ghost use Rattle.lru_snapshot.specs.declared.snapshot.LoadError.TheVariants as unloaded;
-ghost use Rattle.pingora_lru.specs.declared.unit.Cause.TheVariants.{Memory};
+ghost use Rattle.lru_shard.specs.declared.unit.Cause.TheVariants.{Memory};
 
 mod cores;
 
