@@ -1,5 +1,5 @@
 //! A run of calls that are given as values.
-use lru_cores::calls::{Call, Reply, run};
+use lru_cores::calls::{Call, run};
 use lru_cores::lru_core::LruCore;
 use rand::rngs::StdRng;
 use rand_core::SeedableRng;
@@ -31,23 +31,16 @@ fn runs_calls(rt: HostRuntime) -> Result<(), Fail> {
         Call::Totals,
     ]?;
     let replies = run(&mut core, rt.alloc(), &mut rng, calls)?;
-    assert!(rt;
-        matches!(
-            replies.as_slice(),
-            [
-                Reply::Shard(Ok(0)),
-                Reply::Shard(Ok(0)),
-                Reply::Updated(Ok(Some(2))),
-                Reply::Evicted(Ok(_)),
-                Reply::Last(Ok(Some((21, 3)))),
-                Reply::Totals {
-                    len: 1,
-                    weight: 3,
-                    evicted_len: 1,
-                    evicted_weight: 3
-                },
-            ]
-        )
-    );
+    for (reply, text) in replies.iter().zip([
+        "Shard(Ok(0))",
+        "Shard(Ok(0))",
+        "Updated(Ok(Some(2)))",
+        "Evicted(Ok([(40, 3)]))",
+        "Last(Ok(Some((21, 3))))",
+        "Totals { len: 1, weight: 3, evicted_len: 1, evicted_weight: 3 }",
+    ]) {
+        assert_eq!(rt; format!(in rt.alloc(); "{reply:?}")?.as_str(), text);
+    }
+    assert_eq!(rt; replies.len(), 6);
     Ok(())
 }

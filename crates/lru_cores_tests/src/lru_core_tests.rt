@@ -329,33 +329,32 @@ fn spreads_its_evictions(rt: HostRuntime) -> Result<(), Fail> {
     Ok(())
 }
 
-// It passes whichever allocation fails, but the empty core's: each call that is refused for it is done again.
+// No data are made where they are not needed: not for a row that is there, and not before a refusal for weight.
 #[test]
-fn stands_after_want_of_memory(rt: HostRuntime) -> Result<(), Fail> {
-    let mut rng = StdRng::seed_from_u64(0);
-    let mut core = LruCore::<u64, 1>::with_capacity(rt.alloc(), 2, 0)?;
-    for (key, before) in [
-        (1, [].as_slice()),
-        (2, [1].as_slice()),
-        (3, [2, 1].as_slice()),
-        (4, [3, 2, 1].as_slice()),
-    ] {
-        if let Err(refused) = core.admit(key, key, 1) {
-            assert_eq!(rt; parts(refused), (Cause::Memory, key));
-            assert!(rt; shows(&core, 0, before));
-            core.admit(key, key, 1)?;
-        }
+fn makes_no_data_that_it_need_not(rt: HostRuntime) -> Result<(), Fail> {
+    let mut core = LruCore::<u64, 1>::with_capacity(rt.alloc(), 100, 0)?;
+    core.admit(1, 10, MOST)?;
+    let mut made = 0u32;
+    for (key, most, answer) in [(1, Some(1), Ok(MOST)), (2, None, Err(Cause::Weight))] {
+        let data = || {
+            made = made.wrapping_add(1);
+            7
+        };
+        assert_eq!(rt;
+            core.increment_weight(key, data, 1, most),
+            answer,
+            "of {key}"
+        );
     }
-    let evicted = match core.evict_to_limit(rt.alloc(), &mut rng) {
-        Ok(pairs) => pairs,
-        Err(stopped) => {
-            assert_eq!(rt; stopped.evicted.len(), 0);
-            assert!(rt; shows(&core, 0, &[4, 3, 2, 1]));
-            core.evict_to_limit(rt.alloc(), &mut rng)?
-        }
+    let data = || {
+        made = made.wrapping_add(1);
+        (7, 1)
     };
-    assert_eq!(rt; evicted.as_slice(), [(1, 1), (2, 1)].as_slice());
-    assert!(rt; shows(&core, 0, &[4, 3]));
+    assert_eq!(rt;
+        core.update_or_admit(1, |_, weight| weight, data)?,
+        Some(MOST)
+    );
+    assert_eq!(rt; made, 0);
     Ok(())
 }
 

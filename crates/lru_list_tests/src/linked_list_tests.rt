@@ -74,6 +74,7 @@ fn uses_a_freed_slot_again(rt: HostRuntime) -> Result<(), Fail> {
     assert_eq!(rt; list.push_head(3)?, 4);
     assert_eq!(rt; remove_at(&mut list, 3), Some(2));
     assert_eq!(rt; list.peek(3).copied(), Some(0));
+    assert_eq!(rt; neighbours(&list, 3), Some((NO_SLOT, NO_SLOT)));
     assert_eq!(rt; remove_at(&mut list, 3), None);
     assert_eq!(rt; list.push_head(4)?, 3);
     assert_eq!(rt; keys(&rt, &list)?.as_slice(), [4, 3, 1].as_slice());

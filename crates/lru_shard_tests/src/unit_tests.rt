@@ -1,6 +1,5 @@
 //! One shard, by its worked rows, and each of its calls.
 use lru_shard::unit::{Cause, LruUnit, Refused};
-use std::process::Abort;
 use std::test::Fail;
 
 // What a refused call says and hands back.
@@ -108,38 +107,6 @@ fn increments_weights(rt: HostRuntime) -> Result<(), Fail> {
     Ok(())
 }
 
-// Admits a row whose key is the data. Where it is refused for Memory, which changes nothing, it is done again.
-fn admit_at_last(
-    rt: &impl Abort,
-    unit: &mut LruUnit<u64>,
-    key: u64,
-    before: &[(u64, usize)],
-) -> Result<usize, Refused<u64>> {
-    let Err(refused) = unit.admit(key, key, 1) else {
-        return Ok(0);
-    };
-    assert_eq!(rt; parts(refused), (Cause::Memory, key));
-    assert!(rt; shows(unit, before));
-    unit.admit(key, key, 1)
-}
-
-// It passes whichever allocation fails, but the first two, which are the empty shard's.
-#[test]
-fn stands_after_want_of_memory(rt: HostRuntime) -> Result<(), Fail> {
-    let mut unit = LruUnit::with_capacity(rt.alloc(), 0, 10)?;
-    for (key, before) in [
-        (1, [].as_slice()),
-        (2, [(1, 1)].as_slice()),
-        (3, [(2, 1), (1, 1)].as_slice()),
-        (4, [(3, 1), (2, 1), (1, 1)].as_slice()),
-        (5, [(4, 1), (3, 1), (2, 1), (1, 1)].as_slice()),
-    ] {
-        assert_eq!(rt; admit_at_last(&rt, &mut unit, key, before)?, 0);
-    }
-    assert_eq!(rt; (unit.len(), unit.used_weight()), (5, 5));
-    Ok(())
-}
-
 #[test]
 fn answers_each_look(rt: HostRuntime) -> Result<(), Fail> {
     let mut unit = LruUnit::with_capacity(rt.alloc(), 3, 100)?;
@@ -205,7 +172,7 @@ fn answers_each_change(rt: HostRuntime) -> Result<(), Fail> {
 
 #[test]
 fn numbers_its_causes(rt: HostRuntime) {
-    assert_eq!(rt; Cause::Memory as u8, 1);
-    assert_eq!(rt; Cause::Weight as u8, 2);
-    assert_eq!(rt; Cause::Length as u8, 3);
+    for (cause, number) in [(Cause::Memory, 1), (Cause::Weight, 2), (Cause::Length, 3)] {
+        assert_eq!(rt; (cause as u8, cause.number()), (number, number));
+    }
 }
