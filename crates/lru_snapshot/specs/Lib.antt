@@ -13,5 +13,6 @@ pub use Rattle.lru_saving.specs.Progress
 pub use Rattle.lru_saving.specs.Saving
 pub use Rattle.lru_saving.specs.Turns
 pub use Rattle.pingora_lru.specs.Core
+pub use Rattle.pingora_lru.specs.Limits
 pub use Rattle.pingora_lru.specs.Row
 pub use Rattle.pingora_lru.specs.Shard

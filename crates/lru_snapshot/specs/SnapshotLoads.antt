@@ -5,7 +5,8 @@ use Rattle.lru_shard.specs.declared.unit.Cause.{Cause}
 use Rattle.lru_shard.specs.declared.unit.Cause.TheVariants.{Memory, Weight, Length}
 use Rattle.pingora_lru.specs.Row.{Row, row, times, HasDistinctKeys, weight_of}
 use Rattle.pingora_lru.specs.Shard.{most_rows}
-use Rattle.pingora_lru.specs.Core.{Core, cap_of, list_at, with_list, home}
+use Rattle.pingora_lru.specs.Core.{Core, list_at, with_list, home}
+use Rattle.pingora_lru.specs.Limits.{cap_of}
 use Rattle.lru_snapshot.specs.declared.snapshot.Keyed.{Keyed}
 use Rattle.lru_snapshot.specs.declared.snapshot.LoadError.{LoadError}
 use Rattle.lru_snapshot.specs.declared.snapshot.LoadError.TheVariants as unloaded

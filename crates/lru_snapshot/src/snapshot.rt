@@ -1,7 +1,8 @@
 //! The rows of a shard as bytes: 24 bytes for each row, most recent first.
 ghost use Rattle.std.specs.Prelude.{◌≡◌, ◌<◌, ◌≤◌, ◌+◌, ◌++◌, ◌↔◌, ℕ, List, IfOk, IsTrue, map, length};
 ghost use Rattle.std.specs.Bool.{OnTrue, OnFalse};
-ghost use Rattle.pingora_lru.specs.Core.{list_at, with_list, cap_of};
+ghost use Rattle.pingora_lru.specs.Core.{list_at, with_list};
+ghost use Rattle.pingora_lru.specs.Limits.{cap_of};
 ghost use Rattle.pingora_lru.specs.Row.{Row, pair_of};
 ghost use Rattle.lru_snapshot.specs.declared.snapshot.Keyed.{Keyed};
 ghost use Rattle.lru_snapshot.specs.Snapshot.{bytes_of, pairs_of, pair_in, number_at};
@@ -13,6 +14,7 @@ mod cores;
 
 /// Each shard of a core saved into its file, and loaded from it.
 pub use cores::{load_core, save_core};
+use pingora_lru::linked_list::MOST_ITEMS;
 use pingora_lru::lru_core::LruCore;
 use pingora_lru::unit::Cause;
 use std::alloc::{AllocError, Global};
@@ -155,9 +157,6 @@ fn joins<const N: usize>(
     Ok(true)
 }
 
-/// The most rows that any shard has.
-const MOST_ROWS: usize = 4294967293;
-
 // The limit that the shard would pass with these rows too.
 fn limit_passed<const N: usize>(
     core: &LruCore<Keyed, N>,
@@ -168,7 +167,7 @@ fn limit_passed<const N: usize>(
     ensures { result ≡ limit_passed (cap_of N) (list_at core.now shard ++ map row_of_pair pairs.now) }
 {
     let cap = usize::MAX / core.shards();
-    let free_rows = cap.min(MOST_ROWS) - core.shard_len(shard);
+    let free_rows = cap.min(MOST_ITEMS) - core.shard_len(shard);
     if free_rows < pairs.len() {
         return Some(Cause::Length);
     }

@@ -2,7 +2,8 @@ use Rattle.std.proofs.Common.{◌<◌, ◌≤◌, ◌++◌, ◌/◌, ap, [], len
 use Rattle.std.specs.Prelude.{map}
 use Rattle.std.proofs.lemmas.List.{length-map}
 use Rattle.pingora_lru.specs.Shard.{most_rows}
-use Rattle.pingora_lru.specs.Core.{list_at, cap_of}
+use Rattle.pingora_lru.specs.Core.{list_at}
+use Rattle.pingora_lru.specs.Limits.{cap_of}
 use Rattle.lru_snapshot.specs.SnapshotLoads.{row_of_pair}
 use Rattle.lru_snapshot.proofs.SnapshotLimits.{passed_weight, weight_over}
 use Rattle.lru_snapshot.proofs.snapshot.limit_passed.Goals as goal

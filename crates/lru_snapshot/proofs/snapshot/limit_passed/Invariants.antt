@@ -1,6 +1,7 @@
 use Rattle.std.proofs.Common.{◌≡◌, ◌++◌, ◌+◌, take}
 use Rattle.std.specs.Prelude.{map}
-use Rattle.pingora_lru.specs.Core.{list_at, cap_of}
+use Rattle.pingora_lru.specs.Core.{list_at}
+use Rattle.pingora_lru.specs.Limits.{cap_of}
 use Rattle.pingora_lru.specs.Row.{weight_of}
 use Rattle.lru_snapshot.specs.SnapshotLoads.{row_of_pair}
 use Rattle.lru_snapshot.proofs.snapshot.limit_passed.Given as goal
