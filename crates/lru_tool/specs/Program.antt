@@ -6,6 +6,10 @@ use Rattle.lru_tool.specs.declared.settings.Settings.{Settings}
 use Rattle.lru_tool.specs.Lines.{number_of, most_of, lines_of}
 use Rattle.lru_tool.specs.Commands.{Asked, command_of}
 use Rattle.pingora_lru.specs.Core.{Core}
+use Rattle.rand_core.specs.Stream.{Stream}
+use Rattle.rand_core.specs.Steps.{stream_of, steps_u32}
+use Rattle.rand_core.specs.Pcg32Seed.{pcg32_seed}
+use Rattle.rand_chacha.specs.ChaCha.{next_word, of_seed}
 
 -- the arguments: a limit, a watermark or `-`, and a seed; anything else is none
 abbrev pub settings_of : List (List ℕ) → Option Settings
@@ -16,6 +20,10 @@ settings_of _ = None
 -- the core that the program begins with
 abbrev pub fresh : Settings → Core Keyed
 fresh s = record { lists = replicate 2 []; weight_limit = s.limit; watermark = s.watermark; evicted_weight = 0; evicted_len = 0 }
+
+-- the random words that a seed gives: those of the standard generator, ChaCha with 12 rounds, which are 6 double ones
+abbrev pub words_of : ℕ → Stream
+words_of seed = stream_of (steps_u32 (next_word 6)) (of_seed (pcg32_seed 32 seed))
 
 -- the commands of an input, a line each
 abbrev pub commands_of : List ℕ → List (Option Asked)

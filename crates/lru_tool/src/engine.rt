@@ -4,7 +4,7 @@ ghost use Rattle.std.specs.List.{list_all};
 ghost use Rattle.std.specs.Io.KnownBytes.{Appends};
 ghost use Rattle.lru_tool.specs.Commands.{asked, command_of};
 ghost use Rattle.lru_tool.specs.Replies.{Serves, Possible, usage_text};
-ghost use Rattle.lru_tool.specs.Program.{settings_of, fresh, commands_of, status_of};
+ghost use Rattle.lru_tool.specs.Program.{settings_of, fresh, words_of, commands_of, status_of};
 
 use crate::command::{Command, command_from};
 use crate::parts::{lines, parts};
@@ -102,7 +102,7 @@ pub fn run<F: Folder, L: Log, R: Read, W: Write>(
     ensures unmoved { settings_of (map string_bytes arguments.now) ≡ None → folder.new ≡ folder.old }
     ensures served { IfSome (settings_of (map string_bytes arguments.now)) (λ settings. result ≢ 1 → IfSome (R.remaining reader.old) (λ input.
         (result ≡ status_of (commands_of input)) × ((text : List ℕ)
-        × (Serves (record { files = F.files; folders = F.folders; clock = F.clock; stopped_since = F.stopped_since; faults = F.faults; last_call = F.last_call; keeps = F.keeps }) (record { core = fresh settings; folder = folder.old; words = StdRng.stream (StdRng.of_seed (StdRng.seed_of_u64 settings.seed)) })
+        × (Serves (record { files = F.files; folders = F.folders; clock = F.clock; stopped_since = F.stopped_since; faults = F.faults; last_call = F.last_call; keeps = F.keeps }) (record { core = fresh settings; folder = folder.old; words = words_of settings.seed })
         (commands_of input) 1 text folder.new
         × Appends (W.contents writer.old) (W.contents writer.new) text)))) }
     ensures kept { F.keeps folder.old ↔ F.keeps folder.new }
