@@ -1,0 +1,6 @@
+use Rattle.std.proofs.Common.{arith}
+use Rattle.lru_journals.proofs.Moves.{looks}
+use Rattle.lru_journals.proofs.tie.Tie.look.Goals as goal
+
+pub compare_exchange-requires : goal.compare_exchange-requires
+compare_exchange-requires c = let o = c.args.self.now.one in (c.requires.id, omega (arith, o), looks _ c.args.names _ _ _ _ (λ n. n) c.requires.key)

@@ -1,0 +1,129 @@
+//! A shard's history and a seat's receipts, which are tied.
+ghost use Rattle.std.specs.Prelude.{◌≡◌, ◌+◌, ◌<◌, [], ◌∷◌, ◌++◌, length, vec_len, vec_capacity, OnOk};
+ghost use Rattle.lru_journals.specs.Ties.{hand};
+ghost use Rattle.lru_journals.specs.Stamps.{entry, receipt, stamps_in, slips_in, TurnsRise};
+
+use crate::entry::{Call, Entry, Receipt, Reply, Stamp};
+use crate::tie::{Registry, Tie, Token};
+use std::alloc::{AllocError, Global};
+use std::marker::PhantomData;
+
+/// A shard's history, which is tied to the receipts of those who called.
+#[derive(Drop)]
+pub struct Journal<B: Registry> {
+    /// The number of the shard.
+    pub number: usize,
+    /// The calls on the shard, in their order.
+    pub history: Vec<Entry>,
+    /// Speaks for the shard.
+    pub token: Token,
+    brand: PhantomData<B>,
+    pub ghost here: { token.table_id ≡ B.table },
+    pub ghost told: { token.me ≡ (hand (number ∷ []) [] (stamps_in number 0 history.items) [], []) },
+    pub ghost rising: { TurnsRise history.items },
+}
+
+/// What one caller has: a receipt for each of its calls. It is a value of its own, and goes with its caller.
+#[derive(Drop)]
+pub struct Seat<B: Registry> {
+    /// The number of the seat.
+    pub number: usize,
+    /// The receipts, in the order of the calls.
+    pub receipts: Vec<Receipt>,
+    /// Speaks for the seat.
+    pub token: Token,
+    brand: PhantomData<B>,
+    pub ghost here: { token.table_id ≡ B.table },
+    pub ghost told: { token.me ≡ (hand [] (number ∷ []) [] (slips_in number 0 receipts.items), []) },
+}
+
+impl<B: Registry> Seat<B> {
+    /// A seat without receipts.
+    pub fn new(alloc: Global, number: usize, token: Token) -> Seat<B>
+        requires { (token.table_id ≡ B.table) × (token.me ≡ (hand [] (number ∷ []) [] [], [])) }
+        ensures number { result.number ≡ number }
+        ensures receipts { result.receipts.items ≡ [] }
+    {
+        Seat {
+            number,
+            receipts: Vec::new(alloc),
+            token,
+            brand: PhantomData,
+        }
+    }
+
+    /// The receipts of the caller's calls, in their order.
+    pub fn receipts(&self) -> &[Receipt]
+        ensures { result.now ≡ self.now.receipts.items }
+    {
+        self.receipts.as_slice()
+    }
+}
+
+impl<B: Registry> Journal<B> {
+    /// A journal without entries.
+    pub fn new(alloc: Global, number: usize, token: Token) -> Journal<B>
+        requires { (token.table_id ≡ B.table) × (token.me ≡ (hand (number ∷ []) [] [] [], [])) }
+        ensures number { result.number ≡ number }
+        ensures history { result.history.items ≡ [] }
+    {
+        Journal {
+            number,
+            history: Vec::new(alloc),
+            token,
+            brand: PhantomData,
+        }
+    }
+
+    /// Makes room for an entry and a receipt.
+    pub fn reserve(&mut self, seat: &mut Seat<B>) -> Result<(), AllocError>
+        ensures room { OnOk result ((vec_len self.new.history < vec_capacity self.new.history) × (vec_len seat.new.receipts < vec_capacity seat.new.receipts)) }
+        ensures history { (self.new.number ≡ self.old.number) × (self.new.history.items ≡ self.old.history.items) }
+        ensures receipts { (seat.new.number ≡ seat.old.number) × (seat.new.receipts.items ≡ seat.old.receipts.items) }
+    {
+        self.history.reserve(1)?;
+        seat.receipts.reserve(1)
+    }
+
+    /// Notes a call: an entry, and its receipt.
+    pub fn note(&mut self, tie: &Tie, seat: &mut Seat<B>, call: Call, reply: Reply)
+        requires tie { tie.now.table.shared.table_id ≡ B.table }
+        requires room { (vec_len self.old.history < vec_capacity self.old.history) × (vec_len seat.old.receipts < vec_capacity seat.old.receipts) }
+        ensures history { (self.new.number ≡ self.old.number) × (self.new.history.items ≡ self.old.history.items ++ entry seat.old.number (length seat.old.receipts.items) call reply ∷ []) }
+        ensures receipts { (seat.new.number ≡ seat.old.number) × (seat.new.receipts.items ≡ seat.old.receipts.items ++ receipt self.old.number (length self.old.history.items) call reply ∷ []) }
+    {
+        let Journal {
+            number,
+            history,
+            token: book,
+            ..
+        } = self;
+        let Seat {
+            number: seat_number,
+            receipts,
+            token: slips,
+            ..
+        } = seat;
+        let said = Stamp {
+            shard: *number,
+            place: history.len(),
+            seat: *seat_number,
+            turn: receipts.len(),
+            call,
+            reply,
+        };
+        tie.stamp(book, slips, &said);
+        history.push_reserved(Entry {
+            seat: said.seat,
+            turn: said.turn,
+            call,
+            reply,
+        });
+        receipts.push_reserved(Receipt {
+            shard: said.shard,
+            place: said.place,
+            call,
+            reply,
+        });
+    }
+}
