@@ -1,5 +1,5 @@
 -- Histories of shards and receipts of seats, as lists of stamps; and how they are tied.
-use Rattle.std.specs.Prelude.{◌≡◌, ℕ, suc, ◌<◌, List, [], ◌∷◌, ◌++◌, Some, slice_get}
+use Rattle.std.specs.Prelude.{◌≡◌, ℕ, suc, ◌<◌, List, [], ◌∷◌, ◌++◌, Option, Some, None, slice_get}
 use Rattle.lru_journals.specs.declared.entry.Stamp.{Stamp}
 use Rattle.lru_journals.specs.declared.entry.Entry.{Entry}
 use Rattle.lru_journals.specs.declared.entry.Receipt.{Receipt}
@@ -32,6 +32,15 @@ slips_in seat turn (r ∷ rs) = slip seat turn r ∷ slips_in seat (suc turn) rs
 abbrev pub TurnsRise : List Entry → Type 0
 TurnsRise es = (p q : ℕ) (d e : Entry) → p < q → slice_get es p ≡ Some d → slice_get es q ≡ Some e → d.seat ≡ e.seat → d.turn < e.turn
 
--- the seat got one receipt more: of this call on this shard, with this reply, at some place
-abbrev pub GetsReceipt : List Receipt → ℕ → Call → Reply → List Receipt → Type 0
-GetsReceipt old shard call reply new = (place : ℕ) × (new ≡ old ++ receipt shard place call reply ∷ [])
+-- a call with a reply is noted at the end; one without a reply is not noted
+abbrev pub and_entry : List Entry → ℕ → ℕ → Call → Option Reply → List Entry
+and_entry es seat turn call None = es
+and_entry es seat turn call (Some reply) = es ++ entry seat turn call reply ∷ []
+
+abbrev pub and_receipt : List Receipt → ℕ → ℕ → Call → Option Reply → List Receipt
+and_receipt rs shard place call None = rs
+and_receipt rs shard place call (Some reply) = rs ++ receipt shard place call reply ∷ []
+
+-- the receipts grow by that of this call on this shard, with this reply, at some place; or, where it has no reply, by none
+abbrev pub GetsReceipt : List Receipt → ℕ → Call → Option Reply → List Receipt → Type 0
+GetsReceipt old shard call reply new = (place : ℕ) × (new ≡ and_receipt old shard place call reply)

@@ -1,7 +1,7 @@
 //! A shard's history and a seat's receipts, which are tied.
 ghost use Rattle.std.specs.Prelude.{◌≡◌, ◌+◌, ◌<◌, [], ◌∷◌, ◌++◌, length, vec_len, vec_capacity, OnOk};
 ghost use Rattle.lru_journals.specs.Ties.{hand};
-ghost use Rattle.lru_journals.specs.Stamps.{entry, receipt, stamps_in, slips_in, TurnsRise};
+ghost use Rattle.lru_journals.specs.Stamps.{entry, receipt, stamps_in, slips_in, TurnsRise, and_entry, and_receipt};
 
 use crate::entry::{Call, Entry, Receipt, Reply, Stamp};
 use crate::tie::{Registry, Tie, Token};
@@ -125,5 +125,17 @@ impl<B: Registry> Journal<B> {
             call,
             reply,
         });
+    }
+
+    /// Notes a call that has a reply; one that has none leaves nothing.
+    pub fn note_reply(&mut self, tie: &Tie, seat: &mut Seat<B>, call: Call, reply: Option<Reply>)
+        requires tie { tie.now.table.shared.table_id ≡ B.table }
+        requires room { (vec_len self.old.history < vec_capacity self.old.history) × (vec_len seat.old.receipts < vec_capacity seat.old.receipts) }
+        ensures history { (self.new.number ≡ self.old.number) × (self.new.history.items ≡ and_entry self.old.history.items seat.old.number (length seat.old.receipts.items) call reply) }
+        ensures receipts { (seat.new.number ≡ seat.old.number) × (seat.new.receipts.items ≡ and_receipt seat.old.receipts.items self.old.number (length self.old.history.items) call reply) }
+    {
+        if let Some(reply) = reply {
+            self.note(tie, seat, call, reply);
+        }
     }
 }

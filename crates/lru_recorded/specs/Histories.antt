@@ -1,0 +1,70 @@
+-- Legal histories of shards, and what receipts and entries say of each other.
+use Rattle.std.specs.Prelude.{◌≡◌, ℕ, ◌%◌, ◌<◌, List, [], ◌∷◌, map, Some, slice_get}
+use Rattle.lru_rules.specs.Limits.{cap_of}
+use Rattle.lru_journals.specs.declared.entry.Entry.{Entry}
+use Rattle.lru_journals.specs.declared.entry.Receipt.{Receipt}
+use Rattle.lru_journals.specs.declared.entry.Call.{Call}
+use Rattle.lru_journals.specs.declared.entry.Call.TheVariants.{Admit, InsertTail, IncrementWeight, IncrementWeightUpTo, UpdateOrAdmit, SetWeight, Promote, PromoteTopN, EvictShard, EvictToLimit, Remove, Peek, PeekWeight, PeekLru}
+use Rattle.lru_journals.specs.declared.entry.Reply.{Reply}
+use Rattle.lru_journals.specs.Stamps.{entry, receipt}
+use Rattle.lru_recorded.specs.Plain.{Plain, called}
+
+-- the list at the end of a history
+abbrev pub left_by : ℕ → List Plain → List Entry → List Plain
+left_by cap rows [] = rows
+left_by cap rows (e ∷ es) = left_by cap (called cap rows e.call).rows es
+
+-- what the list replies, call by call
+abbrev pub answers : ℕ → List Plain → List Entry → List Reply
+answers cap rows [] = []
+answers cap rows (e ∷ es) = (called cap rows e.call).reply ∷ answers cap (called cap rows e.call).rows es
+
+abbrev pub replies : List Entry → List Reply
+replies es = map (λ (e : Entry). e.reply) es
+
+-- the shard of a call, of n shards: its key's, the one that it names, or this one
+abbrev pub home : ℕ → ℕ → Call → ℕ
+home n s (Admit k _) = k % n
+home n s (InsertTail k _) = k % n
+home n s (IncrementWeight k _) = k % n
+home n s (IncrementWeightUpTo k _ _) = k % n
+home n s (UpdateOrAdmit k _) = k % n
+home n s (SetWeight k _) = k % n
+home n s (Promote k) = k % n
+home n s (PromoteTopN k _) = k % n
+home n s (EvictShard shard) = shard % n
+home n s EvictToLimit = s
+home n s (Remove k) = k % n
+home n s (Peek k) = k % n
+home n s (PeekWeight k) = k % n
+home n s PeekLru = s
+
+-- a call of shard s of n that evicts the last row
+abbrev pub IsEviction : ℕ → ℕ → Call → Type 0
+IsEviction n s (EvictShard shard) = shard % n ≡ s
+IsEviction n s EvictToLimit = Unit {0}
+IsEviction n s _ = ⊥
+
+-- a history that one thread could have made on shard s of n: each reply is the list's at that point, from the empty list
+-- on, and each call is of this shard
+pub record IsLegal (n s : ℕ) (es : List Entry) : Type 0 where
+  pub right : replies es ≡ answers (cap_of n) [] es
+  pub homes : map (λ (e : Entry). home n s e.call) es ≡ map (λ (_ : Entry). s) es
+
+-- each receipt names the entry at its place, with the seat's number and the receipt's turn
+abbrev pub AreKept : List (List Entry) → List (List Receipt) → Type 0
+AreKept histories seats =
+    (i t : ℕ) (rs : List Receipt) (r : Receipt) → slice_get seats i ≡ Some rs → slice_get rs t ≡ Some r
+    → (h : List Entry) × ((slice_get histories r.shard ≡ Some h) × (slice_get h r.place ≡ Some (entry i t r.call r.reply)))
+
+-- each entry has such a receipt
+abbrev pub AreHeld : List (List Entry) → List (List Receipt) → Type 0
+AreHeld histories seats =
+    (s p : ℕ) (h : List Entry) (e : Entry) → slice_get histories s ≡ Some h → slice_get h p ≡ Some e
+    → (rs : List Receipt) × ((slice_get seats e.seat ≡ Some rs) × (slice_get rs e.turn ≡ Some (receipt s p e.call e.reply)))
+
+-- the places of one seat in one shard rise with its turns
+abbrev pub PlacesRise : List (List Receipt) → Type 0
+PlacesRise seats =
+    (i t u : ℕ) (rs : List Receipt) (r q : Receipt) → slice_get seats i ≡ Some rs → t < u → slice_get rs t ≡ Some r → slice_get rs u ≡ Some q
+    → r.shard ≡ q.shard → r.place < q.place
