@@ -186,3 +186,24 @@ impl Tie {
         *seat = self.table.shared.split_seat::<Parts>(book);
     }
 }
+
+/// A new tie, and the token that speaks for all its shards and seats.
+#[derive(Drop)]
+pub struct Blank {
+    /// The tie.
+    pub tie: Tie,
+    /// The token.
+    pub token: Token,
+    ghost here: { token.table_id ≡ tie.table.shared.table_id },
+    ghost all: { token.me ≡ (hand (up 0 tie.table.shared.key.shards) (up 0 tie.table.shared.key.seats) [] [], []) },
+}
+
+impl Blank {
+    /// A blank for so many shards and seats.
+    pub fn new(alloc: Global, names: Names) -> Result<Blank, AllocError>
+        ensures { IfOk result (λ blank. blank.tie.table.shared.key ≡ names) }
+    {
+        let (tie, token) = Tie::new(alloc, names)?;
+        Ok(Blank { tie, token })
+    }
+}

@@ -1,3 +1,4 @@
 pub mod Forgets
 pub mod Noted
 pub mod Calls
+pub mod Dealing

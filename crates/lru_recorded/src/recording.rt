@@ -1,11 +1,12 @@
 //! One shard with its history: each call on it is made and noted.
-ghost use Rattle.std.specs.Prelude.{◌≡◌, ◌%◌, ◌<◌, [], max, map, option_map, Some, None, IfOk, IfErr, IfSome, OnErr};
+ghost use Rattle.std.specs.Prelude.{◌≡◌, ◌%◌, ◌<◌, [], ◌∷◌, max, map, option_map, Some, None, IfOk, IfErr, IfSome, OnErr};
 ghost use Rattle.lru_shard.specs.Row.{row, first, is_held, last_row, pair_of};
 ghost use Rattle.lru_shard.specs.Shard.{shard, size_of, refusal};
 ghost use Rattle.lru_shard.specs.Unit.{Updates};
 ghost use Rattle.lru_rules.specs.Limits.{cap_of};
 ghost use Rattle.lru_rules.specs.ShardCalls.{promoted_past};
 ghost use Rattle.lru_journals.specs.Stamps.{GetsReceipt};
+ghost use Rattle.lru_journals.specs.Ties.{hand};
 ghost use Rattle.lru_recorded.specs.Plain.{forget};
 ghost use Rattle.lru_recorded.specs.Histories.{left_by, answers, replies, home, IsEviction};
 ghost use Rattle.lru_recorded.specs.Replies.{refused, weighed, paired, increments};
@@ -114,6 +115,21 @@ fn refusal_of<T>(unit: &LruUnit<T>, cap: usize, key: u64, weight: usize) -> Opti
 }
 
 impl<T: Drop, B: Registry, const N: usize> Recording<T, B, N> {
+    pub fn new(
+        alloc: Global,
+        capacity: usize,
+        number: usize,
+        token: Token,
+    ) -> Result<Self, AllocError>
+        requires number { number < N }
+        requires token { (token.table_id ≡ B.table) × (token.me ≡ (hand (number ∷ []) [] [] [], [])) }
+    {
+        Ok(Recording {
+            unit: LruUnit::with_capacity(alloc, capacity, usize::MAX / N)?,
+            journal: Journal::new(alloc, number, token),
+        })
+    }
+
     pub fn admit(
         &mut self,
         tie: &Tie,
@@ -164,7 +180,12 @@ impl<T: Drop, B: Registry, const N: usize> Recording<T, B, N> {
             });
         }
         let answer = unit.insert_tail(key, data, weight);
-        journal.note_reply(tie, seat, Call::InsertTail { key, weight }, inserted(&answer));
+        journal.note_reply(
+            tie,
+            seat,
+            Call::InsertTail { key, weight },
+            inserted(&answer),
+        );
         answer
     }
 
@@ -216,12 +237,7 @@ impl<T: Drop, B: Registry, const N: usize> Recording<T, B, N> {
         answer
     }
 
-    pub fn promote(
-        &mut self,
-        tie: &Tie,
-        seat: &mut Seat<B>,
-        key: u64,
-    ) -> Result<bool, AllocError>
+    pub fn promote(&mut self, tie: &Tie, seat: &mut Seat<B>, key: u64) -> Result<bool, AllocError>
         requires tie { tie.now.table.shared.table_id ≡ B.table }
         requires home { key % N ≡ self.old.journal.number }
         ensures ok { IfOk result (λ held. GetsReceipt seat.old.receipts.items self.old.journal.number (Call.Promote key) (Some (Reply.Flag held)) seat.new.receipts.items) }
@@ -251,7 +267,12 @@ impl<T: Drop, B: Registry, const N: usize> Recording<T, B, N> {
         let Recording { unit, journal } = self;
         journal.reserve(seat)?;
         let answer = promote_past(unit, key, top);
-        journal.note(tie, seat, Call::PromoteTopN { key, top }, Reply::Flag(answer));
+        journal.note(
+            tie,
+            seat,
+            Call::PromoteTopN { key, top },
+            Reply::Flag(answer),
+        );
         Ok(answer)
     }
 
@@ -293,12 +314,7 @@ impl<T: Drop, B: Registry, const N: usize> Recording<T, B, N> {
         Ok(answer)
     }
 
-    pub fn peek(
-        &mut self,
-        tie: &Tie,
-        seat: &mut Seat<B>,
-        key: u64,
-    ) -> Result<bool, AllocError>
+    pub fn peek(&mut self, tie: &Tie, seat: &mut Seat<B>, key: u64) -> Result<bool, AllocError>
         requires tie { tie.now.table.shared.table_id ≡ B.table }
         requires home { key % N ≡ self.old.journal.number }
         ensures ok { IfOk result (λ held. GetsReceipt seat.old.receipts.items self.old.journal.number (Call.Peek key) (Some (Reply.Flag held)) seat.new.receipts.items) }

@@ -12,6 +12,6 @@ invariant_of-self-2 g c =
     let old = c.args.self.now in
     let new = old.unit in
     let kept = keeps g.row.N old.journal.number c.note.new.self.number _ _ old.unit new old.journal.history.items c.reserve.new.self.history.items c.note.new.self.history.items PeekLru _ (Some c.paired.result) old.below old.capped old.ends old.right old.homes
-        refl (refl) (stands_last old.unit c.in_ok-answer.answer c.in_ok-answer.ensures)
-        (ap Some c.paired.ensures) c.reserve.ensures.history.1 c.note.ensures.history.1 (c.note.ensures.history.0 ∙ c.reserve.ensures.history.0) in
+    refl (refl) (stands_last old.unit c.in_ok-answer.answer c.in_ok-answer.ensures)
+    (ap Some c.paired.ensures) c.reserve.ensures.history.1 c.note.ensures.history.1 (c.note.ensures.history.0 ∙ c.reserve.ensures.history.0) in
     record { below = kept.below; capped = kept.capped; ends = kept.told.ends; right = kept.told.right; homes = kept.told.homes }

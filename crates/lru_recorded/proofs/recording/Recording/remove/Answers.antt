@@ -12,6 +12,6 @@ invariant_of-self-2 g c =
     let old = c.args.self.now in
     let new = c.remove-answer.new.self in
     let kept = keeps g.row.N old.journal.number c.note.new.self.number _ _ old.unit new old.journal.history.items c.reserve.new.self.history.items c.note.new.self.history.items (Remove c.args.key) _ (Some c.paired.result) old.below old.capped old.ends old.right old.homes
-        (c.requires.home) (ap (λ (s : Shard _). s.cap) c.remove-answer.ensures.rows) (stands_remove old.unit new c.args.key c.remove-answer.result c.remove-answer.ensures.answer c.remove-answer.ensures.rows)
-        (ap Some c.paired.ensures) c.reserve.ensures.history.1 c.note.ensures.history.1 (c.note.ensures.history.0 ∙ c.reserve.ensures.history.0) in
+    (c.requires.home) (ap (λ (s : Shard _). s.cap) c.remove-answer.ensures.rows) (stands_remove old.unit new c.args.key c.remove-answer.result c.remove-answer.ensures.answer c.remove-answer.ensures.rows)
+    (ap Some c.paired.ensures) c.reserve.ensures.history.1 c.note.ensures.history.1 (c.note.ensures.history.0 ∙ c.reserve.ensures.history.0) in
     record { below = kept.below; capped = kept.capped; ends = kept.told.ends; right = kept.told.right; homes = kept.told.homes }

@@ -1,0 +1,475 @@
+//! N shards for many threads, each behind a lock of its own with its history.
+ghost use Rattle.std.specs.Prelude.{◌≡◌, ◌+◌, ◌-◌, ◌%◌, ◌<◌, ◌≤◌, [], vec_len, map, IfOk, IfErr, OnOk, OnErr, Some, Ok, None};
+ghost use Rattle.lru_journals.specs.declared.entry.Reply.TheVariants.{Flag, Weight};
+ghost use Rattle.lru_journals.specs.Stamps.{GetsReceipt};
+ghost use Rattle.lru_journals.specs.Ties.{hand, up};
+ghost use Rattle.lru_recorded.specs.Histories.{IsEviction};
+ghost use Rattle.lru_recorded.specs.Replies.{refused, weighed, paired, increments};
+
+use crate::recording::Recording;
+use lru_journals::entry::{Call, Names};
+use lru_journals::journal::Seat;
+use lru_journals::tie::{Blank, Registry, Tie, Token};
+use lru_rules::totals::Totals;
+use lru_shard::unit::{Cause, Refused};
+use std::alloc::{AllocError, Global};
+use std::marker::PhantomData;
+use std::sync::atomic::{AtomicUsize, Ordering};
+use std::sync::{Mutex, Wait};
+
+// What is left of a token once all its shards and seats are dealt. It stands behind a lock, since a token may not be shared.
+#[derive(Drop)]
+struct Rest<B: Registry> {
+    token: Token,
+    brand: PhantomData<B>,
+    ghost here: { token.table_id ≡ B.table },
+    ghost empty: { token.me ≡ (hand [] [] [] [], []) },
+}
+
+/// N shards, each a list of rows, most recent first, behind a lock, with the history of its calls. A key's shard is
+/// the key modulo N.
+///
+/// It answers as an `Lru` does. Each call takes a seat, and leaves an entry in its shard's history and a receipt with
+/// the seat. Room for both comes first: where that is refused, nothing happened, and nothing is noted.
+#[derive(Drop)]
+pub struct RecordedLru<T, B: Registry, const N: usize> {
+    tie: Tie,
+    shards: Vec<Mutex<Recording<T, B, N>>>,
+    // how many rows each shard has
+    lens: Vec<AtomicUsize>,
+    weight: AtomicUsize,
+    len: AtomicUsize,
+    weight_limit: usize,
+    watermark: Option<usize>,
+    rest: Mutex<Rest<B>>,
+    names: Names,
+    ghost some: { 0 < N },
+    ghost tie_is: { tie.table.shared.table_id ≡ B.table },
+    ghost key_is: { tie.table.shared.key ≡ names },
+    ghost has_shards: { vec_len shards ≡ N },
+    ghost has_lens: { vec_len lens ≡ N },
+    ghost names_are: { names.shards ≡ N },
+}
+
+// What a sum modulo 2^64 grows by where one of its numbers changes.
+fn shift(counter: &AtomicUsize, before: usize, after: usize) {
+    if before != after {
+        counter.fetch_add(after.wrapping_sub(before), Ordering::SeqCst);
+    }
+}
+
+fn zeros(alloc: Global, count: usize) -> Result<Vec<AtomicUsize>, AllocError>
+    ensures { IfOk result (λ zeros. vec_len zeros ≡ count) }
+{
+    let mut zeros = Vec::with_capacity(alloc, count)?;
+    for _ in 0..count {
+        zeros.push(AtomicUsize::new(0))?;
+    }
+    Ok(zeros)
+}
+
+fn deal_shards<T: Drop, B: Registry, const N: usize>(
+    alloc: Global,
+    capacity: usize,
+    tie: &Tie,
+    rest: &mut Token,
+    seats: u64,
+) -> Result<Vec<Mutex<Recording<T, B, N>>>, AllocError>
+    requires tie { tie.now.table.shared.table_id ≡ B.table }
+    requires rest { (rest.old.table_id ≡ B.table) × (rest.old.me ≡ (hand (up 0 N) (up 0 seats) [] [], [])) }
+    ensures all { IfOk result (λ shards. vec_len shards ≡ N) }
+    ensures rest { OnOk result ((rest.new.table_id ≡ B.table) × (rest.new.me ≡ (hand [] (up 0 seats) [] [], []))) }
+{
+    let mut shards = Vec::with_capacity(alloc, N)?;
+    for number in 0..N {
+        let token = tie.next_shard(rest);
+        shards.push(Mutex::new(Recording::new(alloc, capacity, number, token)?))?;
+    }
+    Ok(shards)
+}
+
+fn deal_seats<B: Registry>(
+    alloc: Global,
+    tie: &Tie,
+    rest: &mut Token,
+    count: usize,
+) -> Result<Vec<Seat<B>>, AllocError>
+    requires tie { tie.now.table.shared.table_id ≡ B.table }
+    requires rest { (rest.old.table_id ≡ B.table) × (rest.old.me ≡ (hand [] (up 0 count) [] [], [])) }
+    ensures all { IfOk result (λ seats. map (λ s. s.number) seats.items ≡ up 0 count) }
+    ensures rest { OnOk result ((rest.new.table_id ≡ B.table) × (rest.new.me ≡ (hand [] [] [] [], []))) }
+{
+    let mut seats = Vec::with_capacity(alloc, count)?;
+    for number in 0..count {
+        let token = tie.next_seat(rest);
+        seats.push(Seat::new(alloc, number, token))?;
+    }
+    Ok(seats)
+}
+
+impl<T: Drop, B: Registry, const N: usize> RecordedLru<T, B, N> {
+    /// An empty `RecordedLru` with a limit on its weight and, where there is a watermark, on its length, and one seat for
+    /// each caller. Each shard has room for `capacity` rows, and may weigh `usize::MAX / N`.
+    pub fn new(
+        alloc: Global,
+        blank: Blank,
+        weight_limit: usize,
+        capacity: usize,
+        watermark: Option<usize>,
+        callers: usize,
+    ) -> Result<(Self, Vec<Seat<B>>), AllocError>
+        requires some { 0 < N }
+        requires blank { (blank.tie.table.shared.table_id ≡ B.table) × (blank.tie.table.shared.key ≡ record { shards = N; seats = callers }) }
+        ensures { IfOk result (λ r. map (λ s. s.number) r.1.items ≡ up 0 callers) }
+    {
+        let Blank { tie, token } = blank;
+        let mut rest = token;
+        let shards = deal_shards(alloc, capacity, &tie, &mut rest, callers as u64)?;
+        let seats = deal_seats(alloc, &tie, &mut rest, callers)?;
+        let recorded = RecordedLru {
+            tie,
+            shards,
+            lens: zeros(alloc, N)?,
+            weight: AtomicUsize::new(0),
+            len: AtomicUsize::new(0),
+            weight_limit,
+            watermark,
+            rest: Mutex::new(Rest {
+                token: rest,
+                brand: PhantomData,
+            }),
+            names: Names {
+                shards: N as u64,
+                seats: callers as u64,
+            },
+        };
+        Ok((recorded, seats))
+    }
+
+    fn shard_of(&self, key: u64) -> usize
+        ensures value { result ≡ key % N }
+        ensures below { result < N }
+    {
+        let _shards = &self.shards;
+        (key % N as u64) as usize
+    }
+
+    // Brings the counters after a call on a shard, while its lock is held.
+    fn count(&self, shard: usize, before: Totals, after: Totals)
+        requires { shard < N }
+    {
+        shift(&self.weight, before.weight, after.weight);
+        shift(&self.len, before.len, after.len);
+        shift(&self.lens[shard], before.len, after.len);
+    }
+
+    /// Puts a row first in the shard of its key, in place of the key's, and answers that shard. A weight of 0 counts as 1.
+    ///
+    /// A refusal is the shard's, or for want of memory for its note. It hands the data back and changes nothing.
+    pub fn admit(
+        &self,
+        rt: &impl Wait,
+        seat: &mut Seat<B>,
+        key: u64,
+        data: T,
+        weight: usize,
+    ) -> Result<usize, Refused<T>>
+        ensures shard { IfOk result (λ s. s ≡ key % N) }
+        ensures ok { OnOk result ((was : _) × GetsReceipt seat.old.receipts.items (key % N) (Call.Admit key weight) (Some (Weight was)) seat.new.receipts.items) }
+        ensures err { IfErr result (λ r. GetsReceipt seat.old.receipts.items (key % N) (Call.Admit key weight) (refused r.cause) seat.new.receipts.items) }
+        ensures held { IfErr result (λ r. r.held ≡ «data») }
+        ensures seat { seat.new.number ≡ seat.old.number }
+    {
+        let shard = self.shard_of(key);
+        // No type says which lock has which shard, so the number is looked at; it is the right one.
+        let mut recording = self.shards[shard].lock(rt);
+        if recording.journal.number != shard {
+            return Err(Refused {
+                cause: Cause::Memory,
+                held: data,
+            });
+        }
+        let before = Totals::of(&recording.unit);
+        let answer = recording.admit(&self.tie, seat, key, data, weight);
+        self.count(shard, before, Totals::of(&recording.unit));
+        answer?;
+        Ok(shard)
+    }
+
+    /// Puts a row last in the shard of its key where the key has none, and answers true; else it answers false, and the
+    /// data is dropped. A weight of 0 is kept. A refusal hands the data back and changes nothing.
+    pub fn insert_tail(
+        &self,
+        rt: &impl Wait,
+        seat: &mut Seat<B>,
+        key: u64,
+        data: T,
+        weight: usize,
+    ) -> Result<bool, Refused<T>>
+        ensures ok { IfOk result (λ added. GetsReceipt seat.old.receipts.items (key % N) (Call.InsertTail key weight) (Some (Flag added)) seat.new.receipts.items) }
+        ensures err { IfErr result (λ r. GetsReceipt seat.old.receipts.items (key % N) (Call.InsertTail key weight) (refused r.cause) seat.new.receipts.items) }
+        ensures held { IfErr result (λ r. r.held ≡ «data») }
+        ensures seat { seat.new.number ≡ seat.old.number }
+    {
+        let shard = self.shard_of(key);
+        // No type says which lock has which shard, so the number is looked at; it is the right one.
+        let mut recording = self.shards[shard].lock(rt);
+        if recording.journal.number != shard {
+            return Err(Refused {
+                cause: Cause::Memory,
+                held: data,
+            });
+        }
+        let before = Totals::of(&recording.unit);
+        let answer = recording.insert_tail(&self.tie, seat, key, data, weight);
+        self.count(shard, before, Totals::of(&recording.unit));
+        answer
+    }
+
+    /// Adds to a key's weight, puts its row first, and answers the new weight, as `LruUnit` does. A refusal comes before
+    /// `admit_data` is called, and changes nothing. `admit_data` is called under the lock of the key's shard.
+    pub fn increment_weight<F: FnOnce() -> T + Drop>(
+        &self,
+        rt: &impl Wait,
+        seat: &mut Seat<B>,
+        key: u64,
+        admit_data: F,
+        delta: usize,
+        max_weight: Option<usize>,
+    ) -> Result<usize, Cause>
+        requires callable { F.IsAlwaysCallable admit_data }
+        ensures ok { IfOk result (λ weight. GetsReceipt seat.old.receipts.items (key % N) (increments key delta max_weight) (Some (Weight weight)) seat.new.receipts.items) }
+        ensures err { IfErr result (λ cause. GetsReceipt seat.old.receipts.items (key % N) (increments key delta max_weight) (refused cause) seat.new.receipts.items) }
+        ensures seat { seat.new.number ≡ seat.old.number }
+    {
+        let shard = self.shard_of(key);
+        // No type says which lock has which shard, so the number is looked at; it is the right one.
+        let mut recording = self.shards[shard].lock(rt);
+        if recording.journal.number != shard {
+            return Err(Cause::Memory);
+        }
+        let before = Totals::of(&recording.unit);
+        let answer = recording.increment_weight(
+            &self.tie, seat, key, admit_data, delta, max_weight,
+        );
+        self.count(shard, before, Totals::of(&recording.unit));
+        answer
+    }
+
+    /// Updates a key's data and weight, or admits what `admit_data` gives, puts the row first, and answers the weight that
+    /// the key had, `None` for a new row, as `LruUnit` does. The closures are called under the lock of the key's shard.
+    pub fn update_or_admit<U, A>(
+        &self,
+        rt: &impl Wait,
+        seat: &mut Seat<B>,
+        key: u64,
+        update: U,
+        admit_data: A,
+    ) -> Result<Option<usize>, Refused<Option<(T, usize)>>>
+    where
+        U: FnOnce(&mut T, usize) -> usize + Drop,
+        A: FnOnce() -> (T, usize) + Drop,
+        requires update { U.IsAlwaysCallable update }
+        requires admit_data { A.IsAlwaysCallable admit_data }
+        ensures ok { IfOk result (λ was. (w : _) × GetsReceipt seat.old.receipts.items (key % N) (Call.UpdateOrAdmit key w) (Some (weighed was)) seat.new.receipts.items) }
+        ensures err { IfErr result (λ r. (w : _) × GetsReceipt seat.old.receipts.items (key % N) (Call.UpdateOrAdmit key w) (refused r.cause) seat.new.receipts.items) }
+        ensures seat { seat.new.number ≡ seat.old.number }
+    {
+        let shard = self.shard_of(key);
+        // No type says which lock has which shard, so the number is looked at; it is the right one.
+        let mut recording = self.shards[shard].lock(rt);
+        if recording.journal.number != shard {
+            return Err(Refused {
+                cause: Cause::Memory,
+                held: None,
+            });
+        }
+        let before = Totals::of(&recording.unit);
+        let answer = recording.update_or_admit(&self.tie, seat, key, update, admit_data);
+        self.count(shard, before, Totals::of(&recording.unit));
+        answer
+    }
+
+    /// Gives a key another weight, in its place, and answers the weight that it had; `None` where it has no row. A weight of 0
+    /// counts as 1. It is refused for Weight, or for want of memory for its note, and changes nothing then.
+    pub fn set_weight(
+        &self,
+        rt: &impl Wait,
+        seat: &mut Seat<B>,
+        key: u64,
+        weight: usize,
+    ) -> Result<Option<usize>, Cause>
+        ensures ok { IfOk result (λ was. GetsReceipt seat.old.receipts.items (key % N) (Call.SetWeight key weight) (Some (weighed was)) seat.new.receipts.items) }
+        ensures err { IfErr result (λ cause. GetsReceipt seat.old.receipts.items (key % N) (Call.SetWeight key weight) (refused cause) seat.new.receipts.items) }
+        ensures seat { seat.new.number ≡ seat.old.number }
+    {
+        let shard = self.shard_of(key);
+        // No type says which lock has which shard, so the number is looked at; it is the right one.
+        let mut recording = self.shards[shard].lock(rt);
+        if recording.journal.number != shard {
+            return Err(Cause::Memory);
+        }
+        let before = Totals::of(&recording.unit);
+        let answer = recording.set_weight(&self.tie, seat, key, weight);
+        self.count(shard, before, Totals::of(&recording.unit));
+        answer
+    }
+
+    /// Puts a key's row first, and answers whether there is one.
+    pub fn promote(&self, rt: &impl Wait, seat: &mut Seat<B>, key: u64) -> Result<bool, AllocError>
+        ensures ok { IfOk result (λ held. GetsReceipt seat.old.receipts.items (key % N) (Call.Promote key) (Some (Flag held)) seat.new.receipts.items) }
+        ensures err { OnErr result (seat.new.receipts.items ≡ seat.old.receipts.items) }
+        ensures seat { seat.new.number ≡ seat.old.number }
+    {
+        let shard = self.shard_of(key);
+        // No type says which lock has which shard, so the number is looked at; it is the right one.
+        let mut recording = self.shards[shard].lock(rt);
+        if recording.journal.number != shard {
+            return Err(AllocError);
+        }
+        recording.promote(&self.tie, seat, key)
+    }
+
+    /// Puts a key's row first unless it is among the first `top`, and answers whether there is one.
+    pub fn promote_top_n(
+        &self,
+        rt: &impl Wait,
+        seat: &mut Seat<B>,
+        key: u64,
+        top: usize,
+    ) -> Result<bool, AllocError>
+        ensures ok { IfOk result (λ held. GetsReceipt seat.old.receipts.items (key % N) (Call.PromoteTopN key top) (Some (Flag held)) seat.new.receipts.items) }
+        ensures err { OnErr result (seat.new.receipts.items ≡ seat.old.receipts.items) }
+        ensures seat { seat.new.number ≡ seat.old.number }
+    {
+        let shard = self.shard_of(key);
+        // No type says which lock has which shard, so the number is looked at; it is the right one.
+        let mut recording = self.shards[shard].lock(rt);
+        if recording.journal.number != shard {
+            return Err(AllocError);
+        }
+        recording.promote_top_n(&self.tie, seat, key, top)
+    }
+
+    /// Takes a key's row out, and answers its data and weight.
+    pub fn remove(
+        &self,
+        rt: &impl Wait,
+        seat: &mut Seat<B>,
+        key: u64,
+    ) -> Result<Option<(T, usize)>, AllocError>
+        ensures ok { IfOk result (λ pair. GetsReceipt seat.old.receipts.items (key % N) (Call.Remove key) (Some (paired pair)) seat.new.receipts.items) }
+        ensures err { OnErr result (seat.new.receipts.items ≡ seat.old.receipts.items) }
+        ensures seat { seat.new.number ≡ seat.old.number }
+    {
+        let shard = self.shard_of(key);
+        // No type says which lock has which shard, so the number is looked at; it is the right one.
+        let mut recording = self.shards[shard].lock(rt);
+        if recording.journal.number != shard {
+            return Err(AllocError);
+        }
+        let before = Totals::of(&recording.unit);
+        let answer = recording.remove(&self.tie, seat, key);
+        self.count(shard, before, Totals::of(&recording.unit));
+        answer
+    }
+
+    /// Whether a key has a row.
+    pub fn peek(&self, rt: &impl Wait, seat: &mut Seat<B>, key: u64) -> Result<bool, AllocError>
+        ensures ok { IfOk result (λ held. GetsReceipt seat.old.receipts.items (key % N) (Call.Peek key) (Some (Flag held)) seat.new.receipts.items) }
+        ensures err { OnErr result (seat.new.receipts.items ≡ seat.old.receipts.items) }
+        ensures seat { seat.new.number ≡ seat.old.number }
+    {
+        let shard = self.shard_of(key);
+        // No type says which lock has which shard, so the number is looked at; it is the right one.
+        let mut recording = self.shards[shard].lock(rt);
+        if recording.journal.number != shard {
+            return Err(AllocError);
+        }
+        recording.peek(&self.tie, seat, key)
+    }
+
+    /// The weight of a key.
+    pub fn peek_weight(
+        &self,
+        rt: &impl Wait,
+        seat: &mut Seat<B>,
+        key: u64,
+    ) -> Result<Option<usize>, AllocError>
+        ensures ok { IfOk result (λ weight. GetsReceipt seat.old.receipts.items (key % N) (Call.PeekWeight key) (Some (weighed weight)) seat.new.receipts.items) }
+        ensures err { OnErr result (seat.new.receipts.items ≡ seat.old.receipts.items) }
+        ensures seat { seat.new.number ≡ seat.old.number }
+    {
+        let shard = self.shard_of(key);
+        // No type says which lock has which shard, so the number is looked at; it is the right one.
+        let mut recording = self.shards[shard].lock(rt);
+        if recording.journal.number != shard {
+            return Err(AllocError);
+        }
+        recording.peek_weight(&self.tie, seat, key)
+    }
+
+    /// Evicts the last row of the shard `shard` modulo N, whatever the limits are, and answers its data and weight.
+    pub fn evict_shard(
+        &self,
+        rt: &impl Wait,
+        seat: &mut Seat<B>,
+        shard: u64,
+    ) -> Result<Option<(T, usize)>, AllocError>
+        ensures ok { IfOk result (λ pair. GetsReceipt seat.old.receipts.items (shard % N) (Call.EvictShard shard) (Some (paired pair)) seat.new.receipts.items) }
+        ensures err { OnErr result (seat.new.receipts.items ≡ seat.old.receipts.items) }
+        ensures seat { seat.new.number ≡ seat.old.number }
+    {
+        self.evict_from(rt, seat, self.shard_of(shard), Call::EvictShard { shard })
+    }
+
+    // Evicts the last row of a shard, if it has one.
+    fn evict_from(
+        &self,
+        rt: &impl Wait,
+        seat: &mut Seat<B>,
+        shard: usize,
+        call: Call,
+    ) -> Result<Option<(T, usize)>, AllocError>
+        requires shard { shard < N }
+        requires call { IsEviction N shard call }
+        ensures ok { IfOk result (λ pair. GetsReceipt seat.old.receipts.items (shard) (call) (Some (paired pair)) seat.new.receipts.items) }
+        ensures err { OnErr result (seat.new.receipts.items ≡ seat.old.receipts.items) }
+        ensures seat { seat.new.number ≡ seat.old.number }
+    {
+        let mut recording = self.shards[shard].lock(rt);
+        if recording.journal.number != shard {
+            return Err(AllocError);
+        }
+        let before = Totals::of(&recording.unit);
+        let answer = recording.evict(&self.tie, seat, call);
+        self.count(shard, before, Totals::of(&recording.unit));
+        answer
+    }
+
+    /// The data, cloned, and the weight of the row of a shard that was used longest ago; `None` of an empty shard, and
+    /// past N, where nothing is noted. A clone has to equal its source.
+    pub fn peek_lru(
+        &self,
+        rt: &impl Wait,
+        seat: &mut Seat<B>,
+        shard: usize,
+    ) -> Result<Option<(T, usize)>, AllocError>
+    where
+        T: Clone,
+        requires { (d e : T) → T.is_clone d e → e ≡ d }
+        ensures past { N ≤ shard → (result ≡ Ok None) × (seat.new.receipts.items ≡ seat.old.receipts.items) }
+        ensures ok { shard < N → IfOk result (λ pair. GetsReceipt seat.old.receipts.items (shard) (Call.PeekLru) (Some (paired pair)) seat.new.receipts.items) }
+        ensures err { OnErr result (seat.new.receipts.items ≡ seat.old.receipts.items) }
+        ensures seat { seat.new.number ≡ seat.old.number }
+    {
+        let Some(lock) = self.shards.get(shard) else {
+            return Ok(None);
+        };
+        let mut recording = lock.lock(rt);
+        if recording.journal.number != shard {
+            return Err(AllocError);
+        }
+        recording.peek_lru(&self.tie, seat)
+    }
+}
