@@ -1,9 +1,9 @@
 //! A shard's history and a seat's receipts, which are tied.
 ghost use Rattle.std.specs.Prelude.{◌≡◌, ◌+◌, ◌<◌, [], ◌∷◌, ◌++◌, length, vec_len, vec_capacity, OnOk};
-ghost use Rattle.lru_journals.specs.Ties.{hand};
+ghost use Rattle.lru_journals.specs.Ties.{hand, Shows};
 ghost use Rattle.lru_journals.specs.Stamps.{entry, receipt, stamps_in, slips_in, TurnsRise, and_entry, and_receipt};
 
-use crate::entry::{Call, Entry, Receipt, Reply, Stamp};
+use crate::entry::{Call, Entry, Names, Receipt, Reply, Stamp};
 use crate::tie::{Registry, Tie, Token};
 use std::alloc::{AllocError, Global};
 use std::marker::PhantomData;
@@ -50,6 +50,17 @@ impl<B: Registry> Seat<B> {
             token,
             brand: PhantomData,
         }
+    }
+
+    /// What the seat's receipts and some shards' histories show of each other.
+    pub fn compare(&mut self, tie: &Tie, book: &mut Token, names: Names)
+        requires tie { (tie.now.table.shared.table_id ≡ B.table) × (tie.now.table.shared.key ≡ names) }
+        requires book { (book.old.table_id ≡ B.table) × (book.old.me ≡ (hand book.old.me.0.shards [] book.old.me.0.book [], [])) }
+        ensures same { (self.new.number ≡ self.old.number) × (self.new.receipts.items ≡ self.old.receipts.items) }
+        ensures book { (book.new.table_id ≡ book.old.table_id) × (book.new.me ≡ book.old.me) }
+        ensures shows { Shows names.shards names.seats (hand book.old.me.0.shards (self.old.number ∷ []) book.old.me.0.book (slips_in self.old.number 0 self.old.receipts.items)) }
+    {
+        tie.compare(book, &mut self.token, names);
     }
 
     /// The receipts of the caller's calls, in their order.

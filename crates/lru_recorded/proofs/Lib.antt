@@ -2,3 +2,4 @@ pub mod Forgets
 pub mod Noted
 pub mod Calls
 pub mod Dealing
+pub mod Records

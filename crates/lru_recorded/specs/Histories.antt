@@ -1,5 +1,6 @@
 -- Legal histories of shards, and what receipts and entries say of each other.
-use Rattle.std.specs.Prelude.{◌≡◌, ℕ, ◌%◌, ◌<◌, List, [], ◌∷◌, map, Some, slice_get}
+use Rattle.std.specs.Prelude.{Vec}
+use Rattle.std.specs.Prelude.{◌≡◌, ℕ, suc, ◌%◌, ◌<◌, List, [], ◌∷◌, map, Some, slice_get}
 use Rattle.lru_rules.specs.Limits.{cap_of}
 use Rattle.lru_journals.specs.declared.entry.Entry.{Entry}
 use Rattle.lru_journals.specs.declared.entry.Receipt.{Receipt}
@@ -50,6 +51,22 @@ IsEviction n s _ = ⊥
 pub record IsLegal (n s : ℕ) (es : List Entry) : Type 0 where
   pub right : replies es ≡ answers (cap_of n) [] es
   pub homes : map (λ (e : Entry). home n s e.call) es ≡ map (λ (_ : Entry). s) es
+
+-- the shards of the calls of some histories, and the shards that these histories are of, from this shard on
+abbrev pub homes_from : ℕ → ℕ → List (List Entry) → List (List ℕ)
+homes_from n s [] = []
+homes_from n s (h ∷ hs) = map (λ (e : Entry). home n s e.call) h ∷ homes_from n (suc s) hs
+
+abbrev pub shards_from : ℕ → List (List Entry) → List (List ℕ)
+shards_from s [] = []
+shards_from s (h ∷ hs) = map (λ (_ : Entry). s) h ∷ shards_from (suc s) hs
+
+-- each history is legal, for its own shard
+abbrev pub AreLegal : ℕ → List (List Entry) → Type 0
+AreLegal n histories = (s : ℕ) (h : List Entry) → slice_get histories s ≡ Some h → IsLegal n s h
+
+abbrev pub lists_of : {T A : Type 0} → List (Vec T A) → List (List T)
+lists_of {T} {A} vs = map (λ (v : Vec T A). v.items) vs
 
 -- each receipt names the entry at its place, with the seat's number and the receipt's turn
 abbrev pub AreKept : List (List Entry) → List (List Receipt) → Type 0

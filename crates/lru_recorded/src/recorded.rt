@@ -3,15 +3,18 @@ ghost use Rattle.std.specs.Prelude.{◌≡◌, ◌+◌, ◌-◌, ◌%◌, ◌<�
 ghost use Rattle.lru_journals.specs.declared.entry.Reply.TheVariants.{Flag, Weight};
 ghost use Rattle.lru_journals.specs.Stamps.{GetsReceipt};
 ghost use Rattle.lru_journals.specs.Ties.{hand, up};
-ghost use Rattle.lru_recorded.specs.Histories.{IsEviction};
+ghost use Rattle.lru_rules.specs.Limits.{cap_of};
+ghost use Rattle.lru_recorded.specs.Plain.{forget};
+ghost use Rattle.lru_recorded.specs.Histories.{IsEviction, left_by, AreLegal, lists_of};
 ghost use Rattle.lru_recorded.specs.Replies.{refused, weighed, paired, increments};
 
+use crate::gathered::Gathered;
 use crate::recording::Recording;
-use lru_journals::entry::{Call, Names};
+use lru_journals::entry::{Call, Entry, Names};
 use lru_journals::journal::Seat;
 use lru_journals::tie::{Blank, Registry, Tie, Token};
 use lru_rules::totals::Totals;
-use lru_shard::unit::{Cause, Refused};
+use lru_shard::unit::{Cause, LruUnit, Refused};
 use std::alloc::{AllocError, Global};
 use std::marker::PhantomData;
 use std::sync::atomic::{AtomicUsize, Ordering};
@@ -105,6 +108,31 @@ fn deal_seats<B: Registry>(
         seats.push(Seat::new(alloc, number, token))?;
     }
     Ok(seats)
+}
+
+/// What a `RecordedLru` leaves: the shards and their histories, in the shards' order, and the seats.
+#[derive(Drop)]
+pub struct Recorded<T, B: Registry, const N: usize> {
+    /// The shards.
+    pub units: Vec<LruUnit<T>>,
+    /// The history of each shard.
+    pub histories: Vec<Vec<Entry>>,
+    /// The seats.
+    pub seats: Vec<Seat<B>>,
+}
+
+// Takes the shards out of their locks.
+fn gather<T: Drop, B: Registry, const N: usize>(
+    alloc: Global,
+    shards: Vec<Mutex<Recording<T, B, N>>>,
+) -> Result<Gathered<T, N>, AllocError> {
+    let mut all = Gathered::new(alloc);
+    for lock in shards {
+        if !all.add(lock.into_inner()) {
+            return Err(AllocError);
+        }
+    }
+    Ok(all)
 }
 
 impl<T: Drop, B: Registry, const N: usize> RecordedLru<T, B, N> {
@@ -471,5 +499,27 @@ impl<T: Drop, B: Registry, const N: usize> RecordedLru<T, B, N> {
             return Err(AllocError);
         }
         recording.peek_lru(&self.tie, seat)
+    }
+
+    /// Ends all calls, and answers the shards, their histories and the seats, as they are.
+    ///
+    /// Each history is one that one thread could have made: from the empty list on, each reply is the plain list's at
+    /// that point, and each call is of that shard. Each shard has the keys and weights at the end of its history.
+    pub fn finish(self, alloc: Global, seats: Vec<Seat<B>>) -> Result<Recorded<T, B, N>, AllocError>
+        ensures count { IfOk result (λ r. (vec_len r.units ≡ N) × (vec_len r.histories ≡ N)) }
+        ensures units { IfOk result (λ r. map (λ u. forget u.rows) r.units.items ≡ map (left_by (cap_of N) []) (lists_of r.histories.items)) }
+        ensures legal { IfOk result (λ r. AreLegal N (lists_of r.histories.items)) }
+        ensures seats { IfOk result (λ r. r.seats ≡ seats) }
+    {
+        let RecordedLru { shards, .. } = self;
+        let Gathered { units, histories } = gather(alloc, shards)?;
+        if units.len() != N || histories.len() != N {
+            return Err(AllocError);
+        }
+        Ok(Recorded {
+            units,
+            histories,
+            seats,
+        })
     }
 }
