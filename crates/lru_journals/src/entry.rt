@@ -147,3 +147,8 @@ pub struct Hand {
     /// What its seats' receipts have.
     pub slips: std::collections::LinkedList<Stamp>,
 }
+
+// Each call leaves one of each, and a long run has many.
+const _: () = prove!(std::mem::size_of::<Entry>() <= 64);
+
+const _: () = prove!(std::mem::size_of::<Receipt>() <= 64);
