@@ -4,4 +4,5 @@
 
 pub mod effect;
 pub mod message;
+pub mod process;
 pub mod state;

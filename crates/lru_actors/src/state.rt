@@ -91,7 +91,7 @@ impl<K: Drop> ShardState<K> {
     }
 
     // Counts a refused message.
-    fn refuse(&mut self, look: bool) -> Effect<K>
+    pub(crate) fn refuse(&mut self, look: bool) -> Effect<K>
         ensures state { self.new ≡ state_of self.old.shard ((self.old.refused + 1) % 2 ^ 64) }
         ensures effect { result ≡ record (quiet (measure self.old.shard.rows) (measure self.old.shard.rows) look) { refused = true } }
     {
