@@ -1,12 +1,12 @@
 -- A message that the shard has served, or refused, is processed once the map and the queue have followed.
-use Rattle.std.proofs.Common.{◌≡◌, ℕ, ◌+◌, ◌%◌, ◌^◌, cond, eqb, Bool, true, false, length, Some, None, refl, sym, ap, ◌∙◌, subst, inl, inr}
+use Rattle.std.proofs.Common.{◌≡◌, ℕ, ◌+◌, ◌%◌, ◌^◌, cond, eqb, Bool, true, false, length, List, [], ◌∷◌, ◌++◌, Some, None, refl, sym, ap, ◌∙◌, subst, inl, inr}
 use Rattle.std.specs.Prelude.{Option}
 use Rattle.lru_shard.specs.Row.{weight_of}
 use Rattle.lru_dispatch.specs.Queue.{Queue}
 use Rattle.lru_actors.specs.declared.message.LruMsg.{LruMsg}
 use Rattle.lru_actors.specs.declared.effect.Effect.{Effect}
 use Rattle.lru_actors.specs.Messages.{State, state_of, looks, quiet, measure, evicted_of, MayBeRefused, IsMeasured, IsRefused, IsDone, Steps}
-use Rattle.lru_actors.specs.Processing.{set_in, mapped, queued, MayWantRoom, IsKept, HandsOver, IsServed, IsTurnedAway, Processes}
+use Rattle.lru_actors.specs.Processing.{set_in, mapped, queued, MayWantRoom, IsKept, HandsOver, IsServed, IsTurnedAway, Processes, ProcessesAll}
 use Rattle.lru_actors.proofs.Done.{declined}
 
 -- what is set and taken out depends on the map at each hash alone
@@ -95,3 +95,31 @@ module _ {K D : Type 0} (Puts : D → ℕ → K → ℕ → D → Type 0) (IsSam
       → Processes Puts IsSame queue IsClone old look d msg e new look1 d1
   turned_away old look look1 d d1 msg e new b same kept q want left effect l =
       inr (record { may = inr want; refused = declined old msg e new b left effect l; map = same; queue_is = q; kept = kept })
+
+  -- no message, and one message more
+  pub all_none : (a : State K) (look : ℕ → Option ℕ) (d : D) → ProcessesAll Puts IsSame queue IsClone a look d [] [] a look d
+  all_none a look d = (refl, ((λ k. refl), refl))
+
+  pub all_more : (msgs : List (LruMsg K)) (es : List (Effect K)) (a b c : State K) (f g h : ℕ → Option ℕ) (d1 d2 d3 : D) (msg : LruMsg K) (e : Effect K)
+      → ProcessesAll Puts IsSame queue IsClone a f d1 msgs es b g d2 → Processes Puts IsSame queue IsClone b g d2 msg e c h d3
+      → ProcessesAll Puts IsSame queue IsClone a f d1 (msgs ++ msg ∷ []) (es ++ e ∷ []) c h d3
+  all_more [] [] a b c f g h d1 d2 d3 msg e all one =
+      let maps : g ≡ f = λ i k. all.1.0 k i in (
+        c,
+        (
+          h,
+          (
+            d3,
+            (
+              subst (λ z. Processes Puts IsSame queue IsClone z f d1 msg e c h d3) all.0
+                  (subst (λ z. Processes Puts IsSame queue IsClone b z d1 msg e c h d3) maps
+                  (subst (λ z. Processes Puts IsSame queue IsClone b g z msg e c h d3) all.1.1 one)),
+              all_none c h d3,
+            ),
+          ),
+        ),
+      )
+  all_more [] (x ∷ xs) a b c f g h d1 d2 d3 msg e all one = absurd all
+  all_more (m ∷ ms) [] a b c f g h d1 d2 d3 msg e all one = absurd all
+  all_more (m ∷ ms) (x ∷ xs) a b c f g h d1 d2 d3 msg e all one =
+      (all.0, (all.1.0, (all.1.1.0, (all.1.1.1.0, all_more ms xs all.0 b c all.1.0 g h all.1.1.0 d2 d3 msg e all.1.1.1.1 one))))

@@ -1,5 +1,5 @@
 -- A message processed with the map of weights by hash, and with the queue of evicted pairs.
-use Rattle.std.specs.Prelude.{◌≡◌, ℕ, ◌<◌, ◌⊎◌, cond, eqb, List, length, Option, Some, None}
+use Rattle.std.specs.Prelude.{◌≡◌, ℕ, ◌<◌, ◌⊎◌, cond, eqb, List, [], ◌∷◌, length, Option, Some, None}
 use Rattle.lru_shard.specs.Row.{Row}
 use Rattle.lru_dispatch.specs.Queue.{Queue, dispatched}
 use Rattle.lru_actors.specs.declared.message.LruMsg.{LruMsg}
@@ -75,3 +75,11 @@ module _ {K : Type 0} where
 
       abbrev pub Processes : State K → (ℕ → Option ℕ) → D → LruMsg K → Effect K → State K → (ℕ → Option ℕ) → D → Type 0
       Processes old look d msg e new look' d' = IsServed old look d msg e new look' d' ⊎ IsTurnedAway old look d msg e new look' d'
+
+      -- messages processed one after the other, and the effect of each
+      abbrev pub ProcessesAll : State K → (ℕ → Option ℕ) → D → List (LruMsg K) → List (Effect K) → State K → (ℕ → Option ℕ) → D → Type 0
+      ProcessesAll old look d [] [] new look' d' = (new ≡ old) × (((k : ℕ) → look' k ≡ look k) × (d' ≡ d))
+      ProcessesAll old look d (msg ∷ msgs) (e ∷ es) new look' d' =
+          (mid : State K) × ((between : ℕ → Option ℕ) × ((queue_between : D)
+          × (Processes old look d msg e mid between queue_between × ProcessesAll mid between queue_between msgs es new look' d')))
+      ProcessesAll old look d _ _ new look' d' = ⊥

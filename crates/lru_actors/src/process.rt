@@ -1,8 +1,8 @@
 //! Messages processed with the map of weights and the queue of evicted pairs.
-ghost use Rattle.std.specs.Prelude.{◌≡◌, ℕ, ◌<◌, Some, None, IsTrue, IsFalse, IsSome, nat_eq, nat_le, if◌then◌else◌};
+ghost use Rattle.std.specs.Prelude.{◌≡◌, ℕ, ◌<◌, Some, None, IsTrue, IsFalse, IsSome, nat_eq, nat_le, if◌then◌else◌, ◌≤◌, [], vec_len, vec_capacity};
 ghost use Rattle.std.specs.HashMap as hash;
 ghost use Rattle.lru_actors.specs.Messages.{looks};
-ghost use Rattle.lru_actors.specs.Processing.{mapped, queued, MapHasRoom, HasPlace, MayWantRoom, IsKept, HandsOver, Processes};
+ghost use Rattle.lru_actors.specs.Processing.{mapped, queued, MapHasRoom, HasPlace, MayWantRoom, IsKept, HandsOver, Processes, ProcessesAll};
 
 use crate::effect::Effect;
 use crate::message::LruMsg;
@@ -29,6 +29,28 @@ pub fn process_msg<K: Clone + Drop, D: Dispatch<K>>(
     let evicted = effect.evicted.take();
     hand_over(dispatch, effect.cleared, evicted);
     effect
+}
+
+/// Processes the messages of a batch in order, and empties it: effect number i is that of message number i,
+/// on what the messages before it left. It takes no memory of its own.
+pub fn process_batch<K: Clone + Drop, D: Dispatch<K>>(
+    state: &mut ShardState<K>,
+    map: &mut HashMap<u64, usize>,
+    dispatch: &mut D,
+    batch: &mut Vec<LruMsg<K>>,
+    effects: &mut Vec<Effect<K>>,
+)
+    requires few { vec_len batch.old ≤ 64 }
+    requires none { effects.old.items ≡ [] }
+    requires room { vec_len batch.old ≤ vec_capacity effects.old }
+    ensures emptied { batch.new.items ≡ [] }
+    ensures processed { ProcessesAll D.Puts D.IsSame D.queue K.is_clone state.old (hash.get nat_eq map.old) dispatch.old batch.old.items effects.new.items state.new (hash.get nat_eq map.new) dispatch.new }
+{
+    // The last one is at hand, so the first is made the last.
+    batch.reverse();
+    while let Some(msg) = batch.pop() {
+        effects.push_reserved(process_msg(state, map, dispatch, msg));
+    }
 }
 
 // Whether the limits are looked at after a message.
