@@ -1,11 +1,10 @@
 -- A message that the shard has served, or refused, is processed once the map and the queue have followed.
-use Rattle.std.proofs.Common.{◌≡◌, ℕ, ◌+◌, ◌%◌, ◌^◌, cond, eqb, Bool, true, false, length, List, [], ◌∷◌, ◌++◌, Some, None, refl, sym, ap, ◌∙◌, subst, inl, inr}
+use Rattle.std.proofs.Common.{◌≡◌, ℕ, ◌+◌, ◌%◌, ◌^◌, cond, eqb, Bool, true, List, [], ◌∷◌, ◌++◌, Some, None, refl, sym, ap, ◌∙◌, subst, inl, inr}
 use Rattle.std.specs.Prelude.{Option}
-use Rattle.lru_shard.specs.Row.{weight_of}
 use Rattle.lru_dispatch.specs.Queue.{Queue}
 use Rattle.lru_actors.specs.declared.message.LruMsg.{LruMsg}
 use Rattle.lru_actors.specs.declared.effect.Effect.{Effect}
-use Rattle.lru_actors.specs.Messages.{State, state_of, looks, quiet, measure, evicted_of, MayBeRefused, IsMeasured, IsRefused, IsDone, Steps}
+use Rattle.lru_actors.specs.Messages.{State, state_of, looks, quiet, measure, evicted_of, MayBeRefused, IsRefused, IsDone, Steps}
 use Rattle.lru_actors.specs.Processing.{set_in, mapped, queued, MayWantRoom, IsKept, HandsOver, IsServed, IsTurnedAway, Processes, ProcessesAll}
 use Rattle.lru_actors.proofs.Done.{declined}
 

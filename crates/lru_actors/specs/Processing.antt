@@ -3,7 +3,7 @@ use Rattle.std.specs.Prelude.{◌≡◌, ℕ, ◌<◌, ◌⊎◌, cond, eqb, Lis
 use Rattle.lru_shard.specs.Row.{Row}
 use Rattle.lru_dispatch.specs.Queue.{Queue, dispatched}
 use Rattle.lru_actors.specs.declared.message.LruMsg.{LruMsg}
-use Rattle.lru_actors.specs.declared.message.LruMsg.TheVariants.{Admit, IncrementWeight, Promote, Remove, InsertTail, Evict, PeekLru, Snapshot, QueryWeight}
+use Rattle.lru_actors.specs.declared.message.LruMsg.TheVariants.{Admit, IncrementWeight, InsertTail, Evict}
 use Rattle.lru_actors.specs.declared.effect.Effect.{Effect}
 use Rattle.lru_actors.specs.Messages.{State, evicted_of, MayBeRefused, IsRefused, IsDone}
 

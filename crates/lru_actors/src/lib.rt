@@ -3,6 +3,7 @@
 #![tactic(auto)]
 
 pub mod effect;
+pub mod key;
 pub mod message;
 pub mod process;
 pub mod state;

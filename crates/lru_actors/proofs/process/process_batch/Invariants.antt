@@ -1,4 +1,4 @@
-use Rattle.std.proofs.Common.{◌≡◌, ℕ, ◌+◌, ◌++◌, ◌≤◌, List, nat_eq, vec_len, vec_capacity}
+use Rattle.std.proofs.Common.{◌≡◌, ◌+◌, ◌++◌, ◌≤◌, List, nat_eq, vec_len, vec_capacity}
 use Rattle.std.specs.Prelude.{reverse}
 use Rattle.std.specs.HashMap as hash
 use Rattle.lru_actors.specs.declared.message.LruMsg.{LruMsg}
