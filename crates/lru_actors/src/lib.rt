@@ -7,3 +7,5 @@ pub mod key;
 pub mod message;
 pub mod process;
 pub mod state;
+#[cfg(test)]
+mod tests;
