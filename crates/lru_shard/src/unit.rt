@@ -212,8 +212,8 @@ impl<T> LruUnit<T> {
     pub fn lru_key(&self) -> Option<u64>
         ensures { result ≡ option_map (λ r. r.key) (last_row self.now.rows) }
     {
-        let key = self.order.iter().next_back()?;
-        Some(*key)
+        let last = self.order.iter().next_back()?;
+        Some(*last)
     }
 
     /// The keys of the rows, most recent first.
