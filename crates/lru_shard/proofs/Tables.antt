@@ -364,6 +364,12 @@ module _ {T : Type 0} where
       ∙ ap (λ ps. (h.0.0.«data», h.0.0.weight) ∷ ps) (pairs_of-rows look ks h.1)
       ∙ sym (ap (λ o. map pair_of (cons_option (option_map (row_at k) o) (rows_by look ks))) h.0.1)
 
+  -- the keys of the rows in order
+  pub keys_of-rows : (look : ℕ → Option (Node T)) (keys : List ℕ) → FindsAll look keys → map (λ (r : Row T). r.key) (rows_by look keys) ≡ keys
+  keys_of-rows look [] h = refl
+  keys_of-rows look (k ∷ ks) h =
+      ap (λ o. map (λ (r : Row T). r.key) (cons_option (option_map (row_at k) o) (rows_by look ks))) h.0.1 ∙ ap (λ keys. k ∷ keys) (keys_of-rows look ks h.1)
+
   pub finds_all : (look : ℕ → Option (Node T)) (live : List (ℕ × ℕ)) → KnowsAll look live → FindsAll look (items_of live)
   finds_all look [] h = tt
   finds_all look (p ∷ ps) h = ((h.0.node, h.0.found), finds_all look ps h.1)

@@ -208,6 +208,21 @@ impl<T> LruUnit<T> {
         Some((&node.data, node.weight))
     }
 
+    /// The key of the row that was used longest ago.
+    pub fn lru_key(&self) -> Option<u64>
+        ensures { result ≡ option_map (λ r. r.key) (last_row self.now.rows) }
+    {
+        let last = self.order.iter().next_back()?;
+        Some(*last)
+    }
+
+    /// The keys of the rows, most recent first.
+    pub fn keys(&self) -> LinkedListIter<'_, u64>
+        ensures { result ≡ map (λ r. r.key) self.now.rows }
+    {
+        self.order.iter()
+    }
+
     /// Whether a key is not among the first `limit`. It takes as many steps as it looks at keys.
     pub fn need_promote(&self, key: u64, limit: usize) -> bool
         ensures { result ≡ needs_promote self.now.rows key limit }

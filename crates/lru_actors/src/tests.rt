@@ -1,0 +1,113 @@
+//! The shard of an actor by its worked rows, with its map and its queue.
+ghost use Rattle.std.specs.Prelude.{◌≡◌};
+
+use crate::effect::{Effect, Reply};
+use crate::message::LruMsg;
+use crate::process::{choose_victim, process_batch, process_msg};
+use crate::state::ShardState;
+use lru_dispatch::Putter;
+use lru_ledger::LedgerState;
+use lru_mailbox::MailState;
+use std::collections::HashMap;
+use std::test::Fail;
+
+fn admit(hash: u64, key: u8, weight: usize) -> LruMsg<u8> {
+    LruMsg::Admit { hash, key, weight }
+}
+
+// The keys and weights that a snapshot tells.
+fn pairs(effect: Effect<u8>) -> Option<Vec<(u8, usize)>> {
+    match effect.reply {
+        Some(Reply::Rows(pairs)) => Some(pairs),
+        _ => None,
+    }
+}
+
+// A row keeps its first key and takes the second weight; it is evicted once.
+#[test]
+fn evicts_the_one_row(rt: HostRuntime) -> Result<(), Fail> {
+    let mut state = ShardState::with_capacity(rt.alloc(), 0, 100)?;
+    let mut map = HashMap::new(rt.alloc());
+    let mut evicted = MailState::new(rt.alloc());
+    process_msg(&mut state, &mut map, &mut evicted, admit(7, 1, 2));
+    let second = process_msg(&mut state, &mut map, &mut evicted, admit(7, 2, 5));
+    assert_eq!(rt;
+        (second.put, second.weight_before, second.weight_after),
+        (Some((7, 5)), 2, 5)
+    );
+    assert!(rt; second.look && !second.refused);
+    let rows = pairs(state.step(LruMsg::Snapshot)).ok_or("no rows")?;
+    assert_eq!(rt; rows.as_slice(), [(1, 5)].as_slice());
+    let left = process_msg(&mut state, &mut map, &mut evicted, LruMsg::Evict);
+    assert_eq!(rt;
+        (left.cleared, left.evicted, left.len_after),
+        (Some(7), None, 0)
+    );
+    let none = process_msg(&mut state, &mut map, &mut evicted, LruMsg::Evict);
+    assert_eq!(rt; (none.cleared, none.refused), (None, false));
+    assert_eq!(rt; evicted.pop(), Some((1, 5)));
+    assert_eq!(rt; evicted.pop(), None);
+    assert!(rt; map.is_empty());
+    Ok(())
+}
+
+#[test]
+fn refuses_what_is_too_heavy(rt: HostRuntime) -> Result<(), Fail> {
+    let mut state = ShardState::with_capacity(rt.alloc(), 0, 10)?;
+    let mut map = HashMap::new(rt.alloc());
+    let mut evicted = MailState::new(rt.alloc());
+    let first = process_msg(&mut state, &mut map, &mut evicted, admit(7, 1, 6));
+    assert!(rt; !first.refused);
+    let second = process_msg(&mut state, &mut map, &mut evicted, admit(8, 2, 5));
+    assert!(rt; second.refused && second.look);
+    assert_eq!(rt;
+        (state.refused(), state.len(), state.used_weight()),
+        (1, 1, 6)
+    );
+    assert_eq!(rt; (map.len(), map.get(&7).copied()), (1, Some(6)));
+    Ok(())
+}
+
+// A batch into a box with slips: the hash of the row that was evicted stands on the slip.
+#[test]
+fn serves_a_batch_in_order(rt: HostRuntime) -> Result<(), Fail> {
+    let mut state = ShardState::with_capacity(rt.alloc(), 0, 100)?;
+    let mut map = HashMap::new(rt.alloc());
+    let (mut ledger, mut puts, _takes) = LedgerState::new(rt.alloc(), 1, 0)?;
+    let mut share = puts.pop().ok_or("no share")?;
+    let mut dispatch = Putter {
+        ledger: &mut ledger,
+        share: &mut share,
+    };
+    let mut batch = Vec::with_capacity(rt.alloc(), 4)?;
+    batch.push(admit(7, 1, 0))?;
+    batch.push(LruMsg::InsertTail {
+        hash: 8,
+        key: 2,
+        weight: 0,
+    })?;
+    batch.push(LruMsg::Promote { hash: 8 })?;
+    batch.push(LruMsg::Evict)?;
+    let mut effects = Vec::with_capacity(rt.alloc(), 4)?;
+    process_batch(
+        &mut state,
+        &mut map,
+        &mut dispatch,
+        &mut batch,
+        &mut effects,
+    );
+    assert!(rt; batch.is_empty());
+    assert_eq!(rt; effects.len(), 4);
+    assert_eq!(rt;
+        (effects[0].put, effects[1].put),
+        (Some((7, 1)), Some((8, 0)))
+    );
+    assert_eq!(rt; effects[3].cleared, Some(7));
+    assert_eq!(rt; share.slips().len(), 1);
+    assert_eq!(rt; (share.slips()[0].hash, share.slips()[0].weight), (7, 1));
+    assert_eq!(rt;
+        (choose_victim(3, 5, 2, 2), choose_victim(3, 5, 1, 2)),
+        (3, 5)
+    );
+    Ok(())
+}

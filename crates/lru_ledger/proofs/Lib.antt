@@ -1,0 +1,2 @@
+pub mod SlipLaws
+pub mod TieLaws
