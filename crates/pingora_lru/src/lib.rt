@@ -5,8 +5,7 @@
 //! [`calls`] has the calls of a core as values. Each stands in a small crate beneath; these are the names for users.
 #![tactic(auto)]
 
-pub use lru_cores::calls;
-pub use lru_cores::lru_core;
+pub use lru_cores::{calls, lru_core};
 pub use lru_list::linked_list;
 pub use lru_locks::lru;
 pub use lru_locks::lru::Lru;

@@ -2,4 +2,5 @@
 #![tactic(auto)]
 
 pub mod persistence;
+
 pub use lru_snapshot::snapshot;
