@@ -9,11 +9,11 @@ use Rattle.lru_actors.specs.Processing.{set_in, mapped, queued, MayWantRoom, IsK
 use Rattle.lru_actors.proofs.Done.{declined}
 
 -- what is set and taken out depends on the map at each hash alone
-set_same : (p : Option (ℕ × ℕ)) (f g : ℕ → Option ℕ) → ((k : ℕ) → f k ≡ g k) → (k : ℕ) → set_in p f k ≡ set_in p g k
+pub set_same : (p : Option (ℕ × ℕ)) (f g : ℕ → Option ℕ) → ((k : ℕ) → f k ≡ g k) → (k : ℕ) → set_in p f k ≡ set_in p g k
 set_same None f g h k = h k
 set_same (Some p) f g h k = ap (λ o. cond (eqb p.0 k) (Some p.1) o) (h k)
 
-mapped_same : (p : Option (ℕ × ℕ)) (c : Option ℕ) (f g : ℕ → Option ℕ) → ((k : ℕ) → f k ≡ g k) → (k : ℕ) → mapped p c f k ≡ mapped p c g k
+pub mapped_same : (p : Option (ℕ × ℕ)) (c : Option ℕ) (f g : ℕ → Option ℕ) → ((k : ℕ) → f k ≡ g k) → (k : ℕ) → mapped p c f k ≡ mapped p c g k
 mapped_same p None f g h k = set_same p f g h k
 mapped_same p (Some x) f g h k = ap (λ o. cond (eqb x k) None o) (set_same p f g h k)
 

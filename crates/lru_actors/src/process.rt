@@ -1,8 +1,8 @@
 //! Messages processed with the map of weights and the queue of evicted pairs.
-ghost use Rattle.std.specs.Prelude.{◌≡◌, ℕ, ◌<◌, Some, None, IsTrue, IsFalse, IsSome, nat_eq, nat_le, if◌then◌else◌, ◌≤◌, [], vec_len, vec_capacity};
+ghost use Rattle.std.specs.Prelude.{◌≡◌, ℕ, ◌<◌, Some, None, IsTrue, IsFalse, IsSome, nat_eq, ◌≤◌, [], vec_len, vec_capacity};
 ghost use Rattle.std.specs.HashMap as hash;
 ghost use Rattle.lru_actors.specs.Messages.{looks};
-ghost use Rattle.lru_actors.specs.Processing.{mapped, queued, MapHasRoom, HasPlace, MayWantRoom, IsKept, HandsOver, Processes, ProcessesAll};
+ghost use Rattle.lru_actors.specs.Processing.{mapped, queued, MapHasRoom, HasPlace, MayWantRoom, IsKept, HandsOver, Processes, ProcessesAll, victim_of};
 
 use crate::effect::Effect;
 use crate::message::LruMsg;
@@ -134,7 +134,7 @@ fn hand_over<K, D: Dispatch<K>>(dispatch: &mut D, cleared: Option<u64>, evicted:
 
 /// Which of two shards gives up a row: the first, unless it is the shorter one.
 pub fn choose_victim(a: usize, b: usize, len_a: usize, len_b: usize) -> usize
-    ensures { result ≡ (if nat_le len_b len_a then a else b) }
+    ensures { result ≡ victim_of a b len_a len_b }
 {
     if len_a >= len_b { a } else { b }
 }

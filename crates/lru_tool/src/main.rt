@@ -1,25 +1,8 @@
 //! `lru_tool LIMIT WATERMARK SEED`: a core of two shards that answers the lines of standard input.
 #![tactic(auto)]
 
-mod arguments;
-mod command;
-#[cfg(test)]
-mod draw_tests;
-mod engine;
-#[cfg(test)]
-mod fault_tests;
-#[cfg(test)]
-mod file_tests;
-mod numbers;
-mod parts;
-mod replies;
-#[cfg(test)]
-mod run_tests;
-mod settings;
-#[cfg(test)]
-mod unlisted;
-
 use log::sink::Console;
+use lru_engine::{arguments, engine};
 use pingora_lru_files::persistence::HostFolder;
 use std::process::ExitCode;
 

@@ -1,0 +1,23 @@
+-- The whole program: the core that it begins with, its random words, and its status.
+use Rattle.std.specs.Prelude.{ℕ, List, [], replicate, is_some, Option, if◌then◌else◌}
+use Rattle.std.specs.List.{list_all}
+use Rattle.lru_snapshot.specs.declared.snapshot.Keyed.{Keyed}
+use Rattle.lru_commands.specs.declared.settings.Settings.{Settings}
+use Rattle.lru_commands.specs.Commands.{Asked}
+use Rattle.pingora_lru.specs.Core.{Core}
+use Rattle.rand_core.specs.Stream.{Stream}
+use Rattle.rand_core.specs.Steps.{stream_of, steps_u32}
+use Rattle.rand_core.specs.Pcg32Seed.{pcg32_seed}
+use Rattle.rand_chacha.specs.ChaCha.{next_word, of_seed}
+
+-- the core that the program begins with
+abbrev pub fresh : Settings → Core Keyed
+fresh s = record { lists = replicate 2 []; weight_limit = s.limit; watermark = s.watermark; evicted_weight = 0; evicted_len = 0 }
+
+-- the random words that a seed gives: those of the standard generator, ChaCha with 12 rounds, which are 6 double ones
+abbrev pub words_of : ℕ → Stream
+words_of seed = stream_of (steps_u32 (next_word 6)) (of_seed (pcg32_seed 32 seed))
+
+-- 0, or 2 where a line is bad
+abbrev pub status_of : List (Option Asked) → ℕ
+status_of lines = if list_all is_some lines then 0 else 2

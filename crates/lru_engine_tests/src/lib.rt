@@ -1,0 +1,15 @@
+//! Tests of `lru_engine`: the program's answers over folders in memory, and where something fails.
+#![tactic(auto)]
+
+#[cfg(test)]
+mod draw_tests;
+#[cfg(test)]
+mod fault_tests;
+#[cfg(test)]
+mod file_tests;
+#[cfg(test)]
+mod run_tests;
+#[cfg(test)]
+mod size_tests;
+#[cfg(test)]
+mod unlisted;

@@ -1,0 +1,51 @@
+//! An input of ten thousand lines, and shard files of a hundred thousand bytes.
+use crate::file_tests::answers_over;
+use crate::run_tests::answers;
+use pingora_lru_files::persistence::MemoryFolder;
+use std::test::Fail;
+
+#[test]
+fn answers_ten_thousand_lines(rt: HostRuntime) -> Result<(), Fail> {
+    let mut input = String::new(rt.alloc());
+    let mut text = String::new(rt.alloc());
+    for key in 0..5000u64 {
+        let shard = key % 2;
+        write!(input, "admit {key} {key} 1\n")?;
+        write!(text, "{shard}\n")?;
+    }
+    for key in 0..4999u64 {
+        write!(input, "peekw {key}\n")?;
+        text.push_str("1\n")?;
+    }
+    input.push_str("total\n")?;
+    text.push_str("5000 5000 0 0\n")?;
+    assert!(rt; answers(&rt, "9999 - 7", &input, 0, &text)?);
+    Ok(())
+}
+
+// Each shard has 4,167 rows of 24 bytes.
+#[test]
+fn keeps_files_of_many_pages(rt: HostRuntime) -> Result<(), Fail> {
+    let mut folder = MemoryFolder::new(rt.alloc());
+    let mut input = String::new(rt.alloc());
+    let mut text = String::new(rt.alloc());
+    for key in 0..8334u64 {
+        let shard = key % 2;
+        write!(input, "admit {key} {key} 1\n")?;
+        write!(text, "{shard}\n")?;
+    }
+    input.push_str("save d c\n")?;
+    text.push_str("saved 2 failed 0\n")?;
+    assert!(rt; answers_over(&rt, &mut folder, input.as_bytes(), 0, &text)?);
+    for path in ["d/c.0", "d/c.1"] {
+        let length = match folder.get(path) {
+            Some(bytes) => bytes.len(),
+            None => 0,
+        };
+        assert_eq!(rt; length, 100008);
+    }
+    let input = b"load d c\ntotal\nlru 0\nlru 1\nevict 0\n".as_slice();
+    let text = "loaded 2 missing 0 errored 0 removed 0\n8334 8334 0 0\n0 0 1\n1 1 1\n0 0 1\n";
+    assert!(rt; answers_over(&rt, &mut folder, input, 0, text)?);
+    Ok(())
+}

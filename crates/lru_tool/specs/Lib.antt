@@ -1,5 +1,0 @@
-pub mod Lines
-pub mod Commands
-pub mod Storing
-pub mod Replies
-pub mod Program
