@@ -1,0 +1,256 @@
+-- What holds of one actor, kept by each event of its own.
+use Rattle.std.proofs.Common.{◌≡◌, ℕ, ◌+◌, ◌%◌, ◌^◌, ◌&&◌, not, zero, suc, Bool, true, false, List, [], ◌∷◌, ◌++◌, map, take, drop, Ok, Err, refl, sym, ap, ◌∙◌, arith, subst, inl, inr, append_assoc, append-nil}
+use Rattle.std.specs.Prelude.{Option, Result}
+use Rattle.std.proofs.lemmas.Bool.{cond-true, cond-false}
+use Rattle.std.proofs.lemmas.List.{map-append, take-append-drop}
+use Rattle.std.proofs.Math.Nat.{mod-add-mod}
+use Rattle.lru_mailbox.specs.declared.mail_error.MailError.{MailError}
+use Rattle.lru_mailbox.specs.declared.mail_error.MailError.TheVariants.{Memory, Closed, Waiting}
+use Rattle.lru_mailbox.specs.Mail.{Post, Mail, mail_of, served, left, Pushes, PushesEvict}
+use Rattle.lru_dispatch.specs.Queue.{Queue, dispatched}
+use Rattle.lru_shard.specs.Row.{Row, times, HasDistinctKeys}
+use Rattle.lru_shard.specs.Shard.{shard}
+use Rattle.lru_actors.specs.declared.message.LruMsg.{LruMsg}
+use Rattle.lru_actors.specs.declared.message.LruMsg.TheVariants.{Evict}
+use Rattle.lru_actors.specs.declared.effect.Effect.{Effect}
+use Rattle.lru_actors.specs.Messages.{State, state_of, consumed, put_of, cleared_of, IsMeasured}
+use Rattle.lru_actors.specs.Processing.{mapped, IsServed, IsTurnedAway, Processes}
+use Rattle.lru_actors.proofs.Served.{mapped_same}
+use Rattle.lru_schedules.specs.Turns.{Turn, turn, rows_after, rows_left, refusals, brings, removes, evicts, times_done, IsAnswered, AreAnswered}
+use Rattle.lru_schedules.specs.World.{Actor, rows_of, accepted_by, Sends, Urges, Takes, Stops}
+use Rattle.lru_schedules.proofs.TurnLaws.{rows_more, refusals_more, once, done_more, answered_more}
+use Rattle.lru_schedules.proofs.MessageLaws.{weighed, one_if, follows}
+use Rattle.lru_schedules.proofs.PostLaws.{IsKnown, known_posted, known_urged, known_served}
+
+off : true ≡ false → ⊥
+off e = cc
+
+-- the queue as the world has it
+module _ {K : Type 0} where
+  abbrev pub PutsPair : Queue K → ℕ → K → ℕ → Queue K → Type 0
+  PutsPair q _ key weight q' = q' ≡ dispatched q key weight
+
+  abbrev pub IsSameQueue : Queue K → Queue K → Type 0
+  IsSameQueue q q' = q' ≡ q
+
+  abbrev pub itself : Queue K → Queue K
+  itself q = q
+
+  abbrev pub messages : List (Turn K) → List (LruMsg K)
+  messages turns = map (λ (t : Turn K). t.msg) turns
+
+module _ {K : Type 0} (IsClone : K → K → Type 0) (cap : ℕ) where
+  pub record Good (a : Actor K) : Type 0 where
+    pub order : a.accepted ≡ messages a.turns ++ (a.hand ++ (a.behind ++ a.post.waiting))
+    pub state : a.state ≡ state_of (shard (rows_left [] a.turns) cap) (refusals a.turns % 2 ^ 64)
+    pub distinct : HasDistinctKeys (rows_of a)
+    pub map_is : (h : ℕ) → a.look h ≡ weighed (rows_of a) h
+    pub known : IsKnown a.post
+    pub open_behind : a.post.closed ≡ false → a.behind ≡ []
+    pub closed_waits : a.post.closed ≡ true → a.post.waiting ≡ []
+    pub answered : AreAnswered IsClone [] a.turns
+    pub hashes : (h : ℕ) → times_done (brings h) [] a.turns ≡ times h (rows_of a) + times_done (removes h) [] a.turns + times_done (evicts h) [] a.turns
+
+  -- an event that changes neither rows nor turns
+  pub record Quiet (a b : Actor K) : Type 0 where
+    pub good : Good b
+    pub same_state : b.state ≡ a.state
+    pub same_turns : b.turns ≡ a.turns
+
+  module _ (a : Actor K) (g : Good a) where
+    with_post : (post : Post (LruMsg K)) → post ≡ a.post → Quiet a (record a { post = post; accepted = a.accepted ++ [] })
+    with_post post e = record {
+      good = record {
+        order = append-nil a.accepted ∙ g.order ∙ ap (λ (p : Post (LruMsg K)). messages a.turns ++ (a.hand ++ (a.behind ++ p.waiting))) (sym e);
+        state = g.state;
+        distinct = g.distinct;
+        map_is = g.map_is;
+        known = subst IsKnown (sym e) g.known;
+        open_behind = λ c. g.open_behind (sym (ap (λ (p : Post (LruMsg K)). p.closed) e) ∙ c);
+        closed_waits = λ c. ap (λ (p : Post (LruMsg K)). p.waiting) e ∙ g.closed_waits (sym (ap (λ (p : Post (LruMsg K)). p.closed) e) ∙ c);
+        answered = g.answered;
+        hashes = g.hashes;
+      };
+      same_state = refl;
+      same_turns = refl;
+    }
+
+    -- a message is put into an open mailbox
+    with_message : (post : Post (LruMsg K)) (msg : LruMsg K) → post.waiting ≡ a.post.waiting ++ msg ∷ [] → post.closed ≡ false → a.post.closed ≡ false → IsKnown post
+        → Quiet a (record a { post = post; accepted = a.accepted ++ msg ∷ [] })
+    with_message post msg waits is_open was known = record {
+      good = record {
+        order = ap (λ ms. ms ++ msg ∷ []) g.order ∙ append_assoc (messages a.turns) (a.hand ++ (a.behind ++ a.post.waiting)) (msg ∷ [])
+            ∙ ap (λ ms. messages a.turns ++ ms) (append_assoc a.hand (a.behind ++ a.post.waiting) (msg ∷ []) ∙ ap (λ ms. a.hand ++ ms) (append_assoc a.behind a.post.waiting (msg ∷ []) ∙ ap (λ ms. a.behind ++ ms) (sym waits)));
+        state = g.state;
+        distinct = g.distinct;
+        map_is = g.map_is;
+        known = known;
+        open_behind = λ c. g.open_behind was;
+        closed_waits = λ c. absurd (off (sym c ∙ is_open));
+        answered = g.answered;
+        hashes = g.hashes;
+      };
+      same_state = refl;
+      same_turns = refl;
+    }
+
+    sent : (msg : LruMsg K) (room : ℕ) (answer : Result (Unit {0}) (MailError (LruMsg K))) (mail : Mail (LruMsg K)) → (msg ≡ Evict → ⊥)
+        → Pushes (mail_of a.post room) msg answer mail → Quiet a (record a { post = mail.post; accepted = a.accepted ++ accepted_by answer msg })
+    sent msg room (Ok _) mail other h = with_message mail.post msg (ap (λ (p : Post (LruMsg K)). p.waiting) h.1) (ap (λ (p : Post (LruMsg K)). p.closed) h.1 ∙ h.0) h.0 (subst IsKnown (sym h.1) (known_posted a.post msg other g.known))
+    sent msg room (Err (Closed held)) mail other h = with_post mail.post (ap (λ (m : Mail (LruMsg K)). m.post) h.2)
+    sent msg room (Err (Waiting held)) mail other h = absurd h
+    sent msg room (Err (Memory held)) mail other h = with_post mail.post h.3
+
+    urged_so : (room : ℕ) (answer : Result (Unit {0}) (MailError (LruMsg K))) (mail : Mail (LruMsg K))
+        → PushesEvict (mail_of a.post room) Evict answer mail → Quiet a (record a { post = mail.post; accepted = a.accepted ++ accepted_by answer Evict })
+    urged_so room (Ok _) mail h = with_message mail.post Evict (ap (λ (p : Post (LruMsg K)). p.waiting) h.2) (ap (λ (p : Post (LruMsg K)). p.closed) h.2 ∙ h.0) h.0 (subst IsKnown (sym h.2) (known_urged a.post h.1 g.known))
+    urged_so room (Err (Closed held)) mail h = with_post mail.post (ap (λ (m : Mail (LruMsg K)). m.post) h.2)
+    urged_so room (Err (Waiting held)) mail h = with_post mail.post (ap (λ (m : Mail (LruMsg K)). m.post) h.3)
+    urged_so room (Err (Memory held)) mail h = with_post mail.post h.4
+
+    taken : (n : ℕ) → a.hand ≡ [] → Quiet a (record a { hand = take n a.post.waiting; post = served n a.post })
+    taken n empty = record {
+      good = record {
+        order = g.order ∙ ap (λ ms. messages a.turns ++ ms) (by_closed a.post.closed refl);
+        state = g.state;
+        distinct = g.distinct;
+        map_is = g.map_is;
+        known = known_served n a.post g.known;
+        open_behind = g.open_behind;
+        closed_waits = λ c. ap (drop n) (g.closed_waits c) ∙ drop_none n;
+        answered = g.answered;
+        hashes = g.hashes;
+      };
+      same_state = refl;
+      same_turns = refl;
+    }
+      where
+        drop_none : (n : ℕ) → drop {A = LruMsg K} n [] ≡ []
+        drop_none zero = refl
+        drop_none (suc n) = refl
+
+        take_none : (n : ℕ) → take {A = LruMsg K} n [] ≡ []
+        take_none zero = refl
+        take_none (suc n) = refl
+
+        by_closed : (b : Bool) → a.post.closed ≡ b → a.hand ++ (a.behind ++ a.post.waiting) ≡ take n a.post.waiting ++ (a.behind ++ drop n a.post.waiting)
+        by_closed false e =
+            let none = g.open_behind e in
+            (λ i. empty i ++ (none i ++ a.post.waiting)) ∙ sym (take-append-drop n a.post.waiting) ∙ ap (λ ms. take n a.post.waiting ++ (ms ++ drop n a.post.waiting)) (sym none)
+        by_closed true e =
+            let none = g.closed_waits e in
+            let no_first : take n a.post.waiting ≡ [] = ap (take n) none ∙ take_none n in
+            let no_rest : drop n a.post.waiting ≡ [] = ap (drop n) none ∙ drop_none n in
+            (λ i. empty i ++ (a.behind ++ none i)) ∙ sym (λ i. no_first i ++ (a.behind ++ no_rest i))
+
+    stopped : Quiet a (record a { behind = a.behind ++ a.post.waiting; post = left a.post })
+    stopped = record {
+      good = record {
+        order = g.order ∙ ap (λ ms. messages a.turns ++ (a.hand ++ ms)) (sym (append-nil (a.behind ++ a.post.waiting)));
+        state = g.state;
+        distinct = g.distinct;
+        map_is = g.map_is;
+        known = λ i e. cc;
+        open_behind = λ c. absurd (off c);
+        closed_waits = λ c. refl;
+        answered = g.answered;
+        hashes = g.hashes;
+      };
+      same_state = refl;
+      same_turns = refl;
+    }
+
+  pub sends : (msg : LruMsg K) (a b : Actor K) → Good a → Sends msg a b → Quiet a b
+  sends msg a b g h = subst (Quiet a) (sym h.1.1.1.1.1) (sent a g msg h.1.0 h.1.1.0 h.1.1.1.0 h.0 h.1.1.1.1.0)
+
+  pub urges : (a b : Actor K) → Good a → Urges a b → Quiet a b
+  urges a b g h = subst (Quiet a) (sym h.1.1.1.1) (urged_so a g h.0 h.1.0 h.1.1.0 h.1.1.1.0)
+
+  pub takes : (n : ℕ) (a b : Actor K) → Good a → Takes n a b → Quiet a b
+  takes n a b g h = subst (Quiet a) (sym h.1.1) (taken a g n h.0)
+
+  pub stops : (a b : Actor K) → Good a → Stops a b → Quiet a b
+  stops a b g h = subst (Quiet a) (sym h) (stopped a g)
+
+  -- what consuming a message makes of one actor
+  pub record Advances (a : Actor K) (msg : LruMsg K) (e : Effect K) (new : State K) (look : ℕ → Option ℕ) : Type 0 where
+    pub state : new ≡ state_of (shard (rows_after (rows_of a) (turn msg e)) cap) (refusals (a.turns ++ turn msg e ∷ []) % 2 ^ 64)
+    pub distinct : HasDistinctKeys (rows_after (rows_of a) (turn msg e))
+    pub map_is : (h : ℕ) → look h ≡ weighed (rows_after (rows_of a) (turn msg e)) h
+    pub answered : IsAnswered IsClone (rows_of a) (turn msg e)
+    pub hashes : (h : ℕ) → once (brings h) (rows_of a) (turn msg e) + times h (rows_of a)
+        ≡ times h (rows_after (rows_of a) (turn msg e)) + once (removes h) (rows_of a) (turn msg e) + once (evicts h) (rows_of a) (turn msg e)
+    pub measured : IsMeasured a.state e new
+
+  module _ (a : Actor K) (g : Good a) (msg : LruMsg K) (e : Effect K) (new : State K) (look : ℕ → Option ℕ) (q q' : Queue K) where
+    cap_is : a.state.shard.cap ≡ cap
+    cap_is = ap (λ (s : State K). s.shard.cap) g.state
+
+    refused_is : a.state.refused ≡ refusals a.turns % 2 ^ 64
+    refused_is = ap (λ (s : State K). s.refused) g.state
+
+    served_so : IsServed PutsPair IsSameQueue itself IsClone a.state a.look q msg e new look q' → Advances a msg e new look
+    served_so s =
+        let no : e.refused ≡ false = s.done.refused in
+        let rows : rows_after (rows_of a) (turn msg e) ≡ consumed (rows_of a) msg = cond-false e.refused (rows_of a) (consumed (rows_of a) msg) no in
+        let f = follows (rows_of a) g.distinct msg in
+        let count : refusals (a.turns ++ turn msg e ∷ []) ≡ refusals a.turns = refusals_more a.turns (turn msg e) ∙ ap (λ b. refusals a.turns + one_if b) no ∙ (let z : refusals a.turns + 0 ≡ refusals a.turns = omega arith in z) in
+        let did : (does : List (Row K) → LruMsg K → Bool) → once does (rows_of a) (turn msg e) ≡ one_if (does (rows_of a) msg) = λ does. ap (λ b. one_if (not b && does (rows_of a) msg)) no in
+        let m = s.done.measured in
+        record {
+          state = s.done.left ∙ (λ i. state_of (shard (consumed (rows_of a) msg) (cap_is i)) (refused_is i))
+              ∙ sym (λ i. state_of (shard (rows i) cap) (count i % 2 ^ 64));
+          distinct = subst HasDistinctKeys (sym rows) f.distinct;
+          map_is = λ h. s.map h ∙ ap (λ p. mapped p e.cleared a.look h) s.done.put ∙ ap (λ c. mapped (put_of (rows_of a) msg) c a.look h) s.done.cleared
+              ∙ mapped_same (put_of (rows_of a) msg) (cleared_of (rows_of a) msg) a.look (weighed (rows_of a)) g.map_is h ∙ sym (f.weighs h) ∙ ap (λ rs. weighed rs h) (sym rows);
+          answered = inr (no, s.done.reply);
+          hashes = λ h. omega (arith, f.counts h, did (brings h), did (removes h), did (evicts h), ap (times h) rows);
+          measured = record { weight_before = m.weight_before; len_before = m.len_before; weight_after = m.weight_after; len_after = m.len_after };
+        }
+
+    turned_so : IsTurnedAway PutsPair IsSameQueue itself IsClone a.state a.look q msg e new look q' → Advances a msg e new look
+    turned_so t =
+        let yes : e.refused ≡ true = t.refused.refused in
+        let rows : rows_after (rows_of a) (turn msg e) ≡ rows_of a = cond-true e.refused (rows_of a) (consumed (rows_of a) msg) yes in
+        let count : refusals (a.turns ++ turn msg e ∷ []) ≡ refusals a.turns + 1 = refusals_more a.turns (turn msg e) ∙ ap (λ b. refusals a.turns + one_if b) yes in
+        let did : (does : List (Row K) → LruMsg K → Bool) → once does (rows_of a) (turn msg e) ≡ 0 = λ does. ap (λ b. one_if (not b && does (rows_of a) msg)) yes in
+        record {
+          state = t.refused.left ∙ (λ i. state_of (shard (rows_of a) (cap_is i)) ((refused_is i + 1) % 2 ^ 64))
+              ∙ ap (λ n. state_of (shard (rows_of a) cap) n) (mod-add-mod (refusals a.turns) (2 ^ 64) 1)
+              ∙ sym (λ i. state_of (shard (rows i) cap) (count i % 2 ^ 64));
+          distinct = subst HasDistinctKeys (sym rows) g.distinct;
+          map_is = λ h. t.map h ∙ g.map_is h ∙ ap (λ rs. weighed rs h) (sym rows);
+          answered = inl (yes, t.refused.reply);
+          hashes = λ h. omega (arith, did (brings h), did (removes h), did (evicts h), ap (times h) rows);
+          measured = t.refused.measured;
+        }
+
+    pub advances : Processes PutsPair IsSameQueue itself IsClone a.state a.look q msg e new look q' → Advances a msg e new look
+    advances p = elim p [ inl s ↦ served_so s | inr t ↦ turned_so t ]
+
+    -- the actor after it
+    abbrev pub consumed_one : List (LruMsg K) → Actor K
+    consumed_one rest = record a { turns = a.turns ++ turn msg e ∷ []; hand = rest; state = new; look = look }
+
+    pub good_consumed : (rest : List (LruMsg K)) → a.hand ≡ msg ∷ rest → Advances a msg e new look → Good (consumed_one rest)
+    good_consumed rest hand v =
+        let t = turn msg e in
+        let left : rows_of a ≡ rows_left [] a.turns = ap (λ (s : State K). s.shard.rows) g.state in
+        let all : rows_after (rows_of a) t ≡ rows_left [] (a.turns ++ t ∷ []) = ap (λ rs. rows_after rs t) left ∙ sym (rows_more [] a.turns t) in
+        let rows : new.shard.rows ≡ rows_after (rows_of a) t = ap (λ (s : State K). s.shard.rows) v.state in
+        let did : (does : List (Row K) → LruMsg K → Bool) → times_done does [] (a.turns ++ t ∷ []) ≡ times_done does [] a.turns + once does (rows_of a) t
+        = λ does. done_more does [] a.turns t ∙ ap (λ rs. times_done does [] a.turns + once does rs t) (sym left) in
+        record {
+          order = g.order ∙ ap (λ ms. messages a.turns ++ (ms ++ (a.behind ++ a.post.waiting))) hand
+              ∙ sym (append_assoc (messages a.turns) (msg ∷ []) (rest ++ (a.behind ++ a.post.waiting)))
+              ∙ ap (λ ms. ms ++ (rest ++ (a.behind ++ a.post.waiting))) (sym (map-append (λ (x : Turn K). x.msg) a.turns (t ∷ [])));
+          state = v.state ∙ ap (λ rs. state_of (shard rs cap) (refusals (a.turns ++ t ∷ []) % 2 ^ 64)) all;
+          distinct = subst HasDistinctKeys (sym rows) v.distinct;
+          map_is = λ h. v.map_is h ∙ ap (λ rs. weighed rs h) (sym rows);
+          known = g.known;
+          open_behind = g.open_behind;
+          closed_waits = g.closed_waits;
+          answered = answered_more IsClone [] a.turns t g.answered (subst (λ rs. IsAnswered IsClone rs t) left v.answered);
+          hashes = λ h. omega (arith, did (brings h), did (removes h), did (evicts h), v.hashes h, g.hashes h, ap (times h) rows);
+        }

@@ -1,0 +1,6 @@
+pub mod TurnLaws
+pub mod MessageLaws
+pub mod PostLaws
+pub mod ActorKeeps
+pub mod WorldKeeps
+pub mod LawKeeps

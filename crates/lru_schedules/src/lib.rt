@@ -1,0 +1,7 @@
+//! The law of the actors over every schedule: senders, actors, eviction workers, callback workers, receivers that
+//! leave, and the stop.
+#![tactic(auto)]
+
+mod law;
+
+pub use law::schedule_law;
