@@ -2,4 +2,3 @@ pub mod CoreEvicts
 pub mod Evicting
 pub mod EvictionRuns
 pub mod Units
-pub mod CallLaws

@@ -1,6 +1,4 @@
-//! N shards of one owner under one limit, with eviction; their calls as values; and the law of inclusion.
+//! N shards of one owner under one limit, with eviction.
 #![tactic(auto)]
 
-pub mod calls;
-mod inclusion;
 pub mod lru_core;

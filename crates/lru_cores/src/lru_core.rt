@@ -4,7 +4,6 @@ ghost use Rattle.lru_shard.specs.Shard.{shard};
 ghost use Rattle.lru_cores.specs.Eviction.{IsVictim};
 ghost use Rattle.lru_cores.specs.Representation.Units.{lists_of};
 
-pub use crate::inclusion::inclusion_law;
 pub use lru_rules::eviction::EvictError;
 use lru_rules::eviction::{drawn_shards, place_after};
 use lru_rules::totals::Totals;

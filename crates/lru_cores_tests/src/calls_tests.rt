@@ -1,6 +1,6 @@
 //! A run of calls that are given as values.
-use lru_cores::calls::{Call, run};
 use lru_cores::lru_core::LruCore;
+use lru_runs::calls::{Call, run};
 use rand::rngs::StdRng;
 use rand_core::SeedableRng;
 use std::test::Fail;

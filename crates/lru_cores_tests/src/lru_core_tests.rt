@@ -1,7 +1,8 @@
 //! N shards under one limit, by their worked rows, and each of a core's calls.
 ghost use Rattle.std.specs.Prelude.{◌<◌};
 
-use lru_cores::lru_core::{LruCore, inclusion_law};
+use lru_cores::lru_core::LruCore;
+use lru_runs::inclusion::inclusion_law;
 use lru_shard::unit::{Cause, Refused};
 use rand::rngs::StdRng;
 use rand_core::{Rng, SeedableRng};

@@ -1,11 +1,11 @@
 // Drawn calls on an `Lru` and on a core answer the same, and leave the same, by one thread and by two.
-ghost use Rattle.lru_cores.specs.Calls.{IsAllowed};
+ghost use Rattle.lru_runs.specs.Calls.{IsAllowed};
 
 use crate::shown::{core_state_of, state_of, text_of};
-use lru_cores::calls;
-use lru_cores::calls::{Call, Reply};
 use lru_cores::lru_core::LruCore;
 use lru_locks::lru::Lru;
+use lru_runs::calls;
+use lru_runs::calls::{Call, Reply};
 use lru_shard::unit::Refused;
 use rand::RngExt;
 use rand::rngs::StdRng;

@@ -5,8 +5,14 @@
 //! [`calls`] has the calls of a core as values. Each stands in a small crate beneath; these are the names for users.
 #![tactic(auto)]
 
-pub use lru_cores::{calls, lru_core};
 pub use lru_list::linked_list;
 pub use lru_locks::lru;
 pub use lru_locks::lru::Lru;
+pub use lru_runs::{calls, inclusion};
 pub use lru_shard::unit;
+
+/// N shards under one limit on their weight, of one owner, and the law of inclusion over two of them.
+pub mod lru_core {
+    pub use lru_cores::lru_core::{EvictError, LruCore};
+    pub use lru_runs::inclusion::inclusion_law;
+}
