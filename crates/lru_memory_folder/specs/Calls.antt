@@ -1,43 +1,53 @@
 -- What calls of a folder did, and what a stop inside one of them or between two could leave.
-use Rattle.std.specs.Prelude.{◌≡◌, ◌⊎◌, ℕ, zero, suc, Bool, true, false, List, [], ◌∷◌, take, count_by, string_bytes}
+use Rattle.std.specs.Prelude.{◌≡◌, ◌⊎◌, ℕ, zero, suc, Bool, true, false, List, [], ◌∷◌, take, count_by}
 use Rattle.lru_folder.specs.Files.{Files, created, appended, renamed, removed, AllOrNone, SomeFront, Same}
-use Rattle.lru_memory_folder.specs.declared.calls.Call.{Call}
-use Rattle.lru_memory_folder.specs.declared.calls.Call.TheVariants.{Create, Write, Rename, Remove, Look}
 use Rattle.lru_memory_folder.specs.declared.calls.End.{End}
 use Rattle.lru_memory_folder.specs.declared.calls.End.TheVariants.{Done, NotFound, Failed}
-use Rattle.lru_memory_folder.specs.declared.calls.Noted.{Noted}
+
+-- what a call is to do to the files; most calls only look
+pub data Deed : Type 0 where
+  Creates : (path : List ℕ) → Deed
+  Writes : (path : List ℕ) → (piece : List ℕ) → Deed
+  Renames : (from : List ℕ) → (to : List ℕ) → Deed
+  Removes : (path : List ℕ) → Deed
+  Looks : Deed
 
 -- the whole of a call
-abbrev pub whole : Call → Files → Files
-whole (Create path) m = created (string_bytes path) m
-whole (Write path piece) m = appended (string_bytes path) piece.items m
-whole (Rename from to) m = renamed (string_bytes from) (string_bytes to) m
-whole (Remove path) m = removed (string_bytes path) m
-whole Look m = m
+abbrev pub whole : Deed → Files → Files
+whole (Creates path) m = created path m
+whole (Writes path piece) m = appended path piece m
+whole (Renames from to) m = renamed from to m
+whole (Removes path) m = removed path m
+whole Looks m = m
 
 -- what is left of a call that failed, after so many bytes of a piece
-abbrev pub begun : Call → ℕ → Files → Files
-begun (Create path) part m = m
-begun (Write path piece) part m = appended (string_bytes path) (take part piece.items) m
-begun (Rename from to) part m = m
-begun (Remove path) part m = m
-begun Look part m = m
+abbrev pub begun : Deed → ℕ → Files → Files
+begun (Creates path) part m = m
+begun (Writes path piece) part m = appended path (take part piece) m
+begun (Renames from to) part m = m
+begun (Removes path) part m = m
+begun Looks part m = m
 
-abbrev pub ended : Call → End → Files → Files
-ended call Done m = whole call m
-ended call NotFound m = m
-ended call (Failed part) m = begun call part m
+abbrev pub ended : Deed → End → Files → Files
+ended deed Done m = whole deed m
+ended deed NotFound m = m
+ended deed (Failed part) m = begun deed part m
+
+-- a call that was made, and how it ended
+pub record Noted : Type 0 where
+  pub deed : Deed
+  pub end : End
 
 abbrev pub effect : Noted → Files → Files
-effect noted m = ended noted.call noted.end m
+effect noted m = ended noted.deed noted.end m
 
 -- what a stop inside a call may leave
-abbrev pub PartOf : Call → Files → Files → Type 0
-PartOf (Create path) = AllOrNone (created (string_bytes path))
-PartOf (Write path piece) = SomeFront (string_bytes path) piece.items
-PartOf (Rename from to) = AllOrNone (renamed (string_bytes from) (string_bytes to))
-PartOf (Remove path) = AllOrNone (removed (string_bytes path))
-PartOf Look = Same
+abbrev pub PartOf : Deed → Files → Files → Type 0
+PartOf (Creates path) = AllOrNone (created path)
+PartOf (Writes path piece) = SomeFront path piece
+PartOf (Renames from to) = AllOrNone (renamed from to)
+PartOf (Removes path) = AllOrNone (removed path)
+PartOf Looks = Same
 
 -- the files after these calls, the first of them first
 abbrev pub after : List Noted → Files → Files
@@ -47,7 +57,7 @@ after (n ∷ ns) m = after ns (effect n m)
 -- A stop inside a call from number t on, or between two of them, could leave m.
 abbrev pub StoppedSince : List Noted → ℕ → Files → Files → Type 0
 StoppedSince [] t start m = m ≡ start
-StoppedSince (n ∷ ns) zero start m = (m ≡ start) ⊎ (PartOf n.call start m ⊎ StoppedSince ns zero (effect n start) m)
+StoppedSince (n ∷ ns) zero start m = (m ≡ start) ⊎ (PartOf n.deed start m ⊎ StoppedSince ns zero (effect n start) m)
 StoppedSince (n ∷ ns) (suc t) start m = StoppedSince ns t (effect n start) m
 
 abbrev pub is_failed : End → Bool

@@ -1,10 +1,14 @@
 pub mod Calls
 pub mod Memory
 pub mod Plans
+pub mod History
+pub mod DeedInside
 pub mod HeldInside
+pub mod JournalInside
 pub mod MadeInside
 pub mod MemoryInside
 pub mod MemoryLaws
+pub mod OpenInside
 pub use Rattle.lru_folder.specs.Files
 pub use Rattle.lru_folder.specs.Folder
 pub use Rattle.lru_folder.specs.Listings

@@ -2,9 +2,8 @@
 use Rattle.std.specs.Prelude.{ℕ, List, length}
 use Rattle.std.specs.FinMap.{from_entries}
 use Rattle.std.specs.FinSet.{from_list}
-use Rattle.lru_memory_folder.specs.declared.calls.Noted.{Noted}
 use Rattle.lru_memory_folder.specs.declared.calls.Plan.{Plan}
-use Rattle.lru_memory_folder.specs.Calls.{after, failures, StoppedSince}
+use Rattle.lru_memory_folder.specs.Calls.{Noted, after, failures, StoppedSince}
 use Rattle.lru_folder.specs.Files.{Files}
 use Rattle.lru_folder.specs.Folder.{Opened}
 use Rattle.lru_folder.specs.Places.{Folders}

@@ -3,8 +3,7 @@ use Rattle.std.specs.Prelude.{◌≡◌, ◌≤◌, ℕ, zero, suc, List, [], �
 use Rattle.std.proofs.Common.{inr, refl, arith}
 use Rattle.std.specs.FinMap.{from_entries}
 use Rattle.lru_folder.specs.Files.{Files}
-use Rattle.lru_memory_folder.specs.declared.calls.Noted.{Noted}
-use Rattle.lru_memory_folder.specs.Calls.{effect, after, StoppedSince}
+use Rattle.lru_memory_folder.specs.Calls.{Noted, effect, after, StoppedSince}
 use Rattle.lru_memory_folder.specs.Memory.{Memory, files_of, clock_of, stopped_since_of}
 
 -- the files now are among those that a stop could leave

@@ -1,8 +1,10 @@
 // What a folder in memory keeps of its calls.
+ghost use Rattle.std.specs.Prelude.{◌≡◌};
+ghost use Rattle.lru_memory_folder.specs.History.{end_of};
 
 /// A call, with what it was given to do to the files.
 #[derive(Debug, Drop)]
-pub enum Call {
+pub(crate) enum Call {
     Create(String),
     Write(String, Vec<u8>),
     Rename(String, String),
@@ -20,11 +22,11 @@ pub enum End {
     Failed(usize),
 }
 
-/// A call with what it did.
+/// A call with how it ended.
 #[derive(Debug, Drop)]
-pub struct Noted {
-    pub call: Call,
-    pub end: End,
+pub(crate) struct Ended {
+    pub(crate) call: Call,
+    pub(crate) end: End,
 }
 
 /// Which calls are made to fail, counted from the next one, and how many bytes of a piece are put before.
@@ -33,4 +35,14 @@ pub enum Plan {
     Works,
     FailsAt(u64, usize),
     StopsAt(u64, usize),
+}
+
+/// How a call ends, by its fate and by whether what it asks for is there.
+pub(crate) fn end_of(fate: Option<usize>, found: bool) -> End
+    ensures { result ≡ end_of fate found }
+{
+    match fate {
+        Some(part) => End::Failed(part),
+        None => { if found { End::Done } else { End::NotFound } }
+    }
 }

@@ -1,7 +1,7 @@
 // The files that a folder in memory holds.
-ghost use Rattle.std.specs.Prelude.{◌≡◌, ◌+◌, ◌<◌, ◌^◌, drop, map, take, None, Some, IfOk, MatchOption, OnErr, OnOk, string_bytes, vec_len};
+ghost use Rattle.std.specs.Prelude.{◌≡◌, ◌+◌, ◌<◌, ◌^◌, drop, is_some, length, map, take, None, Some, IfOk, MatchOption, OnErr, OnOk, string_bytes, vec_len};
 ghost use Rattle.std.specs.FinMap.{get, insert, remove};
-ghost use Rattle.lru_folder.specs.Files.{bytes_at};
+ghost use Rattle.lru_folder.specs.Files.{appended, bytes_at, renamed};
 ghost use Rattle.lru_memory_folder.specs.HeldInside.{files_in};
 ghost use Rattle.lru_folder.specs.Listings.{name_of};
 ghost use Rattle.lru_folder.specs.Places.{listing};
@@ -42,6 +42,23 @@ pub(crate) fn take_out(held: &mut Held, path: &str)
     let _ = held.remove(path);
 }
 
+/// Whether the path is there.
+pub(crate) fn holds(held: &Held, path: &str) -> bool
+    ensures { result ≡ is_some (get (files_in held.now.entries) path.now) }
+{
+    find(held, path).is_some()
+}
+
+/// How many bytes the path has, none where it is not there.
+pub(crate) fn len_of(held: &Held, path: &str) -> u64
+    ensures { result ≡ length (bytes_at (files_in held.now.entries) path.now) }
+{
+    match find(held, path) {
+        Some(bytes) => bytes.len() as u64,
+        None => 0,
+    }
+}
+
 /// A copy of the bytes of the path, none where it is not there.
 pub(crate) fn copy_of(alloc: Global, held: &Held, path: &str) -> Result<Vec<u8>, AllocError>
     ensures { IfOk result (λ bytes. bytes.items ≡ bytes_at (files_in held.now.entries) path.now) }
@@ -68,6 +85,38 @@ pub(crate) fn give(
         take_out(held, from);
     }
     Ok(())
+}
+
+/// Puts a piece behind the bytes of the path. Where that finds no memory, nothing changes.
+pub(crate) fn append(
+    alloc: Global,
+    held: &mut Held,
+    path: &str,
+    piece: &[u8],
+) -> Result<(), AllocError>
+    ensures ok { OnOk result (files_in held.new.entries ≡ appended path.now piece.now (files_in held.old.entries)) }
+    ensures err { OnErr result (held.new.entries ≡ held.old.entries) }
+{
+    let mut bytes = copy_of(alloc, held, path)?;
+    bytes.extend_from_slice(piece)?;
+    put(held, String::from_str(alloc, path)?, bytes)
+}
+
+/// Gives the file of a path, if it is there, another path. Where that finds no memory, nothing changes.
+pub(crate) fn give_name(
+    alloc: Global,
+    held: &mut Held,
+    from: &str,
+    to: &str,
+) -> Result<(), AllocError>
+    ensures ok { OnOk result (files_in held.new.entries ≡ renamed from.now to.now (files_in held.old.entries)) }
+    ensures err { OnErr result (held.new.entries ≡ held.old.entries) }
+{
+    let Some(old) = find(held, from) else {
+        return Ok(());
+    };
+    let bytes = old.to_vec(alloc)?;
+    give(held, from, String::from_str(alloc, to)?, bytes)
 }
 
 /// The first bytes of a piece, at most so many.

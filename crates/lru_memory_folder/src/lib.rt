@@ -3,6 +3,9 @@
 
 pub mod calls;
 mod held;
+mod journal;
 pub mod memory_folder;
 mod open;
 mod places;
+mod plan;
+mod store;

@@ -10,16 +10,15 @@ ghost use Rattle.lru_memory_folder.specs.Memory.{files_of, folders_of, clock_of,
 ghost use Rattle.lru_folder.specs.Places.{folder_of, is_there, can_list, listing, MakesAll, MakesSome};
 ghost use Rattle.lru_memory_folder.specs.Plans.{fate, front_of, nothing, GoesAsPlanned, MovesOn};
 
-use crate::calls::{Call, End, Noted, Plan};
-use crate::held::{Held, copy_all, copy_of, find, front, give, names_of, piece_at, put, take_out};
-use crate::open::Open;
-use crate::places::{folder_of, is_there, make_all};
+use crate::calls::Plan;
+use crate::held::find;
+use crate::plan::next_fate;
+use crate::store::Store;
 use lru_folder::fault::FolderFault;
 use lru_folder::folder::Folder;
 use lru_folder::folder_call::FolderCall;
 use lru_folder::listed::Listed;
 use std::alloc::{AllocError, Global};
-use std::collections::BTreeMap;
 use std::marker::Model;
 
 /// A folder in memory, for tests and for programs without a disk.
@@ -28,12 +27,7 @@ use std::marker::Model;
 /// call can be made to fail by a plan.
 #[derive(Drop)]
 pub struct MemoryFolder {
-    alloc: Global,
-    begun: Held,
-    calls: Vec<Noted>,
-    held: Held,
-    made: Vec<Vec<u8>>,
-    open: Open,
+    store: Store,
     plan: Plan,
     last: FolderCall,
 }
@@ -43,11 +37,9 @@ impl Model for MemoryFolder {
 
     ghost Value = { Memory };
 
-    ghost use Rattle.lru_memory_folder.specs.MemoryInside.{memory_of, IsReplayed};
+    ghost use Rattle.lru_memory_folder.specs.MemoryInside.{memory_of};
 
     ghost view = { memory_of };
-
-    ghost invariant = { IsReplayed };
 }
 
 impl MemoryFolder {
@@ -56,12 +48,7 @@ impl MemoryFolder {
         ensures { result ≡ record { begun = []; calls = []; made = []; opened = mode.Closed; plan = Works; last = FolderCall.Make } }
     {
         MemoryFolder {
-            alloc,
-            begun: BTreeMap::new(alloc),
-            calls: Vec::new(alloc),
-            held: BTreeMap::new(alloc),
-            made: Vec::new(alloc),
-            open: Open::Closed,
+            store: Store::new(alloc),
             plan: Plan::Works,
             last: FolderCall::Make,
         }
@@ -73,26 +60,9 @@ impl MemoryFolder {
         ensures folders { IfOk result (λ folder. MakesAll (folder_of path.now) (folders_of self) (folders_of folder)) }
         ensures begins { IfOk result (λ folder. (folder.calls ≡ []) × (folder.opened ≡ mode.Closed) × (folder.plan ≡ self.plan)) }
     {
-        let MemoryFolder {
-            alloc,
-            mut held,
-            mut made,
-            plan,
-            ..
-        } = self;
-        put(
-            &mut held,
-            String::from_str(alloc, path)?,
-            bytes.to_vec(alloc)?,
-        )?;
-        make_all(alloc, &mut made, folder_of(path))?;
+        let MemoryFolder { store, plan, .. } = self;
         Ok(MemoryFolder {
-            alloc,
-            begun: copy_all(&held)?,
-            calls: Vec::new(alloc),
-            held,
-            made,
-            open: Open::Closed,
+            store: store.with(path, bytes)?,
             plan,
             last: FolderCall::Make,
         })
@@ -103,7 +73,7 @@ impl MemoryFolder {
         ensures { MatchOption result (get (files_of self.now) path.now ≡ None)
             (λ bytes. get (files_of self.now) path.now ≡ Some bytes.now) }
     {
-        find(&self.held, path)
+        find(self.store.held(), path)
     }
 
     /// Makes the `n`-th call from now, counted from 0, answer `Io`, and no other. A `write` puts at most the first `part`
@@ -127,37 +97,6 @@ impl MemoryFolder {
     {
         self.plan = Plan::Works;
     }
-}
-
-/// Whether the next call fails, and after how many bytes of a piece. The call counts.
-fn next_fate(plan: &mut Plan) -> Option<usize>
-    ensures fate { result ≡ fate plan.old 0 }
-    ensures counted { MovesOn plan.old plan.new }
-{
-    match *plan {
-        Plan::Works => None,
-        Plan::FailsAt(0, part) => {
-            *plan = Plan::Works;
-            Some(part)
-        }
-        Plan::StopsAt(0, part) => Some(part),
-        Plan::FailsAt(n, part) => {
-            *plan = Plan::FailsAt(n - 1, part);
-            None
-        }
-        Plan::StopsAt(n, part) => {
-            *plan = Plan::StopsAt(n - 1, part);
-            None
-        }
-    }
-}
-
-/// Notes a call, for which there is room.
-fn note(calls: &mut Vec<Noted>, call: Call, end: End)
-    requires { vec_len calls.old < vec_capacity calls.old }
-    ensures { calls.new.items ≡ calls.old.items ++ record { call = call; end = end } ∷ [] }
-{
-    calls.push(Noted { call, end }).unwrap();
 }
 
 impl Folder for MemoryFolder {
@@ -194,16 +133,8 @@ impl Folder for MemoryFolder {
         ensures planned { GoesAsPlanned nothing self.old self.new result }
     {
         self.last = FolderCall::Make;
-        self.open = Open::Closed;
         let fate = next_fate(&mut self.plan);
-        self.calls.reserve(1)?;
-        if fate.is_some() {
-            note(&mut self.calls, Call::Look, End::Failed(0));
-            return Err(FolderFault::Io);
-        }
-        make_all(self.alloc, &mut self.made, dir.as_bytes())?;
-        note(&mut self.calls, Call::Look, End::Done);
-        Ok(())
+        self.store.make(dir, fate)
     }
 
     fn create(&mut self, path: &str) -> Result<(), FolderFault>
@@ -218,24 +149,8 @@ impl Folder for MemoryFolder {
         ensures planned { GoesAsPlanned nothing self.old self.new result }
     {
         self.last = FolderCall::Create;
-        self.open = Open::Closed;
         let fate = next_fate(&mut self.plan);
-        self.calls.reserve(1)?;
-        let call = Call::Create(String::from_str(self.alloc, path)?);
-        if fate.is_some() {
-            note(&mut self.calls, call, End::Failed(0));
-            return Err(FolderFault::Io);
-        }
-        if !is_there(&self.made, folder_of(path)) {
-            note(&mut self.calls, call, End::NotFound);
-            return Err(FolderFault::NotFound);
-        }
-        let open = String::from_str(self.alloc, path)?;
-        let key = String::from_str(self.alloc, path)?;
-        put(&mut self.held, key, Vec::new(self.alloc))?;
-        note(&mut self.calls, call, End::Done);
-        self.open = Open::Writing(open);
-        Ok(())
+        self.store.create(path, fate)
     }
 
     fn write(&mut self, piece: &[u8]) -> Result<(), FolderFault>
@@ -250,25 +165,8 @@ impl Folder for MemoryFolder {
         ensures planned { GoesAsPlanned (front_of self.old.opened piece.now) self.old self.new result }
     {
         self.last = FolderCall::Write;
-        let Open::Writing(path) = &self.open else {
-            unreachable!()
-        };
         let fate = next_fate(&mut self.plan);
-        self.calls.reserve(1)?;
-        let noted = String::from_str(self.alloc, path.as_str())?;
-        let call = Call::Write(noted, piece.to_vec(self.alloc)?);
-        let key = String::from_str(self.alloc, path.as_str())?;
-        let mut bytes = copy_of(self.alloc, &self.held, path.as_str())?;
-        if let Some(part) = fate {
-            bytes.extend_from_slice(front(piece, part))?;
-            put(&mut self.held, key, bytes)?;
-            note(&mut self.calls, call, End::Failed(part));
-            return Err(FolderFault::Io);
-        }
-        bytes.extend_from_slice(piece)?;
-        put(&mut self.held, key, bytes)?;
-        note(&mut self.calls, call, End::Done);
-        Ok(())
+        self.store.write(piece, fate)
     }
 
     fn flush(&mut self) -> Result<(), FolderFault>
@@ -283,13 +181,7 @@ impl Folder for MemoryFolder {
     {
         self.last = FolderCall::Flush;
         let fate = next_fate(&mut self.plan);
-        self.calls.reserve(1)?;
-        if fate.is_some() {
-            note(&mut self.calls, Call::Look, End::Failed(0));
-            return Err(FolderFault::Io);
-        }
-        note(&mut self.calls, Call::Look, End::Done);
-        Ok(())
+        self.store.flush(fate)
     }
 
     fn rename(&mut self, from: &str, to: &str) -> Result<(), FolderFault>
@@ -304,24 +196,8 @@ impl Folder for MemoryFolder {
         ensures planned { GoesAsPlanned nothing self.old self.new result }
     {
         self.last = FolderCall::Rename;
-        self.open = Open::Closed;
         let fate = next_fate(&mut self.plan);
-        self.calls.reserve(1)?;
-        let noted = String::from_str(self.alloc, from)?;
-        let call = Call::Rename(noted, String::from_str(self.alloc, to)?);
-        if fate.is_some() {
-            note(&mut self.calls, call, End::Failed(0));
-            return Err(FolderFault::Io);
-        }
-        let Some(old) = find(&self.held, from) else {
-            note(&mut self.calls, call, End::NotFound);
-            return Err(FolderFault::NotFound);
-        };
-        let bytes = old.to_vec(self.alloc)?;
-        let key = String::from_str(self.alloc, to)?;
-        give(&mut self.held, from, key, bytes)?;
-        note(&mut self.calls, call, End::Done);
-        Ok(())
+        self.store.rename(from, to, fate)
     }
 
     fn open(&mut self, path: &str) -> Result<u64, FolderFault>
@@ -336,22 +212,8 @@ impl Folder for MemoryFolder {
         ensures planned { GoesAsPlanned nothing self.old self.new result }
     {
         self.last = FolderCall::Open;
-        self.open = Open::Closed;
         let fate = next_fate(&mut self.plan);
-        self.calls.reserve(1)?;
-        if fate.is_some() {
-            note(&mut self.calls, Call::Look, End::Failed(0));
-            return Err(FolderFault::Io);
-        }
-        let Some(bytes) = find(&self.held, path) else {
-            note(&mut self.calls, Call::Look, End::NotFound);
-            return Err(FolderFault::NotFound);
-        };
-        let len = bytes.len() as u64;
-        let open = String::from_str(self.alloc, path)?;
-        note(&mut self.calls, Call::Look, End::Done);
-        self.open = Open::Reading(open, 0);
-        Ok(len)
+        self.store.open(path, fate)
     }
 
     fn read(&mut self, max: usize) -> Result<Vec<u8>, FolderFault>
@@ -368,19 +230,8 @@ impl Folder for MemoryFolder {
         ensures planned { GoesAsPlanned nothing self.old self.new result }
     {
         self.last = FolderCall::Read;
-        let Open::Reading(path, at) = &mut self.open else {
-            unreachable!()
-        };
         let fate = next_fate(&mut self.plan);
-        self.calls.reserve(1)?;
-        if fate.is_some() {
-            note(&mut self.calls, Call::Look, End::Failed(0));
-            return Err(FolderFault::Io);
-        }
-        let piece = piece_at(self.alloc, &self.held, path.as_str(), *at, max)?;
-        *at += piece.len();
-        note(&mut self.calls, Call::Look, End::Done);
-        Ok(piece)
+        self.store.read(max, fate)
     }
 
     fn list(&mut self, dir: &str) -> Result<Vec<Listed>, FolderFault>
@@ -395,20 +246,8 @@ impl Folder for MemoryFolder {
         ensures planned { GoesAsPlanned nothing self.old self.new result }
     {
         self.last = FolderCall::List;
-        self.open = Open::Closed;
         let fate = next_fate(&mut self.plan);
-        self.calls.reserve(1)?;
-        if fate.is_some() {
-            note(&mut self.calls, Call::Look, End::Failed(0));
-            return Err(FolderFault::Io);
-        }
-        if dir.is_empty() || !is_there(&self.made, dir.as_bytes()) {
-            note(&mut self.calls, Call::Look, End::NotFound);
-            return Err(FolderFault::NotFound);
-        }
-        let listed = names_of(self.alloc, &self.held, dir)?;
-        note(&mut self.calls, Call::Look, End::Done);
-        Ok(listed)
+        self.store.list(dir, fate)
     }
 
     fn remove(&mut self, path: &str) -> Result<(), FolderFault>
@@ -423,20 +262,7 @@ impl Folder for MemoryFolder {
         ensures planned { GoesAsPlanned nothing self.old self.new result }
     {
         self.last = FolderCall::Remove;
-        self.open = Open::Closed;
         let fate = next_fate(&mut self.plan);
-        self.calls.reserve(1)?;
-        let call = Call::Remove(String::from_str(self.alloc, path)?);
-        if fate.is_some() {
-            note(&mut self.calls, call, End::Failed(0));
-            return Err(FolderFault::Io);
-        }
-        let Some(_) = find(&self.held, path) else {
-            note(&mut self.calls, call, End::NotFound);
-            return Err(FolderFault::NotFound);
-        };
-        take_out(&mut self.held, path);
-        note(&mut self.calls, call, End::Done);
-        Ok(())
+        self.store.remove(path, fate)
     }
 }

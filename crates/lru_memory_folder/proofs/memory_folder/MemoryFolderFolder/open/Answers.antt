@@ -1,62 +1,18 @@
-use Rattle.std.proofs.Common.{◌∷◌, [], ◌++◌, List, refl, ap, ◌∙◌, is_some, sym}
-use Rattle.lru_memory_folder.specs.declared.calls.Noted.{Noted}
-use Rattle.lru_memory_folder.specs.declared.calls.Call.TheVariants.{Look}
-use Rattle.lru_memory_folder.specs.declared.calls.End.TheVariants.{Done, Failed, NotFound}
-use Rattle.lru_memory_folder.specs.HeldInside.{files_in}
-use Rattle.lru_memory_folder.proofs.MemoryLemmas.{replayed, passes}
-use Rattle.lru_folder.specs.Files.{Same}
-use Rattle.lru_memory_folder.proofs.PlanLemmas.{fails_as_planned}
+use Rattle.std.proofs.Common.{refl, ap}
+use Rattle.lru_memory_folder.specs.Calls.{Looks}
+use Rattle.lru_memory_folder.specs.MadeInside.{texts_of}
 use Rattle.lru_memory_folder.specs.Plans.{nothing}
+use Rattle.lru_memory_folder.proofs.MemoryLemmas.{passes, planned, opens}
 use Rattle.lru_memory_folder.proofs.memory_folder.MemoryFolderFolder.open.Goals as goal
 
-pub invariant_of-self-then-is_some : goal.invariant_of-self-then-is_some
-invariant_of-self-then-is_some c =
-    let s = c.self.inside in
-    let n : Noted = record { call = Look; end = Failed 0 } in
-    record {
-      held = replayed (files_in s.begun.entries) s.calls.items c.reserve.new.self.items c.note.new.calls.items n (files_in s.held.entries) (files_in s.held.entries)
-          c.self.invariant.held c.reserve.ensures.items c.note.ensures (refl);
-    }
-
-pub returns-then-is_some-clause-time : goal.returns-then-is_some-clause-time
-returns-then-is_some-clause-time c =
-    let n : Noted = record { call = Look; end = Failed 0 } in
-    passes c.args.self.now _ n (Same) (refl) (ap (λ m. m.begun) c.self.view_is)
-    (c.note.ensures ∙ ap (λ (l : List Noted). l ++ n ∷ []) (c.reserve.ensures.items ∙ ap (λ m. m.calls) c.self.view_is))
-
-pub invariant_of-self-in_default : goal.invariant_of-self-in_default
-invariant_of-self-in_default c =
-    let s = c.self.inside in
-    let n : Noted = record { call = Look; end = NotFound } in
-    record {
-      held = replayed (files_in s.begun.entries) s.calls.items c.reserve.new.self.items c.note-in_default.new.calls.items n (files_in s.held.entries) (files_in s.held.entries)
-          c.self.invariant.held c.reserve.ensures.items c.note-in_default.ensures (refl);
-    }
-
-pub returns-in_default-clause-time : goal.returns-in_default-clause-time
-returns-in_default-clause-time c =
-    let n : Noted = record { call = Look; end = NotFound } in
-    passes c.args.self.now _ n (Same) (refl) (ap (λ m. m.begun) c.self.view_is)
-    (c.note-in_default.ensures ∙ ap (λ (l : List Noted). l ++ n ∷ []) (c.reserve.ensures.items ∙ ap (λ m. m.calls) c.self.view_is))
-
-pub invariant_of-self-2 : goal.invariant_of-self-2
-invariant_of-self-2 c =
-    let s = c.self.inside in
-    let n : Noted = record { call = Look; end = Done } in
-    record {
-      held = replayed (files_in s.begun.entries) s.calls.items c.reserve.new.self.items c.note-2.new.calls.items n (files_in s.held.entries) (files_in s.held.entries)
-          c.self.invariant.held c.reserve.ensures.items c.note-2.ensures (refl);
-    }
-
 pub returns-clause-time : goal.returns-clause-time
-returns-clause-time c =
-    let n : Noted = record { call = Look; end = Done } in
-    passes c.args.self.now _ n (Same) (refl) (ap (λ m. m.begun) c.self.view_is)
-    (c.note-2.ensures ∙ ap (λ (l : List Noted). l ++ n ∷ []) (c.reserve.ensures.items ∙ ap (λ m. m.calls) c.self.view_is))
+returns-clause-time c = passes (λ m. Looks) _ _ _ _ c.open.result c.self.view_is c.open.ensures.goes
 
-pub returns-then-is_some-clause-planned : goal.returns-then-is_some-clause-planned
-returns-then-is_some-clause-planned c =
-    let n : Noted = record { call = Look; end = Failed 0 } in
-    fails_as_planned nothing c.args.self.now _ _ c.self.inside.plan n (ap (λ m. m.plan) c.self.view_is) c.next_fate-fate.ensures.counted
-    (ap is_some (sym c.next_fate-fate.ensures.fate) ∙ sym c.is_some.ensures ∙ c.if-is_some.true) (ap (λ m. m.begun) c.self.view_is)
-    (c.note.ensures ∙ ap (λ (l : List Noted). l ++ n ∷ []) (c.reserve.ensures.items ∙ ap (λ m. m.calls) c.self.view_is)) (ap (λ m. m.made) c.self.view_is) (λ _ _. refl) refl
+pub returns-clause-planned : goal.returns-clause-planned
+returns-clause-planned c =
+    planned (λ m. nothing) (λ m. Looks) _ c.next_fate-fate.result _ _ _ c.open.result c.self.view_is (λ part m. refl) (λ some. ap (λ v. texts_of v.items) c.open.ensures.made)
+    c.next_fate-fate.ensures.fate c.next_fate-fate.ensures.counted c.open.ensures.goes
+
+pub returns-clause-done : goal.returns-clause-done
+returns-clause-done c =
+    opens c.next_fate-fate.result c.args.path.now _ _ _ c.open.new.self.file c.open.result c.self.view_is c.open.ensures.goes c.open.ensures.len c.open.ensures.mode

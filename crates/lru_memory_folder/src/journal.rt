@@ -1,0 +1,155 @@
+// The files of a folder in memory, with the calls that led to them.
+ghost use Rattle.std.specs.Prelude.{◌≡◌, ◌<◌, ◌++◌, ◌∷◌, [], IfOk, OnErr, OnOk, vec_len, vec_capacity};
+ghost use Rattle.lru_memory_folder.specs.Calls.{begun, ended, whole};
+ghost use Rattle.lru_memory_folder.specs.DeedInside.{deed_of};
+ghost use Rattle.lru_memory_folder.specs.HeldInside.{files_in};
+ghost use Rattle.lru_memory_folder.specs.History.{files_left, with_call, Goes};
+
+use crate::calls::{Call, End, Ended};
+use crate::held::{Held, append, copy_all, front, give_name, put, take_out};
+use lru_folder::fault::FolderFault;
+use std::alloc::{AllocError, Global};
+use std::collections::BTreeMap;
+use std::marker::Model;
+
+/// The files that a folder began with, its calls since, and the files that these left.
+#[derive(Drop)]
+pub(crate) struct Journal {
+    begun: Held,
+    calls: Vec<Ended>,
+    held: Held,
+}
+
+impl Model for Journal {
+    ghost use Rattle.lru_memory_folder.specs.History.{History};
+
+    ghost Value = { History };
+
+    ghost use Rattle.lru_memory_folder.specs.JournalInside.{history_of, IsReplayed};
+
+    ghost view = { history_of };
+
+    ghost invariant = { IsReplayed };
+}
+
+impl Journal {
+    /// A journal that begins without files.
+    pub(crate) fn new(alloc: Global) -> Self
+        ensures { result ≡ record { begun = []; calls = [] } }
+    {
+        Journal {
+            begun: BTreeMap::new(alloc),
+            calls: Vec::new(alloc),
+            held: BTreeMap::new(alloc),
+        }
+    }
+
+    /// A journal that begins with these files.
+    pub(crate) fn begin(alloc: Global, held: Held) -> Result<Self, AllocError>
+        ensures files { IfOk result (λ journal. files_left journal ≡ files_in held.entries) }
+        ensures begins { IfOk result (λ journal. journal.calls ≡ []) }
+    {
+        Ok(Journal {
+            begun: copy_all(&held)?,
+            calls: Vec::new(alloc),
+            held,
+        })
+    }
+
+    /// The files now.
+    pub(crate) fn held(&self) -> &Held
+        ensures { files_in result.now.entries ≡ files_left self.now }
+    {
+        &self.held
+    }
+
+    /// The files, without the calls that led to them.
+    pub(crate) fn into_held(self) -> Held
+        ensures { files_in result.entries ≡ files_left self }
+    {
+        self.held
+    }
+
+    /// Does what a call does that ends so, and notes it. Where memory is refused, nothing changes.
+    pub(crate) fn note(&mut self, alloc: Global, call: Call, end: End) -> Result<(), AllocError>
+        ensures ok { OnOk result (self.new ≡ with_call self.old (deed_of call) end) }
+        ensures err { OnErr result (self.new ≡ self.old) }
+    {
+        self.calls.reserve(1)?;
+        apply(alloc, &mut self.held, &call, end)?;
+        push(&mut self.calls, call, end);
+        Ok(())
+    }
+
+    /// The same, and answers as a call does that ended so.
+    pub(crate) fn conclude(
+        &mut self,
+        alloc: Global,
+        call: Call,
+        end: End,
+    ) -> Result<(), FolderFault>
+        ensures { Goes (deed_of call) end self.old self.new result }
+    {
+        self.note(alloc, call, end)?;
+        match end {
+            End::Done => Ok(()),
+            End::NotFound => Err(FolderFault::NotFound),
+            End::Failed(_) => Err(FolderFault::Io),
+        }
+    }
+}
+
+/// Puts a call behind the others, for which there is room.
+fn push(calls: &mut Vec<Ended>, call: Call, end: End)
+    requires { vec_len calls.old < vec_capacity calls.old }
+    ensures { calls.new.items ≡ calls.old.items ++ record { call = call; end = end } ∷ [] }
+{
+    calls.push(Ended { call, end }).unwrap();
+}
+
+/// Does to the files what a call does that ends so. Where memory is refused, nothing changes.
+fn apply(alloc: Global, held: &mut Held, call: &Call, end: End) -> Result<(), AllocError>
+    ensures ok { OnOk result (files_in held.new.entries ≡ ended (deed_of call.now) end (files_in held.old.entries)) }
+    ensures err { OnErr result (held.new.entries ≡ held.old.entries) }
+{
+    match end {
+        End::Done => apply_whole(alloc, held, call),
+        End::NotFound => Ok(()),
+        End::Failed(part) => apply_front(alloc, held, call, part),
+    }
+}
+
+/// Does to the files what the whole of a call does.
+fn apply_whole(alloc: Global, held: &mut Held, call: &Call) -> Result<(), AllocError>
+    ensures ok { OnOk result (files_in held.new.entries ≡ whole (deed_of call.now) (files_in held.old.entries)) }
+    ensures err { OnErr result (held.new.entries ≡ held.old.entries) }
+{
+    match call {
+        Call::Create(path) => put(
+            held,
+            String::from_str(alloc, path.as_str())?,
+            Vec::new(alloc),
+        ),
+        Call::Write(path, piece) => append(alloc, held, path.as_str(), piece),
+        Call::Rename(from, to) => give_name(alloc, held, from.as_str(), to.as_str()),
+        Call::Remove(path) => {
+            take_out(held, path.as_str());
+            Ok(())
+        }
+        Call::Look => Ok(()),
+    }
+}
+
+/// Does to the files what is left of a call that failed, after so many bytes of a piece.
+fn apply_front(alloc: Global, held: &mut Held, call: &Call, part: usize) -> Result<(), AllocError>
+    ensures ok { OnOk result (files_in held.new.entries ≡ begun (deed_of call.now) part (files_in held.old.entries)) }
+    ensures err { OnErr result (held.new.entries ≡ held.old.entries) }
+{
+    match call {
+        Call::Write(path, piece) => append(alloc, held, path.as_str(), front(piece, part)),
+        Call::Create(_) => Ok(()),
+        Call::Rename(_, _) => Ok(()),
+        Call::Remove(_) => Ok(()),
+        Call::Look => Ok(()),
+    }
+}
