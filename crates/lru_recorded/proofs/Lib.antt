@@ -3,3 +3,4 @@ pub mod Noted
 pub mod Calls
 pub mod Dealing
 pub mod Records
+pub mod Probing

@@ -3,9 +3,10 @@ ghost use Rattle.std.specs.Prelude.{◌≡◌, ◌+◌, ◌-◌, ◌%◌, ◌<�
 ghost use Rattle.lru_journals.specs.declared.entry.Reply.TheVariants.{Flag, Weight};
 ghost use Rattle.lru_journals.specs.Stamps.{GetsReceipt};
 ghost use Rattle.lru_journals.specs.Ties.{hand, up};
-ghost use Rattle.lru_rules.specs.Limits.{cap_of};
+ghost use Rattle.lru_rules.specs.Limits.{cap_of, is_past};
 ghost use Rattle.lru_recorded.specs.Plain.{forget};
 ghost use Rattle.lru_recorded.specs.Histories.{IsEviction, left_by, AreLegal, lists_of};
+ghost use Rattle.lru_recorded.specs.Probes.{Adds, AreProbes, FindsNone, IsRound};
 ghost use Rattle.lru_recorded.specs.Replies.{refused, weighed, paired, increments};
 
 use crate::gathered::Gathered;
@@ -13,8 +14,10 @@ use crate::recording::Recording;
 use lru_journals::entry::{Call, Entry, Names};
 use lru_journals::journal::Seat;
 use lru_journals::tie::{Blank, Registry, Tie, Token};
+use lru_rules::eviction::{EvictError, drawn_shards, place_after};
 use lru_rules::totals::Totals;
 use lru_shard::unit::{Cause, LruUnit, Refused};
+use rand_core::Rng;
 use std::alloc::{AllocError, Global};
 use std::marker::PhantomData;
 use std::sync::atomic::{AtomicUsize, Ordering};
@@ -473,6 +476,99 @@ impl<T: Drop, B: Registry, const N: usize> RecordedLru<T, B, N> {
         let answer = recording.evict(&self.tie, seat, call);
         self.count(shard, before, Totals::of(&recording.unit));
         answer
+    }
+
+    // Probes shards from this one on and round the circle, up to the first one that is not empty.
+    fn evict_near(
+        &self,
+        rt: &impl Wait,
+        seat: &mut Seat<B>,
+        from: usize,
+    ) -> Result<Option<(T, usize)>, AllocError>
+        requires { from < N }
+        ensures ok { IfOk result (λ pair. Adds (IsRound N pair) seat.old.receipts.items seat.new.receipts.items) }
+        ensures err { OnErr result (Adds (FindsNone N) seat.old.receipts.items seat.new.receipts.items) }
+        ensures seat { seat.new.number ≡ seat.old.number }
+    {
+        for steps in 0..N {
+            let shard = place_after(from, steps, N);
+            let pair = self.evict_from(rt, seat, shard, Call::EvictToLimit)?;
+            if pair.is_some() {
+                return Ok(pair);
+            }
+        }
+        Ok(None)
+    }
+
+    // The longer of two drawn shards, a first and b second, by the lengths as read; a where they are as long.
+    fn drawn_shard<R: Rng>(&self, rng: &mut R) -> usize
+        ensures below { result < N }
+        ensures undrawn { N ≡ 1 → rng.new ≡ rng.old }
+    {
+        let _shards = &self.shards;
+        let (a, b) = drawn_shards::<R, N>(rng);
+        if self.lens[a].load(Ordering::SeqCst) >= self.lens[b].load(Ordering::SeqCst) {
+            a
+        } else {
+            b
+        }
+    }
+
+    // Whether a weight or a length is past its limit.
+    fn is_past(&self, weight: usize, len: usize) -> bool
+        ensures { result ≡ is_past self.now.weight_limit self.now.watermark weight len }
+    {
+        weight > self.weight_limit
+            || match self.watermark {
+                None => false,
+                Some(most) => len > most,
+            }
+    }
+
+    /// Evicts while the order is over, and answers the data and the weight of each evicted row, in order. For each it
+    /// makes room for a pair, draws two shards and probes from the longer one on, as an `Lru` does, up to the first one
+    /// that is not empty. Each probe is noted, with the weight of the row that it found: at most N for each pair, and N
+    /// more where all shards are found empty.
+    ///
+    /// Other threads may add and remove rows meanwhile. It is over as long as the value that it first read, less what it
+    /// evicted, and the value now are both past the limit. It ends after as many evictions as there were rows at its
+    /// start, and where it finds all shards empty.
+    ///
+    /// Where a growth is refused, the pairs evicted so far are handed back.
+    pub fn evict_to_limit<R: Rng>(
+        &self,
+        rt: &impl Wait,
+        alloc: Global,
+        seat: &mut Seat<B>,
+        rng: &mut R,
+    ) -> Result<Vec<(T, usize)>, EvictError<T>>
+        ensures ok { IfOk result (λ pairs. Adds (AreProbes N (map (λ pair. pair.1) pairs.items)) seat.old.receipts.items seat.new.receipts.items) }
+        ensures err { IfErr result (λ stopped. Adds (AreProbes N (map (λ pair. pair.1) stopped.evicted.items)) seat.old.receipts.items seat.new.receipts.items) }
+        ensures undrawn { N ≡ 1 → rng.new ≡ rng.old }
+        ensures seat { seat.new.number ≡ seat.old.number }
+    {
+        let mut weight = self.weight.load(Ordering::SeqCst);
+        let len = self.len.load(Ordering::SeqCst);
+        let mut evicted = Vec::new(alloc);
+        for count in 0..len {
+            let weight_now = self.weight.load(Ordering::SeqCst);
+            let len_now = self.len.load(Ordering::SeqCst);
+            if !self.is_past(weight.min(weight_now), len_now.min(len - count)) {
+                break;
+            }
+            if evicted.reserve(1).is_err() {
+                return Err(EvictError { evicted });
+            }
+            let Ok(found) = self.evict_near(rt, seat, self.drawn_shard(rng)) else {
+                return Err(EvictError { evicted });
+            };
+            let Some(pair) = found else {
+                return Ok(evicted);
+            };
+            weight = weight.saturating_sub(pair.1);
+            evicted.push_reserved(pair);
+        }
+        Ok(evicted)
     }
 
     /// The data, cloned, and the weight of the row of a shard that was used longest ago; `None` of an empty shard, and
