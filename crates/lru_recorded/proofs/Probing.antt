@@ -4,7 +4,7 @@ use Rattle.std.proofs.lemmas.List.Elements.{All-nil, All-push}
 use Rattle.lru_journals.specs.declared.entry.Receipt.{Receipt}
 use Rattle.lru_journals.specs.declared.entry.Call.TheVariants.{EvictToLimit}
 use Rattle.lru_journals.specs.Stamps.{receipt, GetsReceipt}
-use Rattle.lru_recorded.specs.Replies.{paired}
+use Rattle.lru_recordings.specs.Replies.{paired}
 use Rattle.lru_recorded.specs.Probes.{IsProbe, AreEmpty, Evicts, FindsNone, IsRound, AreRounds, AreProbes, Adds}
 use Rattle.lru_journals.specs.declared.entry.Reply.TheVariants.{NotFound}
 

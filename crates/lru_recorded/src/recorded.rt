@@ -3,17 +3,18 @@ ghost use Rattle.std.specs.Prelude.{◌≡◌, ◌+◌, ◌-◌, ◌%◌, ◌<�
 ghost use Rattle.lru_journals.specs.declared.entry.Reply.TheVariants.{Flag, Weight};
 ghost use Rattle.lru_journals.specs.Stamps.{GetsReceipt};
 ghost use Rattle.lru_journals.specs.Ties.{hand, up};
+ghost use Rattle.lru_journals.specs.Tied.{AreTied};
 ghost use Rattle.lru_rules.specs.Limits.{cap_of, is_past};
-ghost use Rattle.lru_recorded.specs.Plain.{forget};
-ghost use Rattle.lru_recorded.specs.Histories.{IsEviction, left_by, AreLegal, lists_of};
+ghost use Rattle.lru_recordings.specs.Plain.{forget};
+ghost use Rattle.lru_recordings.specs.Histories.{IsEviction, left_by, AreLegal, lists_of};
 ghost use Rattle.lru_recorded.specs.Probes.{Adds, AreProbes, FindsNone, IsRound};
-ghost use Rattle.lru_recorded.specs.Replies.{refused, weighed, paired, increments};
+ghost use Rattle.lru_recordings.specs.Replies.{refused, weighed, paired, increments};
 
-use crate::gathered::Gathered;
-use crate::recording::Recording;
+use crate::gathered::{Gathered, Room};
 use lru_journals::entry::{Call, Entry, Names};
-use lru_journals::journal::Seat;
+use lru_journals::journal::{Seat, compare_all};
 use lru_journals::tie::{Blank, Registry, Tie, Token};
+use lru_recordings::recording::Recording;
 use lru_rules::eviction::{EvictError, drawn_shards, place_after};
 use lru_rules::totals::Totals;
 use lru_shard::unit::{Cause, LruUnit, Refused};
@@ -23,10 +24,12 @@ use std::marker::PhantomData;
 use std::sync::atomic::{AtomicUsize, Ordering};
 use std::sync::{Mutex, Wait};
 
-// What is left of a token once all its shards and seats are dealt. It stands behind a lock, since a token may not be shared.
+// What `finish` takes: the token of which all shards and seats were dealt, and room for the shards. It stands behind a
+// lock, since neither may be shared.
 #[derive(Drop)]
-struct Rest<B: Registry> {
+struct Rest<T, B: Registry, const N: usize> {
     token: Token,
+    room: Room<T, N>,
     brand: PhantomData<B>,
     ghost here: { token.table_id ≡ B.table },
     ghost empty: { token.me ≡ (hand [] [] [] [], []) },
@@ -47,7 +50,7 @@ pub struct RecordedLru<T, B: Registry, const N: usize> {
     len: AtomicUsize,
     weight_limit: usize,
     watermark: Option<usize>,
-    rest: Mutex<Rest<B>>,
+    rest: Mutex<Rest<T, B, N>>,
     names: Names,
     ghost some: { 0 < N },
     ghost tie_is: { tie.table.shared.table_id ≡ B.table },
@@ -55,6 +58,7 @@ pub struct RecordedLru<T, B: Registry, const N: usize> {
     ghost has_shards: { vec_len shards ≡ N },
     ghost has_lens: { vec_len lens ≡ N },
     ghost names_are: { names.shards ≡ N },
+    ghost seats_are: { names.seats ≡ B.seats },
 }
 
 // What a sum modulo 2^64 grows by where one of its numbers changes.
@@ -124,20 +128,6 @@ pub struct Recorded<T, B: Registry, const N: usize> {
     pub seats: Vec<Seat<B>>,
 }
 
-// Takes the shards out of their locks.
-fn gather<T: Drop, B: Registry, const N: usize>(
-    alloc: Global,
-    shards: Vec<Mutex<Recording<T, B, N>>>,
-) -> Result<Gathered<T, N>, AllocError> {
-    let mut all = Gathered::new(alloc);
-    for lock in shards {
-        if !all.add(lock.into_inner()) {
-            return Err(AllocError);
-        }
-    }
-    Ok(all)
-}
-
 impl<T: Drop, B: Registry, const N: usize> RecordedLru<T, B, N> {
     /// An empty `RecordedLru` with a limit on its weight and, where there is a watermark, on its length, and one seat for
     /// each caller. Each shard has room for `capacity` rows, and may weigh `usize::MAX / N`.
@@ -151,6 +141,7 @@ impl<T: Drop, B: Registry, const N: usize> RecordedLru<T, B, N> {
     ) -> Result<(Self, Vec<Seat<B>>), AllocError>
         requires some { 0 < N }
         requires blank { (blank.tie.table.shared.table_id ≡ B.table) × (blank.tie.table.shared.key ≡ record { shards = N; seats = callers }) }
+        requires callers { B.seats ≡ callers }
         ensures { IfOk result (λ r. map (λ s. s.number) r.1.items ≡ up 0 callers) }
     {
         let Blank { tie, token } = blank;
@@ -167,6 +158,7 @@ impl<T: Drop, B: Registry, const N: usize> RecordedLru<T, B, N> {
             watermark,
             rest: Mutex::new(Rest {
                 token: rest,
+                room: Room::new(alloc)?,
                 brand: PhantomData,
             }),
             names: Names {
@@ -597,25 +589,37 @@ impl<T: Drop, B: Registry, const N: usize> RecordedLru<T, B, N> {
         recording.peek_lru(&self.tie, seat)
     }
 
-    /// Ends all calls, and answers the shards, their histories and the seats, as they are.
+    /// Ends all calls, and answers the shards, their histories and the seats, as they are. The seats are those that `new`
+    /// gave, in their order. It takes no memory.
     ///
     /// Each history is one that one thread could have made: from the empty list on, each reply is the plain list's at
-    /// that point, and each call is of that shard. Each shard has the keys and weights at the end of its history.
-    pub fn finish(self, alloc: Global, seats: Vec<Seat<B>>) -> Result<Recorded<T, B, N>, AllocError>
-        ensures count { IfOk result (λ r. (vec_len r.units ≡ N) × (vec_len r.histories ≡ N)) }
-        ensures units { IfOk result (λ r. map (λ u. forget u.rows) r.units.items ≡ map (left_by (cap_of N) []) (lists_of r.histories.items)) }
-        ensures legal { IfOk result (λ r. AreLegal N (lists_of r.histories.items)) }
-        ensures seats { IfOk result (λ r. r.seats ≡ seats) }
+    /// that point, and each call is of that shard. Each shard has the keys and weights at the end of its history. The
+    /// receipts of all seats are the entries of all histories, each once.
+    pub fn finish(self, seats: Vec<Seat<B>>) -> Recorded<T, B, N>
+        requires { map (λ s. s.number) seats.items ≡ up 0 B.seats }
+        ensures count { (vec_len result.units ≡ N) × (vec_len result.histories ≡ N) }
+        ensures units { map (λ u. forget u.rows) result.units.items ≡ map (left_by (cap_of N) []) (lists_of result.histories.items) }
+        ensures legal { AreLegal N (lists_of result.histories.items) }
+        ensures seats { result.seats ≡ seats }
+        ensures tied { AreTied (lists_of result.histories.items) (map (λ s. s.receipts.items) seats.items) }
     {
-        let RecordedLru { shards, .. } = self;
-        let Gathered { units, histories } = gather(alloc, shards)?;
-        if units.len() != N || histories.len() != N {
-            return Err(AllocError);
-        }
-        Ok(Recorded {
+        let RecordedLru {
+            tie,
+            shards,
+            rest,
+            names,
+            ..
+        } = self;
+        let Rest { token, room, .. } = rest.into_inner();
+        let mut book = token;
+        let Gathered { units, histories } = room.fill(&tie, names, &mut book, shards);
+        tie.look(&mut book, names);
+        let mut seats = seats;
+        compare_all(seats.as_mut_slice(), &tie, &mut book, names);
+        Recorded {
             units,
             histories,
             seats,
-        })
+        }
     }
 }

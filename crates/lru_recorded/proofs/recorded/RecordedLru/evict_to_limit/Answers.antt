@@ -1,6 +1,6 @@
 use Rattle.std.proofs.Common.{◌≡◌, [], ◌∷◌, ◌++◌, ◌∙◌, map, refl, ap, subst}
 use Rattle.lru_recorded.specs.Probes.{Adds, IsRound}
-use Rattle.lru_recorded.proofs.Noted.{map_snoc}
+use Rattle.lru_recordings.proofs.Noted.{map_snoc}
 use Rattle.lru_recorded.proofs.Probing.{no_rounds, one_round, last_round, nothing_more}
 use Rattle.lru_recorded.proofs.recorded.RecordedLru.evict_to_limit.Goals as goal
 
