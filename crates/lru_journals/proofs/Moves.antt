@@ -214,6 +214,20 @@ cuts_parts v = record {
   slips_r = λ x a. a;
 }
 
+pub cuts_apart : (v : Hand) → Cuts v (hand [] v.seats [] v.slips) (hand v.shards [] v.book [])
+cuts_apart v = record {
+  shards = λ x. omega arith;
+  seats = λ x. omega arith;
+  own_l = λ o. ((λ x a. absurd a), o.1);
+  own_r = λ o. (o.0, (λ x a. absurd a));
+  book_to = λ x a. inr a;
+  book_l = λ x a. absurd a;
+  book_r = λ x a. a;
+  slips_to = λ x a. inl a;
+  slips_l = λ x a. a;
+  slips_r = λ x a. absurd a;
+}
+
 take_drop : (x : ℕ) (xs : List ℕ) → times x (drop 1 xs) + times x (take 1 xs) ≡ times x xs
 take_drop x [] = refl
 take_drop x (y ∷ ys) = omega arith
@@ -402,3 +416,8 @@ looks k names slots id i me f same s t wide at fits = (
 pub together : (ss is : List ℕ) (b p : List Stamp) (book seat lent both : Me Stamp Hand) → book ≡ (hand ss [] b [], []) → seat ≡ (hand [] is [] p, []) → lent ≡ (seat.0, []) → both ≡ (joined book.0 lent.0, book.1) → both ≡ (hand ss is b p, [])
 together ss is b p book seat lent both of_book of_seat of_lent of_both =
     of_both ∙ (λ i. (joined (of_book i).0 ((of_lent ∙ ap (λ (m : Me Stamp Hand). (m.0, [])) of_seat) i).0, (of_book i).1)) ∙ (λ i. (hand (append-nil ss i) is (append-nil b i) p, []))
+
+-- a hand of seats and a lent hand of shards, put together
+pub together_seat : (ss is : List ℕ) (b p : List Stamp) (book seat lent both : Me Stamp Hand) → book ≡ (hand ss [] b [], []) → seat ≡ (hand [] is [] p, []) → lent ≡ (book.0, []) → both ≡ (joined seat.0 lent.0, seat.1) → both ≡ (hand ss is b p, [])
+together_seat ss is b p book seat lent both of_book of_seat of_lent of_both =
+    of_both ∙ (λ i. (joined (of_seat i).0 ((of_lent ∙ ap (λ (m : Me Stamp Hand). (m.0, [])) of_book) i).0, (of_seat i).1)) ∙ (λ i. (hand ss (append-nil is i) b (append-nil p i), []))

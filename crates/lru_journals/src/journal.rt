@@ -1,5 +1,5 @@
 //! A shard's history and a seat's receipts, which are tied.
-ghost use Rattle.std.specs.Prelude.{◌≡◌, ◌+◌, ◌<◌, [], ◌∷◌, ◌++◌, length, vec_len, vec_capacity, OnOk};
+ghost use Rattle.std.specs.Prelude.{◌≡◌, ℕ, ◌+◌, ◌<◌, [], ◌∷◌, ◌++◌, length, vec_len, vec_capacity, slice_get, Some, OnOk};
 ghost use Rattle.lru_journals.specs.Ties.{hand, Shows};
 ghost use Rattle.lru_journals.specs.Stamps.{entry, receipt, stamps_in, slips_in, TurnsRise, and_entry, and_receipt};
 
@@ -52,11 +52,11 @@ impl<B: Registry> Seat<B> {
         }
     }
 
-    /// What the seat's receipts and some shards' histories show of each other.
+    /// What the seat's receipts and some shards' histories show of each other. The seat stays as it is.
     pub fn compare(&mut self, tie: &Tie, book: &mut Token, names: Names)
         requires tie { (tie.now.table.shared.table_id ≡ B.table) × (tie.now.table.shared.key ≡ names) }
         requires book { (book.old.table_id ≡ B.table) × (book.old.me ≡ (hand book.old.me.0.shards [] book.old.me.0.book [], [])) }
-        ensures same { (self.new.number ≡ self.old.number) × (self.new.receipts.items ≡ self.old.receipts.items) }
+        ensures same { self.new ≡ self.old }
         ensures book { (book.new.table_id ≡ book.old.table_id) × (book.new.me ≡ book.old.me) }
         ensures shows { Shows names.shards names.seats (hand book.old.me.0.shards (self.old.number ∷ []) book.old.me.0.book (slips_in self.old.number 0 self.old.receipts.items)) }
     {
@@ -68,6 +68,18 @@ impl<B: Registry> Seat<B> {
         ensures { result.now ≡ self.now.receipts.items }
     {
         self.receipts.as_slice()
+    }
+}
+
+/// What the receipts of some seats and some shards' histories show of each other. The seats stay as they are.
+pub fn compare_all<B: Registry>(seats: &mut [Seat<B>], tie: &Tie, book: &mut Token, names: Names)
+    requires tie { (tie.now.table.shared.table_id ≡ B.table) × (tie.now.table.shared.key ≡ names) }
+    requires book { (book.old.table_id ≡ B.table) × (book.old.me ≡ (hand book.old.me.0.shards [] book.old.me.0.book [], [])) }
+    ensures same { seats.new ≡ seats.old }
+    ensures shows { (i : ℕ) (s : _) → slice_get seats.old i ≡ Some s → Shows names.shards names.seats (hand book.old.me.0.shards (s.number ∷ []) book.old.me.0.book (slips_in s.number 0 s.receipts.items)) }
+{
+    for seat in seats.iter_mut() {
+        seat.compare(tie, book, names);
     }
 }
 

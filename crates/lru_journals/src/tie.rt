@@ -9,15 +9,20 @@ use atomic_table::{Join, Play, Seat, Split, Table, TableRule};
 use std::alloc::{AllocError, Global};
 use std::marker::Brand;
 
-/// Names one table, and all that is tied by it.
+/// Names one table, all that is tied by it, and how many seats there are.
 pub trait Registry {
+    ghost use Rattle.std.specs.Prelude.{ℕ};
     ghost use Rattle.atomic_table.specs.Seated.{TableId};
 
     ghost table: { TableId };
+
+    ghost seats: { ℕ };
 }
 
 impl Registry for Brand {
     ghost table = { no_table };
+
+    ghost seats = { 0 };
 }
 
 /// The rule of the table.
@@ -65,6 +70,15 @@ impl Split<Hand> for Parts {
     ghost left = { λ v. hand v.shards [] v.book [] };
 
     ghost right = { λ v. hand [] v.seats [] v.slips };
+}
+
+// The seats with their slips stay, the shards with their book go.
+struct Apart;
+
+impl Split<Hand> for Apart {
+    ghost left = { λ v. hand [] v.seats [] v.slips };
+
+    ghost right = { λ v. hand v.shards [] v.book [] };
 }
 
 // The first shard goes, of a token without stamps.
@@ -158,11 +172,11 @@ impl Tie {
         self.table.shared.split_seat::<DealSeat>(rest)
     }
 
-    /// What a token shows of what it speaks for.
+    /// What a token shows of what it speaks for. It stays as it is.
     pub fn look(&self, token: &mut Token, names: Names)
         requires id { token.old.table_id ≡ self.now.table.shared.table_id }
         requires key { self.now.table.shared.key ≡ names }
-        ensures same { (token.new.table_id ≡ token.old.table_id) × (token.new.me ≡ token.old.me) }
+        ensures same { token.new ≡ token.old }
         ensures shows { Shows names.shards names.seats token.old.me.0 }
     {
         self.table
@@ -170,20 +184,21 @@ impl Tie {
             .compare_exchange::<Looking>(token, 0, names.shards, names.seats);
     }
 
-    /// What shards with their book and seats with their slips show together. Both tokens stay as they are.
+    /// What shards with their book and seats with their slips show together. The token of the seats stays as it is, and
+    /// that of the shards knows what it knew.
     pub fn compare(&self, book: &mut Token, seat: &mut Token, names: Names)
         requires ids { (book.old.table_id ≡ self.now.table.shared.table_id) × (seat.old.table_id ≡ self.now.table.shared.table_id) }
         requires key { self.now.table.shared.key ≡ names }
         requires book { book.old.me ≡ (hand book.old.me.0.shards [] book.old.me.0.book [], []) }
         requires seat { seat.old.me ≡ (hand [] seat.old.me.0.seats [] seat.old.me.0.slips, []) }
-        ensures ids { (book.new.table_id ≡ book.old.table_id) × (seat.new.table_id ≡ seat.old.table_id) }
-        ensures same { (book.new.me ≡ book.old.me) × (seat.new.me ≡ seat.old.me) }
+        ensures book { (book.new.table_id ≡ book.old.table_id) × (book.new.me ≡ book.old.me) }
+        ensures seat { seat.new ≡ seat.old }
         ensures shows { Shows names.shards names.seats (hand book.old.me.0.shards seat.old.me.0.seats book.old.me.0.book seat.old.me.0.slips) }
     {
-        let lent = self.table.shared.split_seat::<Lend>(seat);
-        self.table.shared.join_seat::<Both>(book, lent);
-        self.look(book, names);
-        *seat = self.table.shared.split_seat::<Parts>(book);
+        let lent = self.table.shared.split_seat::<Lend>(book);
+        self.table.shared.join_seat::<Both>(seat, lent);
+        self.look(seat, names);
+        *book = self.table.shared.split_seat::<Apart>(seat);
     }
 }
 

@@ -1,5 +1,5 @@
-pub mod Forgets
-pub mod Noted
-pub mod Calls
 pub mod Dealing
 pub mod Records
+pub mod Probing
+pub mod Gathering
+pub mod Vectors

@@ -5,7 +5,7 @@ use Rattle.lru_rules.specs.Limits.{cap_of}
 use Rattle.lru_journals.specs.declared.entry.Entry.{Entry}
 use Rattle.lru_journals.specs.declared.entry.Reply.{Reply}
 use Rattle.lru_journals.proofs.Lists.{some_same, none_some}
-use Rattle.lru_recorded.specs.Histories.{replies, answers, home, homes_from, shards_from, IsLegal, AreLegal}
+use Rattle.lru_recordings.specs.Histories.{replies, answers, home, homes_from, shards_from, IsLegal, AreLegal}
 
 pub homes_snoc : (n s : ℕ) (hs : List (List Entry)) (h : List Entry) → homes_from n s (hs ++ h ∷ []) ≡ homes_from n s hs ++ map (λ (e : Entry). home n (s + length hs) e.call) h ∷ []
 homes_snoc n s [] h = let k : s ≡ s + 0 = omega arith in λ i. map (λ (e : Entry). home n (k i) e.call) h ∷ []

@@ -1,3 +1,2 @@
-pub mod Plain
-pub mod Histories
-pub mod Replies
+pub mod Probes
+pub mod Gathered

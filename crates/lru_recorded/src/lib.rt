@@ -3,5 +3,3 @@
 
 mod gathered;
 pub mod recorded;
-mod recording;
-mod replies;

@@ -3,27 +3,33 @@ ghost use Rattle.std.specs.Prelude.{◌≡◌, ◌+◌, ◌-◌, ◌%◌, ◌<�
 ghost use Rattle.lru_journals.specs.declared.entry.Reply.TheVariants.{Flag, Weight};
 ghost use Rattle.lru_journals.specs.Stamps.{GetsReceipt};
 ghost use Rattle.lru_journals.specs.Ties.{hand, up};
-ghost use Rattle.lru_rules.specs.Limits.{cap_of};
-ghost use Rattle.lru_recorded.specs.Plain.{forget};
-ghost use Rattle.lru_recorded.specs.Histories.{IsEviction, left_by, AreLegal, lists_of};
-ghost use Rattle.lru_recorded.specs.Replies.{refused, weighed, paired, increments};
+ghost use Rattle.lru_journals.specs.Tied.{AreTied};
+ghost use Rattle.lru_rules.specs.Limits.{cap_of, is_past};
+ghost use Rattle.lru_recordings.specs.Plain.{forget};
+ghost use Rattle.lru_recordings.specs.Histories.{IsEviction, left_by, AreLegal, lists_of};
+ghost use Rattle.lru_recorded.specs.Probes.{Adds, AreProbes, FindsNone, IsRound};
+ghost use Rattle.lru_recordings.specs.Replies.{refused, weighed, paired, increments};
 
-use crate::gathered::Gathered;
-use crate::recording::Recording;
+use crate::gathered::{Gathered, Room};
 use lru_journals::entry::{Call, Entry, Names};
-use lru_journals::journal::Seat;
+use lru_journals::journal::{Seat, compare_all};
 use lru_journals::tie::{Blank, Registry, Tie, Token};
+use lru_recordings::recording::Recording;
+use lru_rules::eviction::{EvictError, drawn_shards, place_after};
 use lru_rules::totals::Totals;
 use lru_shard::unit::{Cause, LruUnit, Refused};
+use rand_core::Rng;
 use std::alloc::{AllocError, Global};
 use std::marker::PhantomData;
 use std::sync::atomic::{AtomicUsize, Ordering};
 use std::sync::{Mutex, Wait};
 
-// What is left of a token once all its shards and seats are dealt. It stands behind a lock, since a token may not be shared.
+// What `finish` takes: the token of which all shards and seats were dealt, and room for the shards. It stands behind a
+// lock, since neither may be shared.
 #[derive(Drop)]
-struct Rest<B: Registry> {
+struct Rest<T, B: Registry, const N: usize> {
     token: Token,
+    room: Room<T, N>,
     brand: PhantomData<B>,
     ghost here: { token.table_id ≡ B.table },
     ghost empty: { token.me ≡ (hand [] [] [] [], []) },
@@ -44,7 +50,7 @@ pub struct RecordedLru<T, B: Registry, const N: usize> {
     len: AtomicUsize,
     weight_limit: usize,
     watermark: Option<usize>,
-    rest: Mutex<Rest<B>>,
+    rest: Mutex<Rest<T, B, N>>,
     names: Names,
     ghost some: { 0 < N },
     ghost tie_is: { tie.table.shared.table_id ≡ B.table },
@@ -52,6 +58,7 @@ pub struct RecordedLru<T, B: Registry, const N: usize> {
     ghost has_shards: { vec_len shards ≡ N },
     ghost has_lens: { vec_len lens ≡ N },
     ghost names_are: { names.shards ≡ N },
+    ghost seats_are: { names.seats ≡ B.seats },
 }
 
 // What a sum modulo 2^64 grows by where one of its numbers changes.
@@ -121,20 +128,6 @@ pub struct Recorded<T, B: Registry, const N: usize> {
     pub seats: Vec<Seat<B>>,
 }
 
-// Takes the shards out of their locks.
-fn gather<T: Drop, B: Registry, const N: usize>(
-    alloc: Global,
-    shards: Vec<Mutex<Recording<T, B, N>>>,
-) -> Result<Gathered<T, N>, AllocError> {
-    let mut all = Gathered::new(alloc);
-    for lock in shards {
-        if !all.add(lock.into_inner()) {
-            return Err(AllocError);
-        }
-    }
-    Ok(all)
-}
-
 impl<T: Drop, B: Registry, const N: usize> RecordedLru<T, B, N> {
     /// An empty `RecordedLru` with a limit on its weight and, where there is a watermark, on its length, and one seat for
     /// each caller. Each shard has room for `capacity` rows, and may weigh `usize::MAX / N`.
@@ -148,6 +141,7 @@ impl<T: Drop, B: Registry, const N: usize> RecordedLru<T, B, N> {
     ) -> Result<(Self, Vec<Seat<B>>), AllocError>
         requires some { 0 < N }
         requires blank { (blank.tie.table.shared.table_id ≡ B.table) × (blank.tie.table.shared.key ≡ record { shards = N; seats = callers }) }
+        requires callers { B.seats ≡ callers }
         ensures { IfOk result (λ r. map (λ s. s.number) r.1.items ≡ up 0 callers) }
     {
         let Blank { tie, token } = blank;
@@ -164,6 +158,7 @@ impl<T: Drop, B: Registry, const N: usize> RecordedLru<T, B, N> {
             watermark,
             rest: Mutex::new(Rest {
                 token: rest,
+                room: Room::new(alloc)?,
                 brand: PhantomData,
             }),
             names: Names {
@@ -475,6 +470,99 @@ impl<T: Drop, B: Registry, const N: usize> RecordedLru<T, B, N> {
         answer
     }
 
+    // Probes shards from this one on and round the circle, up to the first one that is not empty.
+    fn evict_near(
+        &self,
+        rt: &impl Wait,
+        seat: &mut Seat<B>,
+        from: usize,
+    ) -> Result<Option<(T, usize)>, AllocError>
+        requires { from < N }
+        ensures ok { IfOk result (λ pair. Adds (IsRound N pair) seat.old.receipts.items seat.new.receipts.items) }
+        ensures err { OnErr result (Adds (FindsNone N) seat.old.receipts.items seat.new.receipts.items) }
+        ensures seat { seat.new.number ≡ seat.old.number }
+    {
+        for steps in 0..N {
+            let shard = place_after(from, steps, N);
+            let pair = self.evict_from(rt, seat, shard, Call::EvictToLimit)?;
+            if pair.is_some() {
+                return Ok(pair);
+            }
+        }
+        Ok(None)
+    }
+
+    // The longer of two drawn shards, a first and b second, by the lengths as read; a where they are as long.
+    fn drawn_shard<R: Rng>(&self, rng: &mut R) -> usize
+        ensures below { result < N }
+        ensures undrawn { N ≡ 1 → rng.new ≡ rng.old }
+    {
+        let _shards = &self.shards;
+        let (a, b) = drawn_shards::<R, N>(rng);
+        if self.lens[a].load(Ordering::SeqCst) >= self.lens[b].load(Ordering::SeqCst) {
+            a
+        } else {
+            b
+        }
+    }
+
+    // Whether a weight or a length is past its limit.
+    fn is_past(&self, weight: usize, len: usize) -> bool
+        ensures { result ≡ is_past self.now.weight_limit self.now.watermark weight len }
+    {
+        weight > self.weight_limit
+            || match self.watermark {
+                None => false,
+                Some(most) => len > most,
+            }
+    }
+
+    /// Evicts while the order is over, and answers the data and the weight of each evicted row, in order. For each it
+    /// makes room for a pair, draws two shards and probes from the longer one on, as an `Lru` does, up to the first one
+    /// that is not empty. Each probe is noted, with the weight of the row that it found: at most N for each pair, and N
+    /// more where all shards are found empty.
+    ///
+    /// Other threads may add and remove rows meanwhile. It is over as long as the value that it first read, less what it
+    /// evicted, and the value now are both past the limit. It ends after as many evictions as there were rows at its
+    /// start, and where it finds all shards empty.
+    ///
+    /// Where a growth is refused, the pairs evicted so far are handed back.
+    pub fn evict_to_limit<R: Rng>(
+        &self,
+        rt: &impl Wait,
+        alloc: Global,
+        seat: &mut Seat<B>,
+        rng: &mut R,
+    ) -> Result<Vec<(T, usize)>, EvictError<T>>
+        ensures ok { IfOk result (λ pairs. Adds (AreProbes N (map (λ pair. pair.1) pairs.items)) seat.old.receipts.items seat.new.receipts.items) }
+        ensures err { IfErr result (λ stopped. Adds (AreProbes N (map (λ pair. pair.1) stopped.evicted.items)) seat.old.receipts.items seat.new.receipts.items) }
+        ensures undrawn { N ≡ 1 → rng.new ≡ rng.old }
+        ensures seat { seat.new.number ≡ seat.old.number }
+    {
+        let mut weight = self.weight.load(Ordering::SeqCst);
+        let len = self.len.load(Ordering::SeqCst);
+        let mut evicted = Vec::new(alloc);
+        for count in 0..len {
+            let weight_now = self.weight.load(Ordering::SeqCst);
+            let len_now = self.len.load(Ordering::SeqCst);
+            if !self.is_past(weight.min(weight_now), len_now.min(len - count)) {
+                break;
+            }
+            if evicted.reserve(1).is_err() {
+                return Err(EvictError { evicted });
+            }
+            let Ok(found) = self.evict_near(rt, seat, self.drawn_shard(rng)) else {
+                return Err(EvictError { evicted });
+            };
+            let Some(pair) = found else {
+                return Ok(evicted);
+            };
+            weight = weight.saturating_sub(pair.1);
+            evicted.push_reserved(pair);
+        }
+        Ok(evicted)
+    }
+
     /// The data, cloned, and the weight of the row of a shard that was used longest ago; `None` of an empty shard, and
     /// past N, where nothing is noted. A clone has to equal its source.
     pub fn peek_lru(
@@ -501,25 +589,37 @@ impl<T: Drop, B: Registry, const N: usize> RecordedLru<T, B, N> {
         recording.peek_lru(&self.tie, seat)
     }
 
-    /// Ends all calls, and answers the shards, their histories and the seats, as they are.
+    /// Ends all calls, and answers the shards, their histories and the seats, as they are. The seats are those that `new`
+    /// gave, in their order. It takes no memory.
     ///
     /// Each history is one that one thread could have made: from the empty list on, each reply is the plain list's at
-    /// that point, and each call is of that shard. Each shard has the keys and weights at the end of its history.
-    pub fn finish(self, alloc: Global, seats: Vec<Seat<B>>) -> Result<Recorded<T, B, N>, AllocError>
-        ensures count { IfOk result (λ r. (vec_len r.units ≡ N) × (vec_len r.histories ≡ N)) }
-        ensures units { IfOk result (λ r. map (λ u. forget u.rows) r.units.items ≡ map (left_by (cap_of N) []) (lists_of r.histories.items)) }
-        ensures legal { IfOk result (λ r. AreLegal N (lists_of r.histories.items)) }
-        ensures seats { IfOk result (λ r. r.seats ≡ seats) }
+    /// that point, and each call is of that shard. Each shard has the keys and weights at the end of its history. The
+    /// receipts of all seats are the entries of all histories, each once.
+    pub fn finish(self, seats: Vec<Seat<B>>) -> Recorded<T, B, N>
+        requires { map (λ s. s.number) seats.items ≡ up 0 B.seats }
+        ensures count { (vec_len result.units ≡ N) × (vec_len result.histories ≡ N) }
+        ensures units { map (λ u. forget u.rows) result.units.items ≡ map (left_by (cap_of N) []) (lists_of result.histories.items) }
+        ensures legal { AreLegal N (lists_of result.histories.items) }
+        ensures seats { result.seats ≡ seats }
+        ensures tied { AreTied (lists_of result.histories.items) (map (λ s. s.receipts.items) seats.items) }
     {
-        let RecordedLru { shards, .. } = self;
-        let Gathered { units, histories } = gather(alloc, shards)?;
-        if units.len() != N || histories.len() != N {
-            return Err(AllocError);
-        }
-        Ok(Recorded {
+        let RecordedLru {
+            tie,
+            shards,
+            rest,
+            names,
+            ..
+        } = self;
+        let Rest { token, room, .. } = rest.into_inner();
+        let mut book = token;
+        let Gathered { units, histories } = room.fill(&tie, names, &mut book, shards);
+        tie.look(&mut book, names);
+        let mut seats = seats;
+        compare_all(seats.as_mut_slice(), &tie, &mut book, names);
+        Recorded {
             units,
             histories,
             seats,
-        })
+        }
     }
 }

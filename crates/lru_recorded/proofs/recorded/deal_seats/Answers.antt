@@ -4,7 +4,7 @@ use Rattle.lru_journals.specs.declared.entry.Stamp.{Stamp}
 use Rattle.lru_journals.specs.declared.entry.Hand.{Hand}
 use Rattle.lru_journals.specs.Ties.{hand, up}
 use Rattle.lru_recorded.proofs.Dealing.{up_rest, up_snoc}
-use Rattle.lru_recorded.proofs.Noted.{map_snoc}
+use Rattle.lru_recordings.proofs.Noted.{map_snoc}
 use Rattle.lru_recorded.proofs.recorded.deal_seats.Goals as goal
 
 pub new-requires : goal.new-requires

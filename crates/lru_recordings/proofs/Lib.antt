@@ -1,0 +1,3 @@
+pub mod Forgets
+pub mod Noted
+pub mod Calls

@@ -1,0 +1,57 @@
+use Rattle.std.proofs.Common.{◌≡◌, ◌∙◌, ℕ, [], ◌∷◌, ◌++◌, length, max, refl, ap, sym, subst}
+use Rattle.std.specs.Prelude.{Some, None, Ok, Err}
+use Rattle.lru_shard.specs.Row.{row, first}
+use Rattle.lru_shard.specs.Shard.{size_of, refusal}
+use Rattle.lru_journals.specs.Stamps.{receipt, and_receipt}
+use Rattle.lru_recordings.specs.Plain.{forget}
+use Rattle.lru_journals.specs.declared.entry.Call.TheVariants.{UpdateOrAdmit}
+use Rattle.lru_journals.specs.declared.entry.Reply.TheVariants.{Refused}
+use Rattle.lru_shard.proofs.EditsOf.{edits_update}
+use Rattle.lru_recordings.proofs.Calls.{stands_update, refused_update, stands_refused}
+use Rattle.lru_recordings.proofs.Noted.{keeps}
+use Rattle.lru_recordings.proofs.recording.Recording.update_or_admit.Goals as goal
+
+pub invariant_of-self-in-Ok : goal.invariant_of-self-in-Ok
+invariant_of-self-in-Ok g c =
+    let old = c.args.self.now in
+    let new = c.update_or_admit-answer.new.self in
+    let kept = keeps g.row.N old.journal.number c.note.new.self.number _ _ old.unit new old.journal.history.items c.reserve.new.self.history.items c.note.new.self.history.items (UpdateOrAdmit c.args.key c.in-Ok.weight) _ (Some c.weighed.result) old.below old.capped old.ends old.right old.homes
+    c.requires.home (edits_update _ _ old.unit c.args.key (Ok (c.in-Ok.was, c.in-Ok.weight)) new c.in-Ok.ensures).caps (stands_update _ _ old.unit new c.args.key c.in-Ok.was c.in-Ok.weight c.in-Ok.ensures)
+    (ap Some c.weighed.ensures) c.reserve.ensures.history.1 c.note.ensures.history.1 (c.note.ensures.history.0 ∙ c.reserve.ensures.history.0) in
+    record { below = kept.below; capped = kept.capped; ends = kept.told.ends; right = kept.told.right; homes = kept.told.homes }
+
+pub invariant_of-self-in_default : goal.invariant_of-self-in_default
+invariant_of-self-in_default g c =
+    let old = c.args.self.now in
+    let new = c.update_or_admit-answer.new.self in
+    let kept = keeps g.row.N old.journal.number c.reserve.new.self.number 0 0 old.unit new old.journal.history.items c.reserve.new.self.history.items c.reserve.new.self.history.items (UpdateOrAdmit c.args.key 0) None None old.below old.capped old.ends old.right old.homes
+    c.requires.home (edits_update _ _ old.unit c.args.key (Err c.in-Err.refusal) new c.in-Err.ensures).caps (refused_update _ _ old.unit new c.args.key c.in-Err.refusal c.in-Err.ensures)
+    refl c.reserve.ensures.history.1 refl c.reserve.ensures.history.0 in
+    record { below = kept.below; capped = kept.capped; ends = kept.told.ends; right = kept.told.right; homes = kept.told.homes }
+
+pub invariant_of-self-2 : goal.invariant_of-self-2
+invariant_of-self-2 g c =
+    let old = c.args.self.now in
+    let new = c.update_or_admit-answer.new.self in
+    let w = c.match-refusal.weight in
+    let cause = c.in-Some-refusal_of.cause in
+    let caps = (edits_update _ _ old.unit c.args.key (Err c.in-Err.refusal) new c.in-Err.ensures).caps in
+    let same = refused_update _ _ old.unit new c.args.key c.in-Err.refusal c.in-Err.ensures in
+    let why = subst (λ (x : ℕ). refusal x (size_of (forget new.rows)) (size_of (first (forget new.rows) (row c.args.key tt w))) ≡ Some cause) caps c.in-Some-refusal_of.ensures.why in
+    let kept = keeps g.row.N old.journal.number c.note-2.new.self.number _ _ old.unit new old.journal.history.items c.reserve.new.self.history.items c.note-2.new.self.history.items (UpdateOrAdmit c.args.key w) _ (Some (Refused cause)) old.below old.capped old.ends old.right old.homes
+    c.requires.home caps (stands_refused old.unit new c.args.key w cause why same)
+    refl c.reserve.ensures.history.1 c.note-2.ensures.history.1 (c.note-2.ensures.history.0 ∙ c.reserve.ensures.history.0) in
+    record { below = kept.below; capped = kept.capped; ends = kept.told.ends; right = kept.told.right; homes = kept.told.homes }
+
+pub returns-clause-err : goal.returns-clause-err
+returns-clause-err g c =
+    let call = UpdateOrAdmit c.args.key c.match-refusal.weight in
+    let cause = c.in-Some-refusal_of.cause in (
+      c.match-refusal.weight,
+      (
+        length c.reserve.new.self.history.items,
+        c.note-2.ensures.receipts.1
+            ∙ (λ i. c.reserve.ensures.receipts.1 i ++ receipt (c.reserve.ensures.history.0 i) (length c.reserve.new.self.history.items) call (Refused cause) ∷ [])
+            ∙ ap (and_receipt c.args.seat.now.receipts.items c.args.self.now.journal.number (length c.reserve.new.self.history.items) call) (sym c.in-Some-refusal_of.ensures.noted),
+      ),
+    )

@@ -1,0 +1,428 @@
+//! One shard with its history: each call on it is made and noted.
+ghost use Rattle.std.specs.Prelude.{◌≡◌, ◌%◌, ◌<◌, [], ◌∷◌, max, map, option_map, Some, None, IfOk, IfErr, IfSome, OnErr};
+ghost use Rattle.lru_shard.specs.Row.{row, first, is_held, last_row, pair_of};
+ghost use Rattle.lru_shard.specs.Shard.{shard, size_of, refusal};
+ghost use Rattle.lru_shard.specs.Unit.{Updates};
+ghost use Rattle.lru_rules.specs.Limits.{cap_of};
+ghost use Rattle.lru_rules.specs.ShardCalls.{promoted_past};
+ghost use Rattle.lru_journals.specs.Stamps.{GetsReceipt};
+ghost use Rattle.lru_journals.specs.Ties.{hand};
+ghost use Rattle.lru_recordings.specs.Plain.{forget};
+ghost use Rattle.lru_recordings.specs.Histories.{left_by, answers, replies, home, IsEviction};
+ghost use Rattle.lru_recordings.specs.Replies.{refused, weighed, paired, increments};
+
+use crate::replies::{admitted, incremented, inserted, new_weight, paired, set, weighed};
+use lru_journals::entry::{Call, Reply};
+use lru_journals::journal::{Journal, Seat};
+use lru_journals::tie::{Registry, Tie, Token};
+use lru_shard::unit::{Cause, LruUnit, Refused};
+use std::alloc::{AllocError, Global};
+
+// The most rows that any shard has.
+const MOST_ROWS: usize = 4294967293;
+
+/// A shard, and its calls so far.
+#[derive(Drop)]
+pub struct Recording<T, B: Registry, const N: usize> {
+    pub unit: LruUnit<T>,
+    pub journal: Journal<B>,
+    pub ghost below: { journal.number < N },
+    pub ghost capped: { unit.cap ≡ cap_of N },
+    pub ghost ends: { forget unit.rows ≡ left_by (cap_of N) [] journal.history.items },
+    pub ghost right: { replies journal.history.items ≡ answers (cap_of N) [] journal.history.items },
+    pub ghost homes: { map (λ e. home N journal.number e.call) journal.history.items ≡ map (λ _. journal.number) journal.history.items },
+}
+
+fn increments(key: u64, delta: usize, max_weight: Option<usize>) -> Call
+    ensures { result ≡ increments key delta max_weight }
+{
+    match max_weight {
+        None => Call::IncrementWeight { key, delta },
+        Some(max_weight) => Call::IncrementWeightUpTo {
+            key,
+            delta,
+            max_weight,
+        },
+    }
+}
+
+// Updates data, and keeps the weight that comes of it, at least 1.
+fn applied<T, U: FnOnce(&mut T, usize) -> usize>(
+    update: U,
+    data: &mut T,
+    old: usize,
+    given: &mut usize,
+) -> usize
+    requires { U.IsAlwaysCallable update }
+    ensures given { given.new ≡ max result 1 }
+    ensures weight { Updates (U.post update) data.old old result data.new }
+{
+    let weight = update(data, old);
+    *given = weight.max(1);
+    weight
+}
+
+// Puts a key's row first unless it is among the first `top`, and answers whether there is one.
+fn promote_past<T>(unit: &mut LruUnit<T>, key: u64, top: usize) -> bool
+    ensures answer { result ≡ is_held unit.old.rows key }
+    ensures rows { unit.new ≡ shard (promoted_past unit.old.rows key top) unit.old.cap }
+{
+    if unit.need_promote(key, top) {
+        unit.access(key)
+    } else {
+        true
+    }
+}
+
+fn holds<T>(unit: &LruUnit<T>, key: u64) -> bool
+    ensures { result ≡ is_held unit.now.rows key }
+{
+    unit.peek(key).is_some()
+}
+
+// The data, cloned, and the weight of the last row.
+fn cloned_last<T: Clone>(unit: &LruUnit<T>) -> Result<Option<(T, usize)>, AllocError>
+    requires { (d e : T) → T.is_clone d e → e ≡ d }
+    ensures { IfOk result (λ found. found ≡ option_map pair_of (last_row unit.now.rows)) }
+{
+    let Some((data, weight)) = unit.peek_lru() else {
+        return Ok(None);
+    };
+    Ok(Some((data.clone()?, weight)))
+}
+
+// Why a key is refused this weight under the shard's cap, whatever memory there is, as far as it is.
+fn refusal_of<T>(unit: &LruUnit<T>, cap: usize, key: u64, weight: usize) -> Option<Cause>
+    requires { unit.now.cap ≡ cap }
+    ensures why { IfSome result (λ cause. refusal unit.now.cap (size_of (forget unit.now.rows)) (size_of (first (forget unit.now.rows) (row key tt weight))) ≡ Some cause) }
+    ensures noted { IfSome result (λ cause. refused cause ≡ Some (Reply.Refused cause)) }
+{
+    let used = unit.used_weight();
+    let Some(old) = unit.peek_weight(key) else {
+        return if unit.len() >= cap.min(MOST_ROWS) {
+            Some(Cause::Length)
+        } else if weight > cap - used {
+            Some(Cause::Weight)
+        } else {
+            None
+        };
+    };
+    if weight > cap - (used - old) {
+        Some(Cause::Weight)
+    } else {
+        None
+    }
+}
+
+impl<T: Drop, B: Registry, const N: usize> Recording<T, B, N> {
+    pub fn new(
+        alloc: Global,
+        capacity: usize,
+        number: usize,
+        token: Token,
+    ) -> Result<Self, AllocError>
+        requires number { number < N }
+        requires token { (token.table_id ≡ B.table) × (token.me ≡ (hand (number ∷ []) [] [] [], [])) }
+    {
+        Ok(Recording {
+            unit: LruUnit::with_capacity(alloc, capacity, usize::MAX / N)?,
+            journal: Journal::new(alloc, number, token),
+        })
+    }
+
+    pub fn admit(
+        &mut self,
+        tie: &Tie,
+        seat: &mut Seat<B>,
+        key: u64,
+        data: T,
+        weight: usize,
+    ) -> Result<usize, Refused<T>>
+        requires tie { tie.now.table.shared.table_id ≡ B.table }
+        requires home { key % N ≡ self.old.journal.number }
+        ensures ok { IfOk result (λ was. GetsReceipt seat.old.receipts.items self.old.journal.number (Call.Admit key weight) (Some (Reply.Weight was)) seat.new.receipts.items) }
+        ensures err { IfErr result (λ r. GetsReceipt seat.old.receipts.items self.old.journal.number (Call.Admit key weight) (refused r.cause) seat.new.receipts.items) }
+        ensures held { IfErr result (λ r. r.held ≡ «data») }
+        ensures same { (self.new.journal.number ≡ self.old.journal.number) × (seat.new.number ≡ seat.old.number) }
+    {
+        let Recording { unit, journal } = self;
+        if journal.reserve(seat).is_err() {
+            return Err(Refused {
+                cause: Cause::Memory,
+                held: data,
+            });
+        }
+        let answer = unit.admit(key, data, weight.max(1));
+        journal.note_reply(tie, seat, Call::Admit { key, weight }, admitted(&answer));
+        answer
+    }
+
+    pub fn insert_tail(
+        &mut self,
+        tie: &Tie,
+        seat: &mut Seat<B>,
+        key: u64,
+        data: T,
+        weight: usize,
+    ) -> Result<bool, Refused<T>>
+        requires tie { tie.now.table.shared.table_id ≡ B.table }
+        requires home { key % N ≡ self.old.journal.number }
+        ensures ok { IfOk result (λ added. GetsReceipt seat.old.receipts.items self.old.journal.number (Call.InsertTail key weight) (Some (Reply.Flag added)) seat.new.receipts.items) }
+        ensures err { IfErr result (λ r. GetsReceipt seat.old.receipts.items self.old.journal.number (Call.InsertTail key weight) (refused r.cause) seat.new.receipts.items) }
+        ensures held { IfErr result (λ r. r.held ≡ «data») }
+        ensures same { (self.new.journal.number ≡ self.old.journal.number) × (seat.new.number ≡ seat.old.number) }
+    {
+        let Recording { unit, journal } = self;
+        if journal.reserve(seat).is_err() {
+            return Err(Refused {
+                cause: Cause::Memory,
+                held: data,
+            });
+        }
+        let answer = unit.insert_tail(key, data, weight);
+        journal.note_reply(
+            tie,
+            seat,
+            Call::InsertTail { key, weight },
+            inserted(&answer),
+        );
+        answer
+    }
+
+    pub fn increment_weight<F: FnOnce() -> T + Drop>(
+        &mut self,
+        tie: &Tie,
+        seat: &mut Seat<B>,
+        key: u64,
+        admit_data: F,
+        delta: usize,
+        max_weight: Option<usize>,
+    ) -> Result<usize, Cause>
+        requires tie { tie.now.table.shared.table_id ≡ B.table }
+        requires home { key % N ≡ self.old.journal.number }
+        requires callable { F.IsAlwaysCallable admit_data }
+        ensures ok { IfOk result (λ weight. GetsReceipt seat.old.receipts.items self.old.journal.number (increments key delta max_weight) (Some (Reply.Weight weight)) seat.new.receipts.items) }
+        ensures err { IfErr result (λ cause. GetsReceipt seat.old.receipts.items self.old.journal.number (increments key delta max_weight) (refused cause) seat.new.receipts.items) }
+        ensures same { (self.new.journal.number ≡ self.old.journal.number) × (seat.new.number ≡ seat.old.number) }
+    {
+        let Recording { unit, journal } = self;
+        if journal.reserve(seat).is_err() {
+            return Err(Cause::Memory);
+        }
+        let answer = new_weight(unit.increment_weight(key, admit_data, delta, max_weight));
+        let call = increments(key, delta, max_weight);
+        journal.note_reply(tie, seat, call, incremented(answer));
+        answer
+    }
+
+    pub fn set_weight(
+        &mut self,
+        tie: &Tie,
+        seat: &mut Seat<B>,
+        key: u64,
+        weight: usize,
+    ) -> Result<Option<usize>, Cause>
+        requires tie { tie.now.table.shared.table_id ≡ B.table }
+        requires home { key % N ≡ self.old.journal.number }
+        ensures ok { IfOk result (λ was. GetsReceipt seat.old.receipts.items self.old.journal.number (Call.SetWeight key weight) (Some (weighed was)) seat.new.receipts.items) }
+        ensures err { IfErr result (λ cause. GetsReceipt seat.old.receipts.items self.old.journal.number (Call.SetWeight key weight) (refused cause) seat.new.receipts.items) }
+        ensures same { (self.new.journal.number ≡ self.old.journal.number) × (seat.new.number ≡ seat.old.number) }
+    {
+        let Recording { unit, journal } = self;
+        if journal.reserve(seat).is_err() {
+            return Err(Cause::Memory);
+        }
+        let answer = unit.set_weight(key, weight.max(1));
+        journal.note_reply(tie, seat, Call::SetWeight { key, weight }, set(answer));
+        answer
+    }
+
+    pub fn promote(&mut self, tie: &Tie, seat: &mut Seat<B>, key: u64) -> Result<bool, AllocError>
+        requires tie { tie.now.table.shared.table_id ≡ B.table }
+        requires home { key % N ≡ self.old.journal.number }
+        ensures ok { IfOk result (λ held. GetsReceipt seat.old.receipts.items self.old.journal.number (Call.Promote key) (Some (Reply.Flag held)) seat.new.receipts.items) }
+        ensures err { OnErr result (seat.new.receipts.items ≡ seat.old.receipts.items) }
+        ensures same { (self.new.journal.number ≡ self.old.journal.number) × (seat.new.number ≡ seat.old.number) }
+    {
+        let Recording { unit, journal } = self;
+        journal.reserve(seat)?;
+        let answer = unit.access(key);
+        journal.note(tie, seat, Call::Promote { key }, Reply::Flag(answer));
+        Ok(answer)
+    }
+
+    pub fn promote_top_n(
+        &mut self,
+        tie: &Tie,
+        seat: &mut Seat<B>,
+        key: u64,
+        top: usize,
+    ) -> Result<bool, AllocError>
+        requires tie { tie.now.table.shared.table_id ≡ B.table }
+        requires home { key % N ≡ self.old.journal.number }
+        ensures ok { IfOk result (λ held. GetsReceipt seat.old.receipts.items self.old.journal.number (Call.PromoteTopN key top) (Some (Reply.Flag held)) seat.new.receipts.items) }
+        ensures err { OnErr result (seat.new.receipts.items ≡ seat.old.receipts.items) }
+        ensures same { (self.new.journal.number ≡ self.old.journal.number) × (seat.new.number ≡ seat.old.number) }
+    {
+        let Recording { unit, journal } = self;
+        journal.reserve(seat)?;
+        let answer = promote_past(unit, key, top);
+        journal.note(
+            tie,
+            seat,
+            Call::PromoteTopN { key, top },
+            Reply::Flag(answer),
+        );
+        Ok(answer)
+    }
+
+    pub fn evict(
+        &mut self,
+        tie: &Tie,
+        seat: &mut Seat<B>,
+        call: Call,
+    ) -> Result<Option<(T, usize)>, AllocError>
+        requires tie { tie.now.table.shared.table_id ≡ B.table }
+        requires call { IsEviction N self.old.journal.number call }
+        ensures ok { IfOk result (λ pair. GetsReceipt seat.old.receipts.items self.old.journal.number (call) (Some (paired pair)) seat.new.receipts.items) }
+        ensures err { OnErr result (seat.new.receipts.items ≡ seat.old.receipts.items) }
+        ensures same { (self.new.journal.number ≡ self.old.journal.number) × (seat.new.number ≡ seat.old.number) }
+    {
+        let Recording { unit, journal } = self;
+        journal.reserve(seat)?;
+        let answer = unit.evict();
+        journal.note(tie, seat, call, paired(&answer));
+        Ok(answer)
+    }
+
+    pub fn remove(
+        &mut self,
+        tie: &Tie,
+        seat: &mut Seat<B>,
+        key: u64,
+    ) -> Result<Option<(T, usize)>, AllocError>
+        requires tie { tie.now.table.shared.table_id ≡ B.table }
+        requires home { key % N ≡ self.old.journal.number }
+        ensures ok { IfOk result (λ pair. GetsReceipt seat.old.receipts.items self.old.journal.number (Call.Remove key) (Some (paired pair)) seat.new.receipts.items) }
+        ensures err { OnErr result (seat.new.receipts.items ≡ seat.old.receipts.items) }
+        ensures same { (self.new.journal.number ≡ self.old.journal.number) × (seat.new.number ≡ seat.old.number) }
+    {
+        let Recording { unit, journal } = self;
+        journal.reserve(seat)?;
+        let answer = unit.remove(key);
+        journal.note(tie, seat, Call::Remove { key }, paired(&answer));
+        Ok(answer)
+    }
+
+    pub fn peek(&mut self, tie: &Tie, seat: &mut Seat<B>, key: u64) -> Result<bool, AllocError>
+        requires tie { tie.now.table.shared.table_id ≡ B.table }
+        requires home { key % N ≡ self.old.journal.number }
+        ensures ok { IfOk result (λ held. GetsReceipt seat.old.receipts.items self.old.journal.number (Call.Peek key) (Some (Reply.Flag held)) seat.new.receipts.items) }
+        ensures err { OnErr result (seat.new.receipts.items ≡ seat.old.receipts.items) }
+        ensures same { (self.new.journal.number ≡ self.old.journal.number) × (seat.new.number ≡ seat.old.number) }
+    {
+        let Recording { unit, journal } = self;
+        journal.reserve(seat)?;
+        let answer = holds(unit, key);
+        journal.note(tie, seat, Call::Peek { key }, Reply::Flag(answer));
+        Ok(answer)
+    }
+
+    pub fn peek_weight(
+        &mut self,
+        tie: &Tie,
+        seat: &mut Seat<B>,
+        key: u64,
+    ) -> Result<Option<usize>, AllocError>
+        requires tie { tie.now.table.shared.table_id ≡ B.table }
+        requires home { key % N ≡ self.old.journal.number }
+        ensures ok { IfOk result (λ weight. GetsReceipt seat.old.receipts.items self.old.journal.number (Call.PeekWeight key) (Some (weighed weight)) seat.new.receipts.items) }
+        ensures err { OnErr result (seat.new.receipts.items ≡ seat.old.receipts.items) }
+        ensures same { (self.new.journal.number ≡ self.old.journal.number) × (seat.new.number ≡ seat.old.number) }
+    {
+        let Recording { unit, journal } = self;
+        journal.reserve(seat)?;
+        let answer = unit.peek_weight(key);
+        journal.note(tie, seat, Call::PeekWeight { key }, weighed(answer));
+        Ok(answer)
+    }
+
+    pub fn peek_lru(
+        &mut self,
+        tie: &Tie,
+        seat: &mut Seat<B>,
+    ) -> Result<Option<(T, usize)>, AllocError>
+    where
+        T: Clone,
+        requires tie { tie.now.table.shared.table_id ≡ B.table }
+        requires clones { (d e : T) → T.is_clone d e → e ≡ d }
+        ensures ok { IfOk result (λ pair. GetsReceipt seat.old.receipts.items self.old.journal.number (Call.PeekLru) (Some (paired pair)) seat.new.receipts.items) }
+        ensures err { OnErr result (seat.new.receipts.items ≡ seat.old.receipts.items) }
+        ensures same { (self.new.journal.number ≡ self.old.journal.number) × (seat.new.number ≡ seat.old.number) }
+    {
+        let Recording { unit, journal } = self;
+        journal.reserve(seat)?;
+        let answer = cloned_last(unit)?;
+        journal.note(tie, seat, Call::PeekLru, paired(&answer));
+        Ok(answer)
+    }
+
+    pub fn update_or_admit<U, A>(
+        &mut self,
+        tie: &Tie,
+        seat: &mut Seat<B>,
+        key: u64,
+        update: U,
+        admit_data: A,
+    ) -> Result<Option<usize>, Refused<Option<(T, usize)>>>
+    where
+        U: FnOnce(&mut T, usize) -> usize + Drop,
+        A: FnOnce() -> (T, usize) + Drop,
+        requires tie { tie.now.table.shared.table_id ≡ B.table }
+        requires home { key % N ≡ self.old.journal.number }
+        requires update { U.IsAlwaysCallable update }
+        requires admit_data { A.IsAlwaysCallable admit_data }
+        ensures ok { IfOk result (λ was. (w : _) × GetsReceipt seat.old.receipts.items self.old.journal.number (Call.UpdateOrAdmit key w) (Some (weighed was)) seat.new.receipts.items) }
+        ensures err { IfErr result (λ r. (w : _) × GetsReceipt seat.old.receipts.items self.old.journal.number (Call.UpdateOrAdmit key w) (refused r.cause) seat.new.receipts.items) }
+        ensures same { (self.new.journal.number ≡ self.old.journal.number) × (seat.new.number ≡ seat.old.number) }
+    {
+        let Recording { unit, journal } = self;
+        if journal.reserve(seat).is_err() {
+            return Err(Refused {
+                cause: Cause::Memory,
+                held: None,
+            });
+        }
+        let mut given = 0;
+        let answer = unit.update_or_admit(
+            key,
+            |data: &mut T, old: usize| -> usize
+                requires { U.IsAlwaysCallable update }
+                ensures { Updates (U.post update) data.old old result data.new }
+            { applied(update, data, old, &mut given) },
+            admit_data,
+        );
+        let refusal = match answer {
+            Ok((was, weight)) => {
+                journal.note(tie, seat, Call::UpdateOrAdmit { key, weight }, weighed(was));
+                return Ok(was);
+            }
+            Err(refusal) => refusal,
+        };
+        let weight = match &refusal.held {
+            Some((_, made)) => (*made).max(1),
+            None => given,
+        };
+        // No proof knows what a closure wrote to what it had captured, so the refusal is looked up again.
+        let held = refusal.held;
+        let Some(cause) = refusal_of(unit, usize::MAX / N, key, weight) else {
+            return Err(Refused {
+                cause: Cause::Memory,
+                held,
+            });
+        };
+        let call = Call::UpdateOrAdmit { key, weight };
+        journal.note(tie, seat, call, Reply::Refused(cause));
+        Err(Refused { cause, held })
+    }
+}
