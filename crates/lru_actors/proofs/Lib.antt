@@ -1,3 +1,4 @@
 pub mod Done
 pub mod Rows
 pub mod Served
+pub mod Listing

@@ -1,6 +1,7 @@
 -- The messages of an actor: what each does to a shard's rows, to the map of weights by hash, and to what is evicted.
 use Rattle.std.specs.Prelude.{◌≡◌, ℕ, ◌+◌, ◌%◌, ◌^◌, ◌⊎◌, max, Bool, true, false, List, [], ◌∷◌, length, map, Option, Some, None, option_map, if◌then◌else◌, refl}
 use Rattle.std.specs.Option.{option_map_or}
+use Rattle.std.specs.Borrow.{Bor}
 use Rattle.std.specs.Coded.{Coded, code_by, coded×, coded_ℕ}
 use Rattle.lru_shard.specs.declared.unit.Cause.{Cause}
 use Rattle.lru_shard.specs.Row.{Row, row, row_of, is_held, first, without, without_last, last_row, pair_of, weight_of}
@@ -24,6 +25,14 @@ abbrev pub state_code : {K : Type 0} → Coded K → Coded (State K)
 state_code {K} code = code_by (Shard K × ℕ) (coded× (shard_code code) coded_ℕ) (λ s. (s.shard, s.refused)) (λ t. state_of t.0 t.1) (λ _. refl)
 
 module _ {K : Type 0} where
+  -- what is told of a row: its hash, its key and its weight
+  abbrev pub listed : Row K → ℕ × (K × ℕ)
+  listed r = (r.key, pair_of r)
+
+  -- what an item of an iterator over rows shows
+  abbrev pub told : (ℕ × Bor K × ℕ) → ℕ × (K × ℕ)
+  told item = (item.0, (item.1.now, item.2))
+
   -- a row that is there keeps its key
   abbrev pub kept : List (Row K) → ℕ → K → K
   kept rows hash key = option_map_or (λ r. r.value) (row_of rows hash) key

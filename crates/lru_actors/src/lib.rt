@@ -3,9 +3,8 @@
 #![tactic(auto)]
 
 pub mod effect;
+pub mod iter;
 pub mod key;
 pub mod message;
 pub mod process;
 pub mod state;
-#[cfg(test)]
-mod tests;

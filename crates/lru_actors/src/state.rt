@@ -2,6 +2,7 @@
 ghost use Rattle.std.specs.Prelude.{◌≡◌};
 
 use crate::effect::{Effect, Reply};
+use crate::iter::ShardStateIter;
 use crate::message::LruMsg;
 use lru_shard::unit::LruUnit;
 use std::alloc::{AllocError, Global};
@@ -26,10 +27,10 @@ impl<K: Drop> Model for ShardState<K> {
 }
 
 impl<K: Drop> ShardState<K> {
-    ghost use Rattle.std.specs.Prelude.{◌+◌, ◌%◌, ◌^◌, [], IfOk, length, true};
+    ghost use Rattle.std.specs.Prelude.{◌+◌, ◌%◌, ◌^◌, [], IfOk, length, map, true};
     ghost use Rattle.lru_shard.specs.Row.{weight_of};
     ghost use Rattle.lru_shard.specs.Shard.{shard, IsShard};
-    ghost use Rattle.lru_actors.specs.Messages.{state_of, quiet, measure};
+    ghost use Rattle.lru_actors.specs.Messages.{state_of, quiet, measure, listed};
 
     /// An empty shard with room for `capacity` rows, whose weights may sum up to `cap`.
     pub fn with_capacity(alloc: Global, capacity: usize, cap: usize) -> Result<Self, AllocError>
@@ -54,6 +55,16 @@ impl<K: Drop> ShardState<K> {
         ensures { result ≡ weight_of self.now.shard.rows }
     {
         self.unit.used_weight()
+    }
+
+    /// The hash, the key and the weight of each row, most recent first.
+    pub fn iter(&self) -> ShardStateIter<'_, K>
+        ensures { result ≡ map listed self.now.shard.rows }
+    {
+        ShardStateIter {
+            hashes: self.unit.keys(),
+            rows: self.unit.iter(),
+        }
     }
 
     /// How many messages were refused, modulo 2^64.

@@ -7,8 +7,6 @@
 mod ledger_state;
 mod shares;
 mod slip;
-#[cfg(test)]
-mod tests;
 mod ties;
 
 pub use ledger_state::{LedgerState, Settled};

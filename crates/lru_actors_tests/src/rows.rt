@@ -1,14 +1,14 @@
 //! The shard of an actor by its worked rows, with its map and its queue.
-ghost use Rattle.std.specs.Prelude.{◌≡◌};
-
-use crate::effect::{Effect, Reply};
-use crate::message::LruMsg;
-use crate::process::{choose_victim, process_batch, process_msg};
-use crate::state::ShardState;
+use lru_actors::effect::{Effect, Reply};
+use lru_actors::key::hash_key;
+use lru_actors::message::LruMsg;
+use lru_actors::process::{choose_victim, process_batch, process_msg};
+use lru_actors::state::ShardState;
 use lru_dispatch::Putter;
 use lru_ledger::LedgerState;
 use lru_mailbox::MailState;
 use std::collections::HashMap;
+use std::hash::{Hash, Hasher};
 use std::test::Fail;
 
 fn admit(hash: u64, key: u8, weight: usize) -> LruMsg<u8> {
@@ -109,5 +109,43 @@ fn serves_a_batch_in_order(rt: HostRuntime) -> Result<(), Fail> {
         (choose_victim(3, 5, 2, 2), choose_victim(3, 5, 1, 2)),
         (3, 5)
     );
+    Ok(())
+}
+
+/// A key whose hash is that of every other.
+#[derive(Clone, Copy, Debug, PartialEq, Eq)]
+struct Alike {
+    name: u8,
+}
+
+impl Hash for Alike {
+    ghost use Rattle.std.specs.Hash as fed;
+    ghost use Rattle.std.proofs.Common.{refl};
+
+    ghost hash_input = { λ _. fed.u8 0 };
+
+    ghost respects_eq = { λ x y e. refl };
+
+    fn hash<H: Hasher>(&self, state: &mut H) {
+        state.write_u8(0);
+    }
+}
+
+// One row is left, with the first key and the second weight.
+#[test]
+fn takes_keys_of_one_hash_for_one_row(rt: HostRuntime) -> Result<(), Fail> {
+    let mut state = ShardState::with_capacity(rt.alloc(), 0, 100)?;
+    for (name, weight) in [(1, 2), (2, 5)] {
+        let key = Alike { name };
+        let hash = hash_key(&key);
+        state.step(LruMsg::Admit { hash, key, weight });
+    }
+    let mut rows = state.iter();
+    let Some((hash, key, weight)) = rows.next() else {
+        return Err(Fail::from("no row"));
+    };
+    assert_eq!(rt; hash, hash_key(&Alike { name: 9 }));
+    assert_eq!(rt; (key.name, weight), (1, 5));
+    assert!(rt; rows.next().is_none());
     Ok(())
 }
