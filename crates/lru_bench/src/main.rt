@@ -1,5 +1,6 @@
 //! `lru_bench [time]`: what a promote costs in a short and in a long list, and what the calls of `Lru` cost
-//! to 1, 2 and 4 threads, among rows that a core's cache holds and among many more.
+//! to 1, 2 and 4 threads, among rows that a core's cache holds and among many more; and what messages cost to an
+//! actor's shard.
 //!
 //! It goes through seeded traces and prints what it counted, which is the same at each run. With the
 //! argument `time` each line ends with the nanoseconds that one call took, which are not.
@@ -7,6 +8,7 @@
 
 ghost use Rattle.std.specs.Prelude.{◌<◌};
 
+mod actors;
 mod lists;
 mod shards;
 mod trace;
@@ -26,6 +28,7 @@ fn main(rt: HostRuntime) -> io::Result<()> {
     let watch = Watch { is_timed };
     lists::measure(&rt, rt.alloc(), watch, 1_000)?;
     lists::measure(&rt, rt.alloc(), watch, 1_000_000)?;
+    actors::measure(&rt, rt.alloc(), watch, MANY)?;
     for draw in [Draw::Uniform, Draw::Skewed] {
         for work in [Work::Promote, Work::Peek, Work::AdmitAndEvict, Work::Mix] {
             let few = Trial {

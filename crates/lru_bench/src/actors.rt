@@ -1,0 +1,107 @@
+//! Messages through an actor's shard, in batches of 1 and of 64, beside the calls of a shard of one owner.
+ghost use Rattle.std.specs.Prelude.{◌<◌};
+
+use crate::trace::{self, Draw};
+use crate::watch::Watch;
+use pingora_lru::unit::LruUnit;
+use pingora_lru_async::async_lru::{Effect, LruMsg, ShardState, process_batch};
+use pingora_lru_async::mailbox::MailState;
+use std::alloc::{AllocError, Global};
+use std::collections::HashMap;
+use std::io;
+use std::rt::Clock;
+use std::time::Instant;
+
+const CALLS: usize = 1_000_000;
+
+const MOST: usize = 64;
+
+// An actor's shard with all that its messages change, and the room for a batch.
+#[derive(Drop)]
+struct Actor {
+    state: ShardState<u64>,
+    map: HashMap<u64, usize>,
+    queue: MailState<(u64, usize)>,
+    batch: Vec<LruMsg<u64>>,
+    effects: Vec<Effect<u64>>,
+}
+
+impl Actor {
+    fn new(alloc: Global, rows: usize) -> Result<Self, AllocError> {
+        Ok(Actor {
+            state: ShardState::with_capacity(alloc, rows, usize::MAX)?,
+            map: HashMap::with_capacity(alloc, rows)?,
+            queue: MailState::new(alloc),
+            batch: Vec::with_capacity(alloc, MOST)?,
+            effects: Vec::with_capacity(alloc, MOST)?,
+        })
+    }
+
+    // Processes the batch, and answers how many of its messages were not refused.
+    fn flush(&mut self) -> usize {
+        self.effects.clear();
+        if self.batch.len() > MOST || self.effects.capacity() < self.batch.len() {
+            return 0;
+        }
+        process_batch(
+            &mut self.state,
+            &mut self.map,
+            &mut self.queue,
+            &mut self.batch,
+            &mut self.effects,
+        );
+        self.effects.iter().filter(|effect| !effect.refused).count()
+    }
+}
+
+// Admits each key, or promotes it, by messages in batches of this size.
+fn send(actor: &mut Actor, keys: &[u64], size: usize, is_new: bool) -> Result<usize, AllocError> {
+    let mut done = 0usize;
+    for key in keys {
+        let message = if is_new {
+            LruMsg::Admit {
+                hash: *key,
+                key: *key,
+                weight: 1,
+            }
+        } else {
+            LruMsg::Promote { hash: *key }
+        };
+        actor.batch.push(message)?;
+        if actor.batch.len() >= size {
+            done = done.wrapping_add(actor.flush());
+        }
+    }
+    Ok(done.wrapping_add(actor.flush()))
+}
+
+/// Admits so many rows and promotes a million times, by a shard's own calls and by messages.
+pub fn measure<R: Print + Clock>(rt: &R, alloc: Global, watch: Watch, rows: u32) -> io::Result<()>
+    requires { 0 < rows }
+{
+    let trace = trace::keys(alloc, Draw::Uniform, 7, rows, CALLS)?;
+    let mut all = Vec::with_capacity(alloc, rows as usize)?;
+    for key in 0..rows as u64 {
+        all.push(key)?;
+    }
+    let mut unit = LruUnit::with_capacity(alloc, rows as usize, usize::MAX)?;
+    let start = Instant::now(rt)?;
+    let done = all
+        .iter()
+        .filter(|key| unit.admit(**key, **key, 1).is_ok())
+        .count();
+    watch.tell(rt, "a shard's own calls, admit", done, rows as usize, start)?;
+    let start = Instant::now(rt)?;
+    let done = trace.iter().filter(|key| unit.access(**key)).count();
+    watch.tell(rt, "a shard's own calls, promote", done, CALLS, start)?;
+    for size in [1, MOST] {
+        let mut actor = Actor::new(alloc, rows as usize)?;
+        for (keys, name) in [(&all, "admit"), (&trace, "promote")] {
+            let start = Instant::now(rt)?;
+            let done = send(&mut actor, keys, size, name == "admit")?;
+            let what = format!(in alloc; "messages in batches of {size}, {name}")?;
+            watch.tell(rt, what.as_str(), done, keys.len(), start)?;
+        }
+    }
+    Ok(())
+}

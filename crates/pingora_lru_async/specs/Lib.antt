@@ -1,0 +1,10 @@
+pub use Rattle.lru_mailbox.specs.Mail
+pub use Rattle.lru_ledger.specs.Slips
+pub use Rattle.lru_ledger.specs.Ledger
+pub use Rattle.lru_dispatch.specs.Queue
+pub use Rattle.lru_dispatch.specs.Dispatching
+pub use Rattle.lru_actors.specs.Keys
+pub use Rattle.lru_actors.specs.Messages
+pub use Rattle.lru_actors.specs.Processing
+pub use Rattle.lru_schedules.specs.Turns
+pub use Rattle.lru_schedules.specs.World

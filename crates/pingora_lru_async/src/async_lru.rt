@@ -1,0 +1,20 @@
+//! Actors: what each message does to a shard, to the map of weights beside it, and to the pairs that are evicted.
+
+/// What a message did.
+pub use lru_actors::effect::{Effect, Reply};
+/// The rows of a shard.
+pub use lru_actors::iter::ShardStateIter;
+/// The number by which the row of a key is known.
+pub use lru_actors::key::hash_key;
+/// A message.
+pub use lru_actors::message::LruMsg;
+/// Messages processed with the map of weights and the queue of evicted pairs, and the choice of a victim.
+pub use lru_actors::process::{choose_victim, process_batch, process_msg};
+/// The shard of an actor.
+pub use lru_actors::state::ShardState;
+/// Where evicted pairs go.
+pub use lru_dispatch::{Dispatch, Putter};
+/// Messages on their way, with the cells for their replies.
+pub use lru_letters::{Letter, ReplyCell};
+/// The law over every schedule.
+pub use lru_schedules::schedule_law;

@@ -1,0 +1,6 @@
+//! The actors of a least-recently-used order, as functions over values: mailboxes, messages, what each message does to
+//! a shard, and the law over every schedule. What stands here is passed on from the crates beneath.
+#![tactic(auto)]
+
+pub mod async_lru;
+pub mod mailbox;
