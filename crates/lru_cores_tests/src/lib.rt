@@ -1,7 +1,16 @@
-//! Tests of `lru_cores`.
+//! Tests of `lru_cores` and `lru_runs`: worked rows as lists of calls, two cores side by side, calls with closures and
+//! looks, and the spread of the draws.
 #![tactic(auto)]
 
 #[cfg(test)]
-mod calls_tests;
+mod closures;
 #[cfg(test)]
-mod lru_core_tests;
+mod draws;
+#[cfg(test)]
+mod fronts;
+#[cfg(test)]
+mod looks;
+#[cfg(test)]
+mod rows;
+#[cfg(test)]
+mod steps;

@@ -1,5 +1,9 @@
-//! Tests of `lru_shard`.
+//! Tests of `lru_shard`: its worked rows as lists of calls, and what a shard shows.
 #![tactic(auto)]
 
 #[cfg(test)]
-mod unit_tests;
+mod looks;
+#[cfg(test)]
+mod rows;
+#[cfg(test)]
+mod steps;

@@ -1,0 +1,114 @@
+// Worked rows of one shard, each a list of calls.
+use crate::steps::{Call, Step, faults};
+use lru_shard::unit::{Cause, LruUnit};
+use std::test::Fail;
+
+#[rattlefmt::skip]
+const REFUSES_PAST_ITS_CAP: [Step; 9] = [
+    (Call::Admit { key: 1, data: 10, weight: 6 }, "Ok(0)", "6: 1=10 6,"),
+    (Call::Admit { key: 2, data: 20, weight: 5 }, "Err(Refused { cause: Weight, held: 20 })", "6: 1=10 6,"),
+    (Call::Admit { key: 1, data: 30, weight: 10 }, "Ok(6)", "10: 1=30 10,"),
+    (Call::Admit { key: 1, data: 31, weight: 11 }, "Err(Refused { cause: Weight, held: 31 })", "10: 1=30 10,"),
+    (Call::SetWeight { key: 1, weight: 11 }, "Err(Weight)", "10: 1=30 10,"),
+    (Call::Increment { key: 1, data: 40, delta: 1, most: None }, "Err(Weight) false", "10: 1=30 10,"),
+    (Call::Increment { key: 1, data: 40, delta: 1, most: Some(10) }, "Ok((10, 10, false)) false", "10: 1=30 10,"),
+    (Call::Increment { key: 2, data: 40, delta: 1, most: None }, "Err(Weight) false", "10: 1=30 10,"),
+    (Call::InsertTail { key: 2, data: 40, weight: 1 }, "Err(Refused { cause: Weight, held: 40 })", "10: 1=30 10,"),
+];
+
+// A refused update keeps what it did to the data, and makes none; a refused admission hands back what was made.
+#[rattlefmt::skip]
+const REFUSES_UPDATES: [Step; 7] = [
+    (Call::Admit { key: 1, data: 5, weight: 6 }, "Ok(0)", "6: 1=5 6,"),
+    (Call::Update { key: 1, data: 7, weight: 11 }, "Err(Refused { cause: Weight, held: None }) false", "6: 1=7 6,"),
+    (Call::Peek { key: 1 }, "Some(7)", "6: 1=7 6,"),
+    (Call::PeekWeight { key: 1 }, "Some(6)", "6: 1=7 6,"),
+    (Call::Update { key: 2, data: 9, weight: 5 }, "Err(Refused { cause: Weight, held: Some((9, 5)) }) true", "6: 1=7 6,"),
+    (Call::Peek { key: 2 }, "None", "6: 1=7 6,"),
+    (Call::PeekWeight { key: 2 }, "None", "6: 1=7 6,"),
+];
+
+// A full shard refuses a new row before any data are made.
+#[rattlefmt::skip]
+const REFUSES_A_ROW_TOO_MANY: [Step; 7] = [
+    (Call::InsertTail { key: 1, data: 10, weight: 0 }, "Ok(true)", "0: 1=10 0,"),
+    (Call::InsertTail { key: 2, data: 20, weight: 0 }, "Err(Refused { cause: Length, held: 20 })", "0: 1=10 0,"),
+    (Call::InsertTail { key: 1, data: 20, weight: 0 }, "Ok(false)", "0: 1=10 0,"),
+    (Call::Admit { key: 2, data: 20, weight: 2 }, "Err(Refused { cause: Length, held: 20 })", "0: 1=10 0,"),
+    (Call::Increment { key: 2, data: 20, delta: 2, most: None }, "Err(Length) false", "0: 1=10 0,"),
+    (Call::Update { key: 2, data: 20, weight: 2 }, "Err(Refused { cause: Length, held: None }) false", "0: 1=10 0,"),
+    (Call::Update { key: 1, data: 11, weight: 0 }, "Ok((Some(0), 1)) false", "1: 1=11 1,"),
+];
+
+#[rattlefmt::skip]
+const INCREMENTS_WEIGHTS: [Step; 4] = [
+    (Call::Admit { key: 1, data: 1, weight: 1 }, "Ok(0)", "1: 1=1 1,"),
+    (Call::Increment { key: 1, data: 2, delta: 1, most: None }, "Ok((1, 2, false)) false", "2: 1=1 2,"),
+    (Call::Increment { key: 0, data: 0, delta: 1000, most: Some(3) }, "Ok((0, 3, true)) true", "5: 0=0 3, 1=1 2,"),
+    (Call::Increment { key: 4, data: 4, delta: 0, most: None }, "Ok((0, 1, true)) true", "6: 4=4 1, 0=0 3, 1=1 2,"),
+];
+
+#[rattlefmt::skip]
+const INCREMENTS_UP_TO_A_BOUND: [Step; 3] = [
+    (Call::Increment { key: 1, data: 10, delta: 4, most: Some(0) }, "Ok((0, 1, true)) true", "1: 1=10 1,"),
+    (Call::SetWeight { key: 1, weight: 5 }, "Ok(Some(1))", "5: 1=10 5,"),
+    (Call::Increment { key: 1, data: 20, delta: 1, most: Some(3) }, "Ok((5, 5, false)) false", "5: 1=10 5,"),
+];
+
+#[rattlefmt::skip]
+const COUNTS_A_ROW_OF_WEIGHT_0_ONCE: [Step; 2] = [
+    (Call::InsertTail { key: 1, data: 1, weight: 0 }, "Ok(true)", "0: 1=1 0,"),
+    (Call::Admit { key: 1, data: 1, weight: 5 }, "Ok(0)", "5: 1=1 5,"),
+];
+
+#[rattlefmt::skip]
+const ANSWERS_EACH_CHANGE: [Step; 19] = [
+    (Call::InsertTail { key: 3, data: 30, weight: 4 }, "Ok(true)", "4: 3=30 4,"),
+    (Call::InsertTail { key: 2, data: 20, weight: 2 }, "Ok(true)", "6: 3=30 4, 2=20 2,"),
+    (Call::InsertTail { key: 1, data: 10, weight: 5 }, "Ok(true)", "11: 3=30 4, 2=20 2, 1=10 5,"),
+    (Call::NeedPromote { key: 1, limit: 2 }, "true", "11: 3=30 4, 2=20 2, 1=10 5,"),
+    (Call::NeedPromote { key: 1, limit: 3 }, "false", "11: 3=30 4, 2=20 2, 1=10 5,"),
+    (Call::Access { key: 1 }, "true", "11: 1=10 5, 3=30 4, 2=20 2,"),
+    (Call::Access { key: 4 }, "false", "11: 1=10 5, 3=30 4, 2=20 2,"),
+    (Call::Increment { key: 3, data: 31, delta: 1, most: None }, "Ok((4, 5, false)) false", "12: 3=30 5, 1=10 5, 2=20 2,"),
+    (Call::Update { key: 2, data: 21, weight: 5 }, "Ok((Some(2), 5)) false", "15: 2=21 5, 3=30 5, 1=10 5,"),
+    (Call::Update { key: 4, data: 40, weight: 0 }, "Ok((None, 1)) true", "16: 4=40 1, 2=21 5, 3=30 5, 1=10 5,"),
+    (Call::SetWeight { key: 1, weight: 7 }, "Ok(Some(5))", "18: 4=40 1, 2=21 5, 3=30 5, 1=10 7,"),
+    (Call::SetWeight { key: 9, weight: 7 }, "Ok(None)", "18: 4=40 1, 2=21 5, 3=30 5, 1=10 7,"),
+    (Call::SetWeight { key: 3, weight: 0 }, "Ok(Some(5))", "13: 4=40 1, 2=21 5, 3=30 0, 1=10 7,"),
+    (Call::Remove { key: 2 }, "Some((21, 5))", "8: 4=40 1, 3=30 0, 1=10 7,"),
+    (Call::Remove { key: 2 }, "None", "8: 4=40 1, 3=30 0, 1=10 7,"),
+    (Call::Evict, "Some((10, 7))", "1: 4=40 1, 3=30 0,"),
+    (Call::Evict, "Some((30, 0))", "1: 4=40 1,"),
+    (Call::Evict, "Some((40, 1))", "0:"),
+    (Call::Evict, "None", "0:"),
+];
+
+// Each table on an empty shard with its cap.
+#[test]
+fn answers_and_leaves_what_it_should(rt: HostRuntime) -> Result<(), Fail> {
+    for (cap, steps) in [
+        (10, REFUSES_PAST_ITS_CAP.as_slice()),
+        (10, REFUSES_UPDATES.as_slice()),
+        (1, REFUSES_A_ROW_TOO_MANY.as_slice()),
+        (10, INCREMENTS_WEIGHTS.as_slice()),
+        (10, INCREMENTS_UP_TO_A_BOUND.as_slice()),
+        (10, COUNTS_A_ROW_OF_WEIGHT_0_ONCE.as_slice()),
+        (100, ANSWERS_EACH_CHANGE.as_slice()),
+    ] {
+        let mut unit = LruUnit::with_capacity(rt.alloc(), 0, cap)?;
+        assert_eq!(rt;
+            faults(rt.alloc(), &mut unit, steps)?.as_str(),
+            "",
+            "under a cap of {cap}"
+        );
+    }
+    Ok(())
+}
+
+#[test]
+fn numbers_its_causes(rt: HostRuntime) {
+    for (cause, number) in [(Cause::Memory, 1), (Cause::Weight, 2), (Cause::Length, 3)] {
+        assert_eq!(rt; (cause as u8, cause.number()), (number, number));
+    }
+}

@@ -1,0 +1,6 @@
+//! A helper of tests: worked rows of N shards, as tables of calls, each with the text of its reply and of what it
+//! leaves. The tests of a core and of an `Lru` go through the same tables.
+#![tactic(auto)]
+
+pub mod asked;
+pub mod tables;
