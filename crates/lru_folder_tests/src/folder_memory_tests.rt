@@ -95,7 +95,7 @@ fn move_at_last(
 ) -> Result<(), Fail> {
     if let Err(fault) = folder.rename(path, "d/b") {
         count(rt, refusals, fault);
-        assert!(rt; folder.get(path).is_some() && folder.get("d/b").is_none());
+        assert!(rt; folder.get(path) == Some(b"12345".as_slice()) && folder.get("d/b").is_none());
         assert_eq!(rt; folder.rename(path, "d/b"), Ok(()));
     }
     assert!(rt; folder.get(path).is_none());
@@ -112,7 +112,7 @@ fn move_at_last(
     assert!(rt; matches!(&listed[1], Listed::Name(name) if name.as_str() == "b"));
     if let Err(fault) = folder.remove("d/b") {
         count(rt, refusals, fault);
-        assert!(rt; folder.get("d/b").is_some());
+        assert!(rt; folder.get("d/b") == Some(b"12345".as_slice()));
         assert_eq!(rt; folder.remove("d/b"), Ok(()));
     }
     assert!(rt; folder.get("d/b").is_none());

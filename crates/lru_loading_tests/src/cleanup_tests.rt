@@ -17,13 +17,21 @@ fn cleanup_takes_temp_files(rt: HostRuntime) -> Result<(), Fail> {
     let report = load_shards(alloc, &mut folder, &log, "d", "c", 0, &mut deserialize)?;
     let cleanup = report.temp_cleanup?;
     assert_eq!(rt; cleanup.removed_files, 2);
-    assert_eq!(rt; cleanup.failures.len(), 0);
-    assert!(rt; folder.get("d/c.0").is_some());
-    assert!(rt; folder.get("d/x.tmp").is_some());
+    assert!(rt; cleanup.failures.is_empty());
+    assert!(rt; folder.get("d/c.0") == Some(b"old".as_slice()));
+    assert!(rt; folder.get("d/x.tmp") == Some(b"x".as_slice()));
     assert!(rt; folder.get("d/c.0.0000002a.tmp").is_none());
     assert!(rt; folder.get("d/cd.1.00000000.tmp").is_none());
     Ok(())
 }
+
+/// What is told of each of the first calls of that load where it fails.
+const FAILURES: [&str; 4] = [
+    "failed to load shard 0: failed to open d/c.0: input or output failed",
+    "failed to load shard 0: failed to read from d/c.0: input or output failed",
+    "failed to load shard 1: failed to open d/c.1: input or output failed",
+    "failed to load shard 1: failed to read from d/c.1: input or output failed",
+];
 
 // A fault of the device is no missing file.
 #[test]
@@ -34,12 +42,14 @@ fn faults_are_no_missing_files(rt: HostRuntime) -> Result<(), Fail> {
         .with("d/c.1", b"one")?;
     let log = sink::Memory::new(alloc);
     let mut deserialize = |_shard: usize, _bytes: &[u8]| -> Result<(), &str> { Ok(()) };
-    for call in 0..4 {
-        folder.fail_at(call, 0);
+    for (call, text) in FAILURES.iter().enumerate() {
+        folder.fail_at(call as u64, 0);
         let report = load_shards(alloc, &mut folder, &log, "d", "c", 3, &mut deserialize)?;
         assert_eq!(rt; report.loaded_shards, 1);
         assert_eq!(rt; report.missing_shards, 1);
         assert_eq!(rt; report.error_shards, 1);
+        assert_eq!(rt; report.failures.len(), 1);
+        assert_eq!(rt; report.failures[0].to_string(alloc)?.as_str(), *text);
     }
     Ok(())
 }

@@ -184,7 +184,12 @@ fn files_are_given_in_order(rt: HostRuntime) -> Result<(), Fail> {
     let log = sink::Memory::new(alloc);
     let mut given = Vec::new(alloc);
     let mut deserialize = |shard: usize, bytes: &[u8]| {
-        if given.push((shard, bytes.len())).is_err() || bytes == b"bad".as_slice() {
+        let is_its_own = match shard {
+            0 => bytes == b"zero".as_slice(),
+            2 => bytes == b"bad".as_slice(),
+            _ => bytes.is_empty(),
+        };
+        if given.push((shard, is_its_own)).is_err() || shard == 2 {
             Err("damaged")
         } else {
             Ok(())
@@ -194,6 +199,9 @@ fn files_are_given_in_order(rt: HostRuntime) -> Result<(), Fail> {
     assert_eq!(rt; report.loaded_shards, 2);
     assert_eq!(rt; report.missing_shards, 1);
     assert_eq!(rt; report.error_shards, 1);
-    assert_eq!(rt; given.as_slice(), [(0, 4), (2, 3), (3, 0)].as_slice());
+    assert_eq!(rt;
+        given.as_slice(),
+        [(0, true), (2, true), (3, true)].as_slice()
+    );
     Ok(())
 }

@@ -1,86 +1,109 @@
 // Which call of a save a planned failure meets.
 use log::sink;
-use pingora_lru_files::persistence::{MemoryFolder, ShardSaveError, ShardSaveReport, save_shards};
-use rand::rngs::StdRng;
-use rand_core::SeedableRng;
+use pingora_lru_files::persistence::{MemoryFolder, ShardSaveError, ShardSaveReport, ShardSaver};
 use std::alloc::{AllocError, Global};
+use std::process::Abort;
 use std::test::Fail;
 
-/// The calls of a save of three shards after the one that makes the folder: their numbers, their shards, and how the
-/// text of a failure begins that each of them causes.
+/// The calls of a save of three shards after the one that makes the folder: their numbers, their shards, and the text
+/// of the failure that each of them causes.
 const CALLS: [(u64, usize, &str); 12] = [
-    (1, 0, "failed to save shard 0: failed to create d/c.0."),
-    (2, 0, "failed to save shard 0: failed to write to d/c.0."),
+    (
+        1,
+        0,
+        "failed to save shard 0: failed to create d/c.0.0000002a.tmp: input or output failed",
+    ),
+    (
+        2,
+        0,
+        "failed to save shard 0: failed to write to d/c.0.0000002a.tmp: input or output failed",
+    ),
     (
         3,
         0,
-        "failed to save shard 0: failed to flush temp file d/c.0.",
+        "failed to save shard 0: failed to flush temp file d/c.0.0000002a.tmp: input or output failed",
     ),
     (
         4,
         0,
-        "failed to save shard 0: failed to rename file from d/c.0.",
+        "failed to save shard 0: failed to rename file from d/c.0.0000002a.tmp to d/c.0: input or output failed",
     ),
-    (5, 1, "failed to save shard 1: failed to create d/c.1."),
-    (6, 1, "failed to save shard 1: failed to write to d/c.1."),
+    (
+        5,
+        1,
+        "failed to save shard 1: failed to create d/c.1.0000002b.tmp: input or output failed",
+    ),
+    (
+        6,
+        1,
+        "failed to save shard 1: failed to write to d/c.1.0000002b.tmp: input or output failed",
+    ),
     (
         7,
         1,
-        "failed to save shard 1: failed to flush temp file d/c.1.",
+        "failed to save shard 1: failed to flush temp file d/c.1.0000002b.tmp: input or output failed",
     ),
     (
         8,
         1,
-        "failed to save shard 1: failed to rename file from d/c.1.",
+        "failed to save shard 1: failed to rename file from d/c.1.0000002b.tmp to d/c.1: input or output failed",
     ),
-    (9, 2, "failed to save shard 2: failed to create d/c.2."),
-    (10, 2, "failed to save shard 2: failed to write to d/c.2."),
+    (
+        9,
+        2,
+        "failed to save shard 2: failed to create d/c.2.0000002c.tmp: input or output failed",
+    ),
+    (
+        10,
+        2,
+        "failed to save shard 2: failed to write to d/c.2.0000002c.tmp: input or output failed",
+    ),
     (
         11,
         2,
-        "failed to save shard 2: failed to flush temp file d/c.2.",
+        "failed to save shard 2: failed to flush temp file d/c.2.0000002c.tmp: input or output failed",
     ),
     (
         12,
         2,
-        "failed to save shard 2: failed to rename file from d/c.2.",
+        "failed to save shard 2: failed to rename file from d/c.2.0000002c.tmp to d/c.2: input or output failed",
     ),
 ];
 
-/// Saves three shards of `c` into `d`.
+/// The bytes of each shard.
+const BYTES: &[u8] = b"abc";
+
+/// Saves three shards of `c` into `d`, with the words 42, 43 and 44.
 fn save(
+    rt: &impl Abort,
     alloc: Global,
     folder: &mut MemoryFolder,
 ) -> Result<ShardSaveReport<AllocError>, ShardSaveError<AllocError>> {
-    let log = sink::Memory::new(alloc);
-    let mut rng = StdRng::seed_from_u64(7);
-    save_shards(
-        alloc,
-        folder,
-        &mut rng,
-        &log,
-        "d",
-        "c",
-        3,
-        |_shard| b"abc".as_slice().to_vec(alloc),
-    )
+    let mut saver: ShardSaver<AllocError> = ShardSaver::start(alloc, folder, "d", "c", 3)?;
+    for word in 42..45 {
+        if saver.next().is_some() {
+            saver.put(folder, word, BYTES.to_vec(alloc));
+        }
+    }
+    assert!(rt; saver.next().is_none());
+    saver.finish(&sink::Memory::new(alloc))
 }
 
+// The other shards are saved.
 #[test]
 fn one_call_fails(rt: HostRuntime) -> Result<(), Fail> {
     let alloc = rt.alloc();
-    for (n, _shard, text) in CALLS {
+    for (n, shard, text) in CALLS {
         let mut folder = MemoryFolder::new(alloc);
         folder.fail_at(n, 0);
-        let report = save(alloc, &mut folder)?;
-        assert_eq!(rt; report.saved_shards, 2);
+        let report = save(&rt, alloc, &mut folder)?;
+        assert_eq!(rt; (report.saved_shards, report.failed_shards), (2, 1));
         assert_eq!(rt; report.failures.len(), 1);
-        let failure = report.failures[0].to_string(alloc)?;
-        assert!(rt; failure.as_str().starts_with(text), "{failure}");
-        assert!(rt;
-            failure.as_str().ends_with(": input or output failed"),
-            "{failure}"
-        );
+        assert_eq!(rt; report.failures[0].to_string(alloc)?.as_str(), text);
+        for (other, path) in ["d/c.0", "d/c.1", "d/c.2"].iter().enumerate() {
+            let wanted = if other == shard { None } else { Some(BYTES) };
+            assert!(rt; folder.get(path) == wanted);
+        }
     }
     Ok(())
 }
@@ -92,7 +115,7 @@ fn all_calls_fail_from_one_on(rt: HostRuntime) -> Result<(), Fail> {
     for (n, shard, text) in CALLS {
         let mut folder = MemoryFolder::new(alloc);
         folder.stop_at(n, 0);
-        let failures = match save(alloc, &mut folder) {
+        let failures = match save(&rt, alloc, &mut folder) {
             Ok(report) => {
                 assert_eq!(rt; report.saved_shards, shard);
                 report.failures
@@ -103,12 +126,13 @@ fn all_calls_fail_from_one_on(rt: HostRuntime) -> Result<(), Fail> {
             }
             Err(ShardSaveError::Setup(_)) => return Err("the folder was not made")?,
         };
+        assert_eq!(rt; failures.len(), 3 - shard.min(3));
         assert!(rt; !failures.is_empty());
-        let first = failures[0].to_string(alloc)?;
-        assert!(rt; first.as_str().starts_with(text), "{first}");
-        assert_eq!(rt; folder.get("d/c.0").is_some(), shard > 0);
-        assert_eq!(rt; folder.get("d/c.1").is_some(), shard > 1);
-        assert!(rt; folder.get("d/c.2").is_none());
+        assert_eq!(rt; failures[0].to_string(alloc)?.as_str(), text);
+        for (other, path) in ["d/c.0", "d/c.1", "d/c.2"].iter().enumerate() {
+            let wanted = if other < shard { Some(BYTES) } else { None };
+            assert!(rt; folder.get(path) == wanted);
+        }
     }
     Ok(())
 }

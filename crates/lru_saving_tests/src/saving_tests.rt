@@ -1,10 +1,11 @@
 // What a save leaves, reports and logs.
 use log::sink;
 use pingora_lru_files::persistence::{
-    Folder, HostFolder, MemoryFolder, ShardSaveError, ShardSaveReport, ShardSaver, save_shards,
+    Folder, HostFolder, Listed, MemoryFolder, ShardSaveError, ShardSaveReport, ShardSaveSetupError,
+    ShardSaver, save_shards,
 };
 use rand::rngs::StdRng;
-use rand_core::SeedableRng;
+use rand_core::{Rng, SeedableRng};
 use std::alloc::{AllocError, Global};
 use std::fs;
 use std::process::Abort;
@@ -72,6 +73,8 @@ fn all_are_saved(rt: HostRuntime) -> Result<(), Fail> {
     assert!(rt; folder.get("d/c.1") == Some(b"abc".as_slice()));
     let listed = folder.list("d").map_err(|_| "no list")?;
     assert_eq!(rt; listed.len(), 2);
+    assert!(rt; matches!(&listed[0], Listed::Name(name) if name.as_str() == "c.0"));
+    assert!(rt; matches!(&listed[1], Listed::Name(name) if name.as_str() == "c.1"));
     Ok(())
 }
 
@@ -83,7 +86,9 @@ fn one_refuses(rt: HostRuntime) -> Result<(), Fail> {
     assert_eq!(rt; report.saved_shards, 2);
     assert_eq!(rt; report.failed_shards, 1);
     assert_eq!(rt; report.failures.len(), 1);
+    assert!(rt; folder.get("d/c.0") == Some(b"abc".as_slice()));
     assert!(rt; folder.get("d/c.1").is_none());
+    assert!(rt; folder.get("d/c.2") == Some(b"abc".as_slice()));
     assert_lines(
         &rt,
         &lines,
@@ -132,7 +137,32 @@ fn the_folder_is_not_made(rt: HostRuntime) -> Result<(), Fail> {
             "failed to create d: input or output failed"
         ),
     }
-    assert_eq!(rt; lines.len(), 0);
+    assert!(rt; lines.is_empty());
+    Ok(())
+}
+
+// Then no shard is asked for, and no word is drawn.
+#[test]
+fn no_shard_is_asked_for_without_a_folder(rt: HostRuntime) -> Result<(), Fail> {
+    let alloc = rt.alloc();
+    let log = sink::Memory::new(alloc);
+    let mut rng = StdRng::seed_from_u64(7);
+    let mut folder = MemoryFolder::new(alloc);
+    folder.fail_at(0, 0);
+    let mut was_asked = false;
+    let give = |_shard: usize| -> Result<Vec<u8>, &str> {
+        was_asked = true;
+        Ok(Vec::new(alloc))
+    };
+    let refused = save_shards(alloc, &mut folder, &mut rng, &log, "d", "c", 2, give);
+    assert!(rt;
+        matches!(
+            refused,
+            Err(ShardSaveError::Setup(ShardSaveSetupError::CreateDir { .. }))
+        )
+    );
+    assert!(rt; !was_asked);
+    assert_eq!(rt; rng.next_u32(), StdRng::seed_from_u64(7).next_u32());
     Ok(())
 }
 
@@ -222,6 +252,8 @@ fn a_real_folder(rt: HostRuntime) -> Result<(), Fail> {
     assert_eq!(rt; bytes.as_slice(), b"abc".as_slice());
     let listed = folder.list("saved_here/deep").map_err(|_| "no list")?;
     assert_eq!(rt; listed.len(), 2);
+    assert!(rt; matches!(&listed[0], Listed::Name(name) if name.as_str() == "c.0"));
+    assert!(rt; matches!(&listed[1], Listed::Name(name) if name.as_str() == "c.1"));
     assert_eq!(rt; folder.open("saved_here/deep/c.0"), Ok(3));
     assert_eq!(rt;
         folder.read(2).map_err(|_| "no bytes")?.as_slice(),

@@ -7,3 +7,4 @@ pub mod SnapshotRuns
 pub mod SnapshotCalls
 pub mod SnapshotRestores
 pub mod RowLaws
+pub mod RoundTrips

@@ -11,10 +11,10 @@ use Rattle.lru_snapshot.specs.declared.snapshot.Keyed.{Keyed}
 use Rattle.lru_snapshot.specs.declared.snapshot.LoadError.{LoadError}
 use Rattle.lru_snapshot.specs.SnapshotLoads.{LoadsShard, rows_of}
 use Rattle.lru_snapshot.specs.SnapshotSaves.{TellCore}
-use Rattle.lru_snapshot.specs.Stores.{LoadResult}
+use Rattle.lru_snapshot.specs.Stores.{LoadResult, AreLoaded, HasNoRows}
 use Rattle.lru_snapshot.proofs.SnapshotLoadLemmas.{list_at-with}
 
-counted : (bytes : List ℕ) (done : Unit {0}) (turns : List (LoadTurn LoadError)) → count_by is_loaded (Given bytes (Ok done) ∷ turns) ≡ 1 + count_by is_loaded turns
+pub counted : (bytes : List ℕ) (done : Unit {0}) (turns : List (LoadTurn LoadError)) → count_by is_loaded (Given bytes (Ok done) ∷ turns) ≡ 1 + count_by is_loaded turns
 counted bytes done turns = sum_by-cons (λ (t : LoadTurn LoadError). cond (is_loaded t) 1 0) (Given bytes (Ok done)) turns
 
 count_le : (turns : List (LoadTurn LoadError)) → count_by is_loaded turns ≤ length turns
@@ -49,8 +49,9 @@ module _ (kept rose : Type 0) (files : Files) (dir file_name : List ℕ) (n : �
       (λ q h. other q (λ e. omega arith) ∙ rest q (omega arith)) s lt
 
   -- the same of a whole load, whose report has room
-  pub restored_all : (old new : Core Keyed) (result : LoadResult) → ((s : ℕ) → list_at old s ≡ []) → length old.lists ≡ n → IfOk result (λ report. IsLoad LoadsShard kept rose files dir file_name old new n report.loaded_shards report.missing_shards report.failures.items) → IfOk result (λ report. report.loaded_shards ≡ n → (s : ℕ) → s < n → list_at new s ≡ list_at saved s)
-  restored_all old new (Err refused) none long loads = loads
-  restored_all old new (Ok report) none long loads = λ all s lt.
+  pub restored_all : (old new : Core Keyed) (result : LoadResult) → HasNoRows old → length old.lists ≡ n → IfOk result (λ report. IsLoad LoadsShard kept rose files dir file_name old new n report.loaded_shards report.missing_shards report.failures.items)
+      → AreLoaded n result → (s : ℕ) → s < n → list_at new s ≡ list_at saved s
+  restored_all old new (Err refused) none long loads all s lt = absurd all
+  restored_all old new (Ok report) none long loads all s lt =
       restored 0 old new loads.turns loads.calls loads.so (sym loads.loaded_shards ∙ all ∙ sym loads.each) (omega (arith, loads.each)) long
       (λ q below. absurd (omega arith)) (λ q above. none q) s lt

@@ -13,7 +13,7 @@ ghost use Rattle.lru_shard.specs.declared.unit.Cause.TheVariants.{Memory};
 mod cores;
 
 /// Each shard of a core saved into its file, and loaded from it.
-pub use cores::{load_core, save_core};
+pub use cores::{load_core, save_and_load, save_core};
 use pingora_lru::linked_list::MOST_ITEMS;
 use pingora_lru::lru_core::LruCore;
 use pingora_lru::unit::Cause;

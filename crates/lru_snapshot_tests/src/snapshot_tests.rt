@@ -6,7 +6,7 @@ use pingora_lru::lru_core::LruCore;
 use pingora_lru::unit::Cause;
 use pingora_lru_files::persistence::MemoryFolder;
 use pingora_lru_files::snapshot::{
-    Keyed, LoadError, load_core, load_shard, save_core, shard_bytes,
+    Keyed, LoadError, load_core, load_shard, save_and_load, shard_bytes,
 };
 use rand::rngs::StdRng;
 use rand_core::SeedableRng;
@@ -27,11 +27,11 @@ const ROW: [u8; 24] = [
 #[test]
 fn a_row_is_24_bytes(rt: HostRuntime) -> Result<(), Fail> {
     let mut core = empty::<2>(rt.alloc())?;
-    assert!(rt; core.admit(2, Keyed { key: 2, value: 20 }, 2).is_ok());
+    assert_eq!(rt; core.admit(2, Keyed { key: 2, value: 20 }, 2).ok(), Some(0));
     let bytes = shard_bytes(rt.alloc(), &core, 0)?;
     assert_eq!(rt; bytes.as_slice(), ROW.as_slice());
     let none = shard_bytes(rt.alloc(), &core, 1)?;
-    assert_eq!(rt; none.len(), 0);
+    assert!(rt; none.is_empty());
     Ok(())
 }
 
@@ -40,20 +40,22 @@ const LONG: [u8; 25] = [
     2, 0, 0, 0, 0, 0, 0, 0, 20, 0, 0, 0, 0, 0, 0, 0, 2, 0, 0, 0, 0, 0, 0, 0, 0,
 ];
 
-// Loads into an empty core, one after another: the shard, the bytes, the answer, and the core's length and weight then.
+// Loads into an empty core, one after another: the shard, the bytes, the answer, and the bytes of shard 0 then. Shard 1
+// stays empty.
 #[test]
 fn bytes_are_loaded_or_nothing_changes(rt: HostRuntime) -> Result<(), Fail> {
-    let loads: [(usize, &[u8], Result<usize, LoadError>, usize, usize); 5] = [
-        (0, &[], Ok(0), 0, 0),
-        (0, &LONG, Err(LoadError::Damaged), 0, 0),
-        (1, &ROW, Err(LoadError::Damaged), 0, 0),
-        (0, &ROW, Ok(1), 1, 2),
-        (0, &ROW, Err(LoadError::Damaged), 1, 2),
+    let loads: [(usize, &[u8], Result<usize, LoadError>, &[u8]); 5] = [
+        (0, &[], Ok(0), &[]),
+        (0, &LONG, Err(LoadError::Damaged), &[]),
+        (1, &ROW, Err(LoadError::Damaged), &[]),
+        (0, &ROW, Ok(1), &ROW),
+        (0, &ROW, Err(LoadError::Damaged), &ROW),
     ];
     let mut core = empty::<2>(rt.alloc())?;
-    for (shard, bytes, answer, len, weight) in loads {
+    for (shard, bytes, answer, held) in loads {
         assert_eq!(rt; load_shard(rt.alloc(), &mut core, shard % 2, bytes), answer);
-        assert_eq!(rt; (core.len(), core.weight()), (len, weight));
+        assert_eq!(rt; shard_bytes(rt.alloc(), &core, 0)?.as_slice(), held);
+        assert!(rt; shard_bytes(rt.alloc(), &core, 1)?.is_empty());
     }
     Ok(())
 }
@@ -75,22 +77,41 @@ fn a_refusal_has_its_text(rt: HostRuntime) -> Result<(), Fail> {
     Ok(())
 }
 
+/// The one row key 0, value 0, weight 1.
+const ZERO: [u8; 24] = [
+    0, 0, 0, 0, 0, 0, 0, 0, 0, 0, 0, 0, 0, 0, 0, 0, 1, 0, 0, 0, 0, 0, 0, 0,
+];
+
+// Loaded twice: the file of shard 0 is whole, that of shard 1 is missing, that of shard 2 has 25 bytes. The second time
+// shard 0 holds its row already. Shard 2 has a row, and keeps it.
 #[test]
 fn a_core_is_loaded_as_far_as_its_files_go(rt: HostRuntime) -> Result<(), Fail> {
-    // key 0, value 0, weight 1
-    let whole = [
-        0, 0, 0, 0, 0, 0, 0, 0, 0, 0, 0, 0, 0, 0, 0, 0, 1, 0, 0, 0, 0, 0, 0, 0,
-    ];
     let mut folder = MemoryFolder::new(rt.alloc())
-        .with("d/c.0", &whole)?
+        .with("d/c.0", &ZERO)?
         .with("d/c.2", &[0; 25])?;
     let log = sink::Memory::new(rt.alloc());
     let mut core = empty::<3>(rt.alloc())?;
-    let report = load_core(rt.alloc(), &mut folder, &log, "d", "c", &mut core)?;
-    assert_eq!(rt; report.loaded_shards, 1);
-    assert_eq!(rt; report.missing_shards, 1);
-    assert_eq!(rt; report.error_shards, 1);
-    assert_eq!(rt; core.shard_len(2), 0);
+    assert_eq!(rt; core.admit(2, Keyed { key: 2, value: 20 }, 2).ok(), Some(2));
+    for counts in [(1, 1, 1), (0, 1, 2)] {
+        let report = load_core(rt.alloc(), &mut folder, &log, "d", "c", &mut core)?;
+        assert_eq!(rt;
+            (
+                report.loaded_shards,
+                report.missing_shards,
+                report.error_shards
+            ),
+            counts
+        );
+        assert_eq!(rt;
+            shard_bytes(rt.alloc(), &core, 0)?.as_slice(),
+            ZERO.as_slice()
+        );
+        assert!(rt; shard_bytes(rt.alloc(), &core, 1)?.is_empty());
+        assert_eq!(rt;
+            shard_bytes(rt.alloc(), &core, 2)?.as_slice(),
+            ROW.as_slice()
+        );
+    }
     Ok(())
 }
 
@@ -102,18 +123,24 @@ fn a_core_comes_back(rt: HostRuntime) -> Result<(), Fail> {
             key,
             value: key + 10,
         };
-        assert!(rt; core.admit(key, data, 1).is_ok());
+        assert_eq!(rt; core.admit(key, data, 1).ok(), Some((key % 2) as usize));
     }
     let mut folder = MemoryFolder::new(rt.alloc());
     let log = sink::Memory::new(rt.alloc());
     let mut rng = StdRng::seed_from_u64(7);
-    let saved = save_core(rt.alloc(), &mut folder, &mut rng, &log, "d", "c", &core).map_err(
-        |_| "not saved",
-    )?;
-    assert_eq!(rt; saved.saved_shards, 2);
     let mut back = empty::<2>(rt.alloc())?;
-    let report = load_core(rt.alloc(), &mut folder, &log, "d", "c", &mut back)?;
-    assert_eq!(rt; report.loaded_shards, 2);
+    let (saved, loaded) = save_and_load(
+        rt.alloc(),
+        &mut folder,
+        &mut rng,
+        &log,
+        "d",
+        "c",
+        &core,
+        &mut back,
+    );
+    assert_eq!(rt; saved.map_err(|_| "not saved")?.saved_shards, 2);
+    assert_eq!(rt; loaded?.loaded_shards, 2);
     for shard in 0..2 {
         let old = shard_bytes(rt.alloc(), &core, shard)?;
         let new = shard_bytes(rt.alloc(), &back, shard)?;
@@ -126,7 +153,7 @@ fn a_core_comes_back(rt: HostRuntime) -> Result<(), Fail> {
 fn many_rows_come_back(rt: HostRuntime) -> Result<(), Fail> {
     let mut core = empty::<1>(rt.alloc())?;
     for key in 0..1200u64 {
-        assert!(rt; core.admit(key, Keyed { key, value: key }, 1).is_ok());
+        assert_eq!(rt; core.admit(key, Keyed { key, value: key }, 1).ok(), Some(0));
     }
     let bytes = shard_bytes(rt.alloc(), &core, 0)?;
     assert_eq!(rt; bytes.len(), 28_800);

@@ -13,7 +13,8 @@ pub type Saved = Result<ShardSaveReport<AllocError>, ShardSaveError<AllocError>>
 /// What a load answers.
 pub type Loaded = Result<ShardLoadReport<LoadError>, AllocError>;
 
-fn source_of(error: &ShardFileError) -> FolderFault {
+/// The fault that an error tells.
+pub fn source_of(error: &ShardFileError) -> FolderFault {
     match error {
         ShardFileError::Create { source, .. } => *source,
         ShardFileError::Write { source, .. } => *source,
@@ -35,7 +36,8 @@ fn is_unsaved_for_memory(failure: &ShardSaveFailure<AllocError>) -> bool {
     }
 }
 
-fn is_unloaded_for_memory(failure: &ShardLoadFailure<LoadError>) -> bool {
+/// Whether a shard was not loaded for want of memory.
+pub fn is_unloaded_for_memory(failure: &ShardLoadFailure<LoadError>) -> bool {
     match failure {
         ShardLoadFailure::Memory { .. } => true,
         ShardLoadFailure::Deserialize { source, .. } => *source == LoadError::Unit(Cause::Memory),

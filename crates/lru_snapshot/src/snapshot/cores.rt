@@ -1,12 +1,11 @@
 // A core saved shard by shard, and loaded again.
-ghost use Rattle.std.specs.Prelude.{◌≡◌, ◌<◌, false, IfErr, IfOk, map};
-ghost use Rattle.pingora_lru.specs.Core.{list_at};
-ghost use Rattle.pingora_lru.specs.Row.{pair_of};
+ghost use Rattle.std.specs.Prelude.{◌≡◌, ◌⊎◌, ◌<◌, false, IfErr, IfOk};
+ghost use Rattle.pingora_lru.specs.Core.{IsCore};
 ghost use Rattle.lru_folder.specs.Names.{has_slash};
 ghost use Rattle.lru_saving.specs.Progress.{IfSetup};
-ghost use Rattle.lru_snapshot.specs.Snapshot.{bytes_of};
 ghost use Rattle.lru_snapshot.specs.SnapshotLoads.{LoadsShard};
-ghost use Rattle.lru_snapshot.specs.Stores.{LoadsCore, Restores, SavesCore};
+ghost use Rattle.lru_snapshot.specs.SnapshotSaves.{AreBytesOf, HoldCore};
+ghost use Rattle.lru_snapshot.specs.Stores.{AreLoaded, AreSaved, HasNoRows, LoadsAllHeld, LoadsCore, Restores, SavesCore, TellAllKeys, TellsLoadMemory, TellsMemory};
 
 use crate::snapshot::{Keyed, LoadError, load_shard, shard_bytes};
 use log::Log;
@@ -37,10 +36,17 @@ pub fn save_core<F: Folder, R: Rng, L: Log, const N: usize>(
 
     // Where no shard had its turn, no word is drawn.
     ensures drawn { IfErr result (λ e. IfSetup e (rng.new ≡ rng.old)) }
+
+    // Where all shards were saved, their files have the bytes of all rows. Where the device did not fail, all are, or
+    // the result tells that memory was refused.
+    ensures held { F.keeps folder.old → AreSaved N result → HoldCore (F.files folder.new) dir_path.now file_name.now N core.now }
+    ensures all { F.keeps folder.old → F.faults folder.new ≡ F.faults folder.old → TellsMemory result ⊎ AreSaved N result }
+
+    ensures valid { IsCore N core.now }
 {
     // The shards asked for are below N.
     let serialize = |shard: usize|
-        ensures { IfOk result (λ bytes. shard < N → bytes.items ≡ bytes_of (map pair_of (list_at core.entry.now shard))) }
+        ensures { IfOk result (λ bytes. shard < N → AreBytesOf core.entry.now shard bytes.items) }
     {
         if shard < N {
             shard_bytes(alloc, core, shard)
@@ -48,7 +54,16 @@ pub fn save_core<F: Folder, R: Rng, L: Log, const N: usize>(
             Ok(Vec::new(alloc))
         }
     };
-    save_shards(alloc, folder, rng, log, dir_path, file_name, N, serialize)
+    save_shards(
+        alloc,
+        folder,
+        rng,
+        log,
+        dir_path,
+        file_name,
+        core.shards(),
+        serialize,
+    )
 }
 
 /// Loads each shard of a core from its file in the folder `dir_path`, shard i from `file_name.i`, as `load_shards` does:
@@ -66,9 +81,14 @@ pub fn load_core<F: Folder, L: Log, const N: usize>(
     ensures loads { LoadsCore (record { files = F.files; folders = F.folders; clock = F.clock; stopped_since = F.stopped_since; faults = F.faults; last_call = F.last_call; keeps = F.keeps })
         dir_path.now file_name.now N core.old folder.old result core.new folder.new }
 
-    // An empty core that loads all shards from files that tell another's rows has its lists.
+    // A core without rows that loads all shards from files that tell another's rows has its lists. Where the files hold
+    // another core and the device did not fail, it does load all, or the result tells that memory was refused.
     ensures restores { F.keeps folder.old → Restores (F.files folder.old) dir_path.now file_name.now N core.old result core.new }
+    ensures all { F.keeps folder.old → F.faults folder.new ≡ F.faults folder.old → LoadsAllHeld (F.files folder.old) dir_path.now file_name.now N core.old result }
+
+    ensures valid { IsCore N core.old }
 {
+    let shards = core.shards();
     // The shards asked for are below N.
     let mut deserialize = |shard: usize, bytes: &[u8]|
         ensures { shard < N → LoadsShard core.entry.now shard bytes.entry result core.exit.now }
@@ -78,5 +98,43 @@ pub fn load_core<F: Folder, L: Log, const N: usize>(
         }
         Ok(())
     };
-    load_shards(alloc, folder, log, dir_path, file_name, N, &mut deserialize)
+    load_shards(
+        alloc,
+        folder,
+        log,
+        dir_path,
+        file_name,
+        shards,
+        &mut deserialize,
+    )
+}
+
+/// Saves a core into a folder, and loads it from there into another one.
+///
+/// Where all shards are saved and loaded, a core that had no rows has the same lists as the one that was saved. Where
+/// neither the device nor memory fails, all are.
+pub fn save_and_load<F: Folder, R: Rng, L: Log, const N: usize>(
+    alloc: Global,
+    folder: &mut F,
+    rng: &mut R,
+    log: &L,
+    dir_path: &str,
+    file_name: &str,
+    core: &LruCore<Keyed, N>,
+    back: &mut LruCore<Keyed, N>,
+) -> (
+    Result<ShardSaveReport<AllocError>, ShardSaveError<AllocError>>,
+    Result<ShardLoadReport<LoadError>, AllocError>,
+)
+    requires { has_slash file_name.now ≡ false }
+
+    ensures same { F.keeps folder.old → TellAllKeys core.now → HasNoRows back.old
+        → AreSaved N result.0 → AreLoaded N result.1 → back.new.lists ≡ core.now.lists }
+
+    ensures all { F.keeps folder.old → F.faults folder.new ≡ F.faults folder.old → TellAllKeys core.now → HasNoRows back.old
+        → TellsMemory result.0 ⊎ (AreSaved N result.0 × (TellsLoadMemory result.1 ⊎ AreLoaded N result.1)) }
+{
+    let saved = save_core(alloc, folder, rng, log, dir_path, file_name, core);
+    let loaded = load_core(alloc, folder, log, dir_path, file_name, back);
+    (saved, loaded)
 }

@@ -1,4 +1,4 @@
-use Rattle.std.proofs.Common.{◌<◌, subst, rules}
+use Rattle.std.proofs.Common.{◌<◌, subst, rules, arith}
 use Rattle.pingora_lru.specs.Core.{Core}
 use Rattle.lru_folder.specs.declared.reports.ShardLoadReport.{ShardLoadReport}
 use Rattle.lru_folder.specs.Meaning.{Meaning}
@@ -8,6 +8,7 @@ use Rattle.lru_loading.specs.Loading.{LoadsAll}
 use Rattle.lru_snapshot.specs.SnapshotLoads.{LoadsShard}
 use Rattle.lru_snapshot.proofs.SnapshotCalls.{if_ok, load_seen, calls_keep}
 use Rattle.lru_snapshot.proofs.SnapshotRestores.{restored_all}
+use Rattle.lru_snapshot.proofs.RoundTrips.{loads_all}
 use Rattle.lru_snapshot.proofs.snapshot.cores.load_core.Goals as goal
 
 -- the closure keeps the reference to the core that it was given
@@ -16,7 +17,7 @@ unfolding load_seen
 returns-clause-loads g c =
     let F = g.F.Folder in
     let m : Meaning _ = record { files = F.files; folders = F.folders; clock = F.clock; stopped_since = F.stopped_since; faults = F.faults; last_call = F.last_call; keeps = F.keeps } in
-    let loaded = c.load_shards.ensures.loads in
+    let loaded = rw c.shards-shards.ensures.value at c.load_shards.ensures.loads in
     let Loaded : Core Keyed → ShardLoadReport LoadError → Type 0 = λ core report.
     LoadsAll m LoadsShard c.args.dir_path.now c.args.file_name.now g.row.N c.args.core.now c.args.folder.now report core c.load_shards.new.folder in
     record {
@@ -44,5 +45,10 @@ returns-clause-loads g c =
 
 pub returns-clause-restores : goal.returns-clause-restores
 returns-clause-restores g c = λ kept saved tell empty.
-    restored_all _ _ _ _ _ _ saved kept tell c.args.core.now _ _ empty.rows empty.shards
+    restored_all _ _ _ _ _ _ saved kept tell c.args.core.now _ _ empty c.shards-shards.ensures.valid.count
+    (if_ok _ _ (λ report h. h.load) c.load_shards.result (returns-clause-loads g c).loads)
+
+pub returns-clause-all : goal.returns-clause-all
+returns-clause-all g c = λ kept same saved valid hold tell empty.
+    loads_all _ _ _ _ _ _ saved kept (λ rose. omega arith) valid hold tell c.args.core.now _ _ empty c.shards-shards.ensures.valid.count
     (if_ok _ _ (λ report h. h.load) c.load_shards.result (returns-clause-loads g c).loads)
