@@ -10,10 +10,10 @@ ghost use Rattle.lru_recordings.specs.Histories.{IsEviction, left_by, AreLegal, 
 ghost use Rattle.lru_recorded.specs.Probes.{Adds, AreProbes, FindsNone, IsRound};
 ghost use Rattle.lru_recordings.specs.Replies.{refused, weighed, paired, increments};
 
-use crate::gathered::{Gathered, Room};
 use lru_journals::entry::{Call, Entry, Names};
 use lru_journals::journal::{Seat, compare_all};
 use lru_journals::tie::{Blank, Registry, Tie, Token};
+use lru_recordings::gathered::{Gathered, Room};
 use lru_recordings::recording::Recording;
 use lru_rules::eviction::{EvictError, drawn_shards, place_after};
 use lru_rules::totals::Totals;
