@@ -1,5 +1,3 @@
 pub mod Dealing
-pub mod Records
 pub mod Probing
-pub mod Gathering
 pub mod Vectors

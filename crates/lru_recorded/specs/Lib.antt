@@ -1,2 +1,1 @@
 pub mod Probes
-pub mod Gathered

@@ -1,5 +1,4 @@
 //! A sharded order that records: each shard's calls are one legal history, and each answer comes with a receipt.
 #![tactic(auto)]
 
-mod gathered;
 pub mod recorded;

@@ -8,12 +8,13 @@ ghost use Rattle.lru_rules.specs.Limits.{cap_of, is_past};
 ghost use Rattle.lru_recordings.specs.Plain.{forget};
 ghost use Rattle.lru_recordings.specs.Histories.{IsEviction, left_by, AreLegal, lists_of};
 ghost use Rattle.lru_recorded.specs.Probes.{Adds, AreProbes, FindsNone, IsRound};
-ghost use Rattle.lru_recordings.specs.Replies.{refused, weighed, paired, increments};
+ghost use Rattle.lru_recordings.specs.Replies.{refused, weighed, paired, increments, IsGiven, IsMade};
+ghost use Rattle.lru_shard.specs.Unit.{Updates};
 
-use crate::gathered::{Gathered, Room};
 use lru_journals::entry::{Call, Entry, Names};
 use lru_journals::journal::{Seat, compare_all};
 use lru_journals::tie::{Blank, Registry, Tie, Token};
+use lru_recordings::gathered::{Gathered, Room};
 use lru_recordings::recording::Recording;
 use lru_rules::eviction::{EvictError, drawn_shards, place_after};
 use lru_rules::totals::Totals;
@@ -294,8 +295,8 @@ impl<T: Drop, B: Registry, const N: usize> RecordedLru<T, B, N> {
         A: FnOnce() -> (T, usize) + Drop,
         requires update { U.IsAlwaysCallable update }
         requires admit_data { A.IsAlwaysCallable admit_data }
-        ensures ok { IfOk result (λ was. (w : _) × GetsReceipt seat.old.receipts.items (key % N) (Call.UpdateOrAdmit key w) (Some (weighed was)) seat.new.receipts.items) }
-        ensures err { IfErr result (λ r. (w : _) × GetsReceipt seat.old.receipts.items (key % N) (Call.UpdateOrAdmit key w) (refused r.cause) seat.new.receipts.items) }
+        ensures ok { IfOk result (λ was. (w : _) × (IsGiven (Updates (U.post update)) (A.post admit_data) was w × GetsReceipt seat.old.receipts.items (key % N) (Call.UpdateOrAdmit key w) (Some (weighed was)) seat.new.receipts.items)) }
+        ensures err { IfErr result (λ r. (w : _) × (IsMade (A.post admit_data) r.held w × GetsReceipt seat.old.receipts.items (key % N) (Call.UpdateOrAdmit key w) (refused r.cause) seat.new.receipts.items)) }
         ensures seat { seat.new.number ≡ seat.old.number }
     {
         let shard = self.shard_of(key);

@@ -1,13 +1,14 @@
 -- Each call of a shard is the plain list's call, data forgotten.
 use Rattle.std.proofs.Common.{◌≡◌, ℕ, suc, ◌+◌, ◌≤◌, ◌<◌, ◌%◌, max, not, eqb, cond, Bool, true, false, List, [], ◌∷◌, length, Option, Some, None, refl, sym, ap, ◌∙◌, subst, arith, inl, inr}
-use Rattle.std.specs.Prelude.{Result, Ok, Err, option_map}
+use Rattle.std.specs.Prelude.{Result, Ok, Err, IfSome, option_map}
+use Rattle.std.specs.Borrow.{MutBor}
 use Rattle.std.specs.Option.{option_map_or}
 use Rattle.lru_shard.specs.declared.unit.Refused.{Refused as Handed}
 use Rattle.lru_shard.specs.declared.unit.Cause.{Cause}
 use Rattle.lru_shard.specs.declared.unit.Cause.TheVariants.{Memory, Weight as Heavy, Length}
 use Rattle.lru_shard.specs.Row.{Row, row, row_of, pair_of, is_held, first, without, with_weight, with_value, last_row, without_last, weight_of}
 use Rattle.lru_shard.specs.Shard.{Shard, shard, Size, size_of, and_row, refusal, MayRefuse, most_rows, IsShard, Accepts, Declines}
-use Rattle.lru_shard.specs.Unit.{Admits, InsertsTail, SetsWeight, IncrementsWeight, IncrementsRow, UpdatesOrAdmits, UpdatesRow, weight_at, tailed, raised, started, accessed}
+use Rattle.lru_shard.specs.Unit.{Updates, Admits, InsertsTail, SetsWeight, IncrementsWeight, IncrementsRow, UpdatesOrAdmits, UpdatesRow, RefusesNew, weight_at, tailed, raised, started, accessed}
 use Rattle.lru_rules.specs.ShardCalls.{promoted_past}
 use Rattle.lru_journals.specs.declared.entry.Call.{Call}
 use Rattle.lru_journals.specs.declared.entry.Call.TheVariants.{Admit, InsertTail, IncrementWeight, IncrementWeightUpTo, UpdateOrAdmit, SetWeight, Promote, PromoteTopN, EvictShard, EvictToLimit, Remove, Peek, PeekWeight, PeekLru}
@@ -18,7 +19,7 @@ use Rattle.lru_shard.proofs.Edits.{at_row, weight-without, weight-first, length-
 use Rattle.lru_shard.proofs.Refusals.{refusal_weight, refusal_length}
 use Rattle.lru_recordings.specs.Plain.{Plain, plain, forget, Step, step, found, unless_refused, grown, increment, called}
 use Rattle.lru_recordings.specs.Histories.{home, IsEviction}
-use Rattle.lru_recordings.specs.Replies.{refused, weighed, paired, admitted, inserted, new_weight, incremented, increments, set}
+use Rattle.lru_recordings.specs.Replies.{refused, weighed, paired, admitted, inserted, new_weight, incremented, increments, set, IsGiven, IsMade}
 use Rattle.lru_recordings.proofs.Forgets.{length-forget, weight-forget, size-forget, row_of-forget, is_held-forget, without-forget, first-forget, tailed-forget, with_weight-forget, weight_at-forget, accessed-forget, promoted-forget, last_row-forget, without_last-forget, forget-with_value}
 use Rattle.lru_recordings.proofs.Noted.{Stands}
 
@@ -219,6 +220,34 @@ module _ {T : Type 0} where
     pub stands_update : (was : Option ℕ) (w : ℕ) → UpdatesOrAdmits Changes Makes old k (Ok (was, w)) new → Stands old.cap (forget old.rows) (UpdateOrAdmit k w) (Some (weighed was)) (forget new.rows)
     stands_update was w h = updated_row (row_of old.rows k) refl was w h
 
+    -- the weight that the called closure gave
+    given_row : (o : Option (Row T)) (was : Option ℕ) (w : ℕ) → UpdatesRow Changes Makes old k o (Ok (was, w)) new → IsGiven Changes Makes was w
+    given_row (Some r) was w h = subst (λ (x : Option ℕ). IsGiven Changes Makes x w) (sym h.1.1.1.0.0) (r.value, (h.0, (h.1.0, (h.1.1.0, h.1.1.1.0.1))))
+    given_row None was w h = subst (λ (x : Option ℕ). IsGiven Changes Makes x w) (sym h.1.1.0.0) (h.0, (h.1.0, h.1.1.0.1))
+
+    pub given_of : (was : Option ℕ) (w : ℕ) → UpdatesOrAdmits Changes Makes old k (Ok (was, w)) new → IsGiven Changes Makes was w
+    given_of was w h = given_row (row_of old.rows k) was w h
+
+    none_made : (held : Option (T × ℕ)) → held ≡ None → IfSome held Makes
+    none_made held e = subst (λ (x : Option (T × ℕ)). IfSome x Makes) (sym e) tt
+
+    new_made : (cause : Cause) (held : Option (T × ℕ)) → RefusesNew Makes old cause held → IfSome held Makes
+    new_made Length held h = none_made held h.1
+    new_made Memory held h = none_made held h.1
+    new_made Heavy held h = subst (λ (x : Option (T × ℕ)). IfSome x Makes) (sym h.1.1.0) h.1.0
+
+    made_row : (o : Option (Row T)) (r : Handed (Option (T × ℕ))) → UpdatesRow Changes Makes old k o (Err r) new → IfSome r.held Makes
+    made_row (Some x) r h = none_made r.held h.1.1.1.1.0
+    made_row None r h = new_made r.cause r.held h.0
+
+    weighed_as : (held : Option (T × ℕ)) (w : ℕ) → IfSome held Makes → IfSome held (λ made. w ≡ max made.1 1) → IsMade Makes held w
+    weighed_as None w m e = tt
+    weighed_as (Some made) w m e = (m, e)
+
+    -- the weight of what was made, where it was handed back
+    pub made_of : (r : Handed (Option (T × ℕ))) (w : ℕ) → UpdatesOrAdmits Changes Makes old k (Err r) new → IfSome r.held (λ made. w ≡ max made.1 1) → IsMade Makes r.held w
+    made_of r w h e = weighed_as r.held w (made_row (row_of old.rows k) r h) e
+
     refused_row : (o : Option (Row T)) (r : Handed (Option (T × ℕ))) → UpdatesRow Changes Makes old k o (Err r) new → forget new.rows ≡ forget old.rows
     refused_row (Some x) r h = ap (λ (s : Shard T). forget s.rows) h.1.1.1.1.1 ∙ forget-with_value old.rows k h.0
     refused_row None r h = ap (λ (s : Shard T). forget s.rows) h.1
@@ -266,3 +295,12 @@ module _ {T : Type 0} where
       let at = at_row u.rows k r.0 valid.keys r.1.0 in
       same_refusal u.cap u.rows (first u.rows (row k r.0.value w)) (first (forget u.rows) (row k tt w)) (first-forget u.rows (row k r.0.value w))
       ∙ refusal_weight u.cap (size_of u.rows) (size_of (first u.rows (row k r.0.value w))) (inl (omega (arith, length-first u.rows k r.0 at r.0.value w))) (omega (arith, weight-first u.rows k r.0 at r.0.value w, r.1.1, much))
+
+-- a closure that does no more than another gives a weight that the other may give
+pub given_by : {T : Type 0} (Changes Changes' : T → ℕ → ℕ → T → Type 0) (Makes : T × ℕ → Type 0) (was : Option ℕ) (w : ℕ) → ((o : T) (v x : ℕ) (n : T) → Changes o v x n → Changes' o v x n) → IsGiven Changes Makes was w → IsGiven Changes' Makes was w
+given_by Changes Changes' Makes None w to h = h
+given_by Changes Changes' Makes (Some v) w to h = (h.0, (h.1.0, (h.1.1.0, (to h.0 v h.1.1.0 h.1.0 h.1.1.1.0, h.1.1.1.1))))
+
+-- what was lent and left to a closure that hands its data on
+pub updates_through : {T : Type 0} (P : MutBor T → ℕ → ℕ → MutBor T → Type 0) (lent left : MutBor T) (o n : T) (v x : ℕ) → Updates P lent.now v x left.now → lent.now ≡ o → left.now ≡ n → Updates P o v x n
+updates_through P lent left o n v x u shows leaves = subst (λ m. Updates P m v x n) shows (subst (λ m. Updates P lent.now v x m) leaves u)

@@ -1,3 +1,5 @@
 pub mod Forgets
 pub mod Noted
 pub mod Calls
+pub mod Records
+pub mod Gathering

@@ -1,3 +1,4 @@
 pub mod Plain
 pub mod Histories
 pub mod Replies
+pub mod Gathered

@@ -1,5 +1,5 @@
 -- What is noted of an answer: the reply, data aside; nothing where memory was wanting.
-use Rattle.std.specs.Prelude.{ℕ, Bool, Option, Some, None, Result, Ok, Err, option_map}
+use Rattle.std.specs.Prelude.{◌≡◌, ℕ, Bool, max, Option, Some, None, IfSome, Result, Ok, Err, option_map}
 use Rattle.lru_shard.specs.declared.unit.Refused.{Refused as Handed}
 use Rattle.lru_shard.specs.declared.unit.Cause.{Cause}
 use Rattle.lru_shard.specs.declared.unit.Cause.TheVariants.{Memory, Weight as Heavy, Length}
@@ -48,3 +48,13 @@ incremented (Err cause) = refused cause
 abbrev pub set : Result (Option ℕ) Cause → Option Reply
 set (Ok was) = Some (weighed was)
 set (Err cause) = refused cause
+
+-- the weight that is noted of an `update_or_admit` that was not refused: the one that the called closure gave, at least
+-- 1. `Changes` and `Makes` say what the closures may do
+abbrev pub IsGiven : {T : Type 0} → (T → ℕ → ℕ → T → Type 0) → (T × ℕ → Type 0) → Option ℕ → ℕ → Type 0
+IsGiven {T} Changes Makes None w = (made : T × ℕ) × (Makes made × (w ≡ max made.1 1))
+IsGiven {T} Changes Makes (Some was) w = (old : T) × ((new : T) × ((given : ℕ) × (Changes old was given new × (w ≡ max given 1))))
+
+-- the same of one that was refused, and handed back what was made
+abbrev pub IsMade : {T : Type 0} → (T × ℕ → Type 0) → Option (T × ℕ) → ℕ → Type 0
+IsMade Makes held w = IfSome held (λ made. Makes made × (w ≡ max made.1 1))

@@ -9,7 +9,7 @@ ghost use Rattle.lru_journals.specs.Stamps.{GetsReceipt};
 ghost use Rattle.lru_journals.specs.Ties.{hand};
 ghost use Rattle.lru_recordings.specs.Plain.{forget};
 ghost use Rattle.lru_recordings.specs.Histories.{left_by, answers, replies, home, IsEviction};
-ghost use Rattle.lru_recordings.specs.Replies.{refused, weighed, paired, increments};
+ghost use Rattle.lru_recordings.specs.Replies.{refused, weighed, paired, increments, IsGiven, IsMade};
 
 use crate::replies::{admitted, incremented, inserted, new_weight, paired, set, weighed};
 use lru_journals::entry::{Call, Reply};
@@ -111,6 +111,17 @@ fn refusal_of<T>(unit: &LruUnit<T>, cap: usize, key: u64, weight: usize) -> Opti
         Some(Cause::Weight)
     } else {
         None
+    }
+}
+
+// The weight that is noted of a refused update or admission: that of what was made, where it was made, at least 1; else
+// the one that is given.
+fn noted_weight<T>(held: &Option<(T, usize)>, given: usize) -> usize
+    ensures { IfSome held.now (λ made. result ≡ max made.1 1) }
+{
+    match held {
+        None => given,
+        Some((_, made)) => (*made).max(1),
     }
 }
 
@@ -382,8 +393,8 @@ impl<T: Drop, B: Registry, const N: usize> Recording<T, B, N> {
         requires home { key % N ≡ self.old.journal.number }
         requires update { U.IsAlwaysCallable update }
         requires admit_data { A.IsAlwaysCallable admit_data }
-        ensures ok { IfOk result (λ was. (w : _) × GetsReceipt seat.old.receipts.items self.old.journal.number (Call.UpdateOrAdmit key w) (Some (weighed was)) seat.new.receipts.items) }
-        ensures err { IfErr result (λ r. (w : _) × GetsReceipt seat.old.receipts.items self.old.journal.number (Call.UpdateOrAdmit key w) (refused r.cause) seat.new.receipts.items) }
+        ensures ok { IfOk result (λ was. (w : _) × (IsGiven (Updates (U.post update)) (A.post admit_data) was w × GetsReceipt seat.old.receipts.items self.old.journal.number (Call.UpdateOrAdmit key w) (Some (weighed was)) seat.new.receipts.items)) }
+        ensures err { IfErr result (λ r. (w : _) × (IsMade (A.post admit_data) r.held w × GetsReceipt seat.old.receipts.items self.old.journal.number (Call.UpdateOrAdmit key w) (refused r.cause) seat.new.receipts.items)) }
         ensures same { (self.new.journal.number ≡ self.old.journal.number) × (seat.new.number ≡ seat.old.number) }
     {
         let Recording { unit, journal } = self;
@@ -409,10 +420,7 @@ impl<T: Drop, B: Registry, const N: usize> Recording<T, B, N> {
             }
             Err(refusal) => refusal,
         };
-        let weight = match &refusal.held {
-            Some((_, made)) => (*made).max(1),
-            None => given,
-        };
+        let weight = noted_weight(&refusal.held, given);
         // No proof knows what a closure wrote to what it had captured, so the refusal is looked up again.
         let held = refusal.held;
         let Some(cause) = refusal_of(unit, usize::MAX / N, key, weight) else {

@@ -3,8 +3,8 @@ use Rattle.atomic_table.specs.declared.shared.Seat.{Seat as Token}
 use Rattle.lru_journals.specs.declared.entry.Stamp.{Stamp}
 use Rattle.lru_journals.specs.declared.entry.Hand.{Hand}
 use Rattle.lru_recordings.specs.Histories.{lists_of}
-use Rattle.lru_recorded.proofs.Records.{legal_all}
-use Rattle.lru_recorded.proofs.Gathering.{tied_by}
+use Rattle.lru_recordings.proofs.Records.{legal_all}
+use Rattle.lru_recordings.proofs.Gathering.{tied_by}
 use Rattle.lru_recorded.proofs.Vectors.{same_items}
 use Rattle.lru_recorded.proofs.recorded.RecordedLru.finish.Goals as goal
 

@@ -7,7 +7,7 @@ use Rattle.lru_recordings.specs.Plain.{forget}
 use Rattle.lru_journals.specs.declared.entry.Call.TheVariants.{UpdateOrAdmit}
 use Rattle.lru_journals.specs.declared.entry.Reply.TheVariants.{Refused}
 use Rattle.lru_shard.proofs.EditsOf.{edits_update}
-use Rattle.lru_recordings.proofs.Calls.{stands_update, refused_update, stands_refused}
+use Rattle.lru_recordings.proofs.Calls.{stands_update, refused_update, stands_refused, given_of, given_by, updates_through, made_of}
 use Rattle.lru_recordings.proofs.Noted.{keeps}
 use Rattle.lru_recordings.proofs.recording.Recording.update_or_admit.Goals as goal
 
@@ -33,25 +33,49 @@ pub invariant_of-self-2 : goal.invariant_of-self-2
 invariant_of-self-2 g c =
     let old = c.args.self.now in
     let new = c.update_or_admit-answer.new.self in
-    let w = c.match-refusal.weight in
-    let cause = c.in-Some-refusal_of.cause in
+    let w = c.noted_weight-weight.result in
+    let cause = c.in-Some.cause in
     let caps = (edits_update _ _ old.unit c.args.key (Err c.in-Err.refusal) new c.in-Err.ensures).caps in
     let same = refused_update _ _ old.unit new c.args.key c.in-Err.refusal c.in-Err.ensures in
-    let why = subst (λ (x : ℕ). refusal x (size_of (forget new.rows)) (size_of (first (forget new.rows) (row c.args.key tt w))) ≡ Some cause) caps c.in-Some-refusal_of.ensures.why in
+    let why = subst (λ (x : ℕ). refusal x (size_of (forget new.rows)) (size_of (first (forget new.rows) (row c.args.key tt w))) ≡ Some cause) caps c.in-Some.ensures.why in
     let kept = keeps g.row.N old.journal.number c.note-2.new.self.number _ _ old.unit new old.journal.history.items c.reserve.new.self.history.items c.note-2.new.self.history.items (UpdateOrAdmit c.args.key w) _ (Some (Refused cause)) old.below old.capped old.ends old.right old.homes
     c.requires.home caps (stands_refused old.unit new c.args.key w cause why same)
     refl c.reserve.ensures.history.1 c.note-2.ensures.history.1 (c.note-2.ensures.history.0 ∙ c.reserve.ensures.history.0) in
     record { below = kept.below; capped = kept.capped; ends = kept.told.ends; right = kept.told.right; homes = kept.told.homes }
 
+pub returns-in-Ok-clause-ok : goal.returns-in-Ok-clause-ok
+returns-in-Ok-clause-ok g c =
+    let old = c.args.self.now in
+    let new = c.update_or_admit-answer.new.self in
+    let w = c.in-Ok.weight in
+    let call = UpdateOrAdmit c.args.key w in
+    let given = given_of _ _ old.unit new c.args.key c.in-Ok.was w c.in-Ok.ensures in (
+      w,
+      (
+        given_by _ _ _ c.in-Ok.was w (λ o v x n u. updates_through _ u.lent u.left o n v x u.called u.shows u.leaves) given,
+        (
+          length c.reserve.new.self.history.items,
+          c.note.ensures.receipts.1
+              ∙ (λ i. c.reserve.ensures.receipts.1 i ++ receipt (c.reserve.ensures.history.0 i) (length c.reserve.new.self.history.items) call (c.weighed.ensures i) ∷ []),
+        ),
+      ),
+    )
+
 pub returns-clause-err : goal.returns-clause-err
 returns-clause-err g c =
-    let call = UpdateOrAdmit c.args.key c.match-refusal.weight in
-    let cause = c.in-Some-refusal_of.cause in (
-      c.match-refusal.weight,
+    let old = c.args.self.now in
+    let new = c.update_or_admit-answer.new.self in
+    let w = c.noted_weight-weight.result in
+    let call = UpdateOrAdmit c.args.key w in
+    let cause = c.in-Some.cause in (
+      w,
       (
-        length c.reserve.new.self.history.items,
-        c.note-2.ensures.receipts.1
-            ∙ (λ i. c.reserve.ensures.receipts.1 i ++ receipt (c.reserve.ensures.history.0 i) (length c.reserve.new.self.history.items) call (Refused cause) ∷ [])
-            ∙ ap (and_receipt c.args.seat.now.receipts.items c.args.self.now.journal.number (length c.reserve.new.self.history.items) call) (sym c.in-Some-refusal_of.ensures.noted),
+        made_of _ _ old.unit new c.args.key c.in-Err.refusal w c.in-Err.ensures c.noted_weight-weight.ensures,
+        (
+          length c.reserve.new.self.history.items,
+          c.note-2.ensures.receipts.1
+              ∙ (λ i. c.reserve.ensures.receipts.1 i ++ receipt (c.reserve.ensures.history.0 i) (length c.reserve.new.self.history.items) call (Refused cause) ∷ [])
+              ∙ ap (and_receipt c.args.seat.now.receipts.items c.args.self.now.journal.number (length c.reserve.new.self.history.items) call) (sym c.in-Some.ensures.noted),
+        ),
       ),
     )

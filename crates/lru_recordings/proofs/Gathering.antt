@@ -13,7 +13,7 @@ use Rattle.lru_journals.specs.declared.entry.Receipt.{Receipt}
 use Rattle.lru_journals.specs.Tied.{IsBook, AreTied}
 use Rattle.lru_journals.proofs.Lists.{some_same, none_some}
 use Rattle.lru_journals.proofs.Kept.{get_map, map_get, are_tied}
-use Rattle.lru_recorded.specs.Gathered.{empty_in, IsGathered, EachRises}
+use Rattle.lru_recordings.specs.Gathered.{empty_in, IsGathered, EachRises}
 
 module _ {A : Type 0} where
   pub get_here : (l : List A) (i : ℕ) (a : A) → i < length l → slice_get (set l i a) i ≡ Some a

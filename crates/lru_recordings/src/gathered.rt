@@ -6,12 +6,12 @@ ghost use Rattle.lru_journals.specs.Ties.{hand};
 ghost use Rattle.lru_journals.specs.Tied.{IsBook};
 ghost use Rattle.lru_recordings.specs.Plain.{forget};
 ghost use Rattle.lru_recordings.specs.Histories.{left_by, answers, replies, home, lists_of, homes_from, shards_from};
-ghost use Rattle.lru_recorded.specs.Gathered.{empty_in, ArePlaced, IsGathered, EachRises};
+ghost use Rattle.lru_recordings.specs.Gathered.{empty_in, ArePlaced, IsGathered, EachRises};
 
+use crate::recording::Recording;
 use lru_journals::entry::{Entry, Names};
 use lru_journals::journal::Journal;
 use lru_journals::tie::{Registry, Tie, Token};
-use lru_recordings::recording::Recording;
 use lru_shard::unit::LruUnit;
 use std::alloc::{AllocError, Global};
 use std::sync::Mutex;

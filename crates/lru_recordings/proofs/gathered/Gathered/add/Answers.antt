@@ -7,8 +7,8 @@ use Rattle.lru_journals.proofs.Lists.{get_snoc}
 use Rattle.lru_recordings.specs.Plain.{forget}
 use Rattle.lru_recordings.specs.Histories.{lists_of, left_by, replies, answers, home, homes_from, shards_from}
 use Rattle.lru_recordings.proofs.Noted.{map_snoc}
-use Rattle.lru_recorded.proofs.Records.{homes_snoc, shards_snoc, length_of_map}
-use Rattle.lru_recorded.proofs.gathered.Gathered.add.Goals as goal
+use Rattle.lru_recordings.proofs.Records.{homes_snoc, shards_snoc, length_of_map}
+use Rattle.lru_recordings.proofs.gathered.Gathered.add.Goals as goal
 
 pub invariant_of-self : goal.invariant_of-self
 invariant_of-self g c =

@@ -2,8 +2,8 @@ use Rattle.std.proofs.Common.{◌≡◌, ◌∙◌, map, length, Some, List, sym
 use Rattle.std.specs.Prelude.{option_map}
 use Rattle.lru_journals.specs.declared.entry.Entry.{Entry}
 use Rattle.lru_recordings.specs.Histories.{lists_of}
-use Rattle.lru_recorded.proofs.Gathering.{starts, is_book, map_twice}
-use Rattle.lru_recorded.proofs.gathered.Room.fill.Goals as goal
+use Rattle.lru_recordings.proofs.Gathering.{starts, is_book, map_twice}
+use Rattle.lru_recordings.proofs.gathered.Room.fill.Goals as goal
 
 pub gather-requires : goal.gather-requires
 gather-requires g c =

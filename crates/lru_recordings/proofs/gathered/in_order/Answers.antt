@@ -4,8 +4,8 @@ use Rattle.std.proofs.lemmas.Iterator.Adapters.{YieldsList-from_vec}
 use Rattle.std.proofs.lemmas.Iterator.Consumers.{YieldsList-turn}
 use Rattle.std.proofs.lemmas.Option.{slice_get-get_or}
 use Rattle.lru_journals.proofs.Lists.{some_same, none_some}
-use Rattle.lru_recorded.proofs.Gathering.{no_empty}
-use Rattle.lru_recorded.proofs.gathered.in_order.Goals as goal
+use Rattle.lru_recordings.proofs.Gathering.{no_empty}
+use Rattle.lru_recordings.proofs.gathered.in_order.Goals as goal
 
 pub unreachable-requires : goal.unreachable-requires
 unreachable-requires g c =

@@ -4,8 +4,8 @@ use Rattle.atomic_table.specs.declared.shared.Seat.{Seat as Token}
 use Rattle.lru_journals.specs.declared.entry.Stamp.{Stamp}
 use Rattle.lru_journals.specs.declared.entry.Hand.{Hand}
 use Rattle.lru_journals.specs.Ties.{times, up}
-use Rattle.lru_recorded.proofs.Gathering.{gathered_more, one_less}
-use Rattle.lru_recorded.proofs.gathered.place.Goals as goal
+use Rattle.lru_recordings.proofs.Gathering.{gathered_more, one_less}
+use Rattle.lru_recordings.proofs.gathered.place.Goals as goal
 
 pub returns-clause-more : goal.returns-clause-more
 returns-clause-more g c =

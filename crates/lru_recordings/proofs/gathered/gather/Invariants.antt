@@ -1,6 +1,6 @@
 use Rattle.std.proofs.Common.{◌≡◌, vec_len}
-use Rattle.lru_recorded.specs.Gathered.{IsGathered, empty_in}
-use Rattle.lru_recorded.proofs.gathered.gather.Given as goal
+use Rattle.lru_recordings.specs.Gathered.{IsGathered, empty_in}
+use Rattle.lru_recordings.proofs.gathered.gather.Given as goal
 
 abbrev pub invariant-loop-lock : goal.invariant-loop-lock
 invariant-loop-lock g l = IsGathered (λ k. k.number) (λ k. k.history.items) g.row.N l.slots.items l.book.me × ((l.book.table_id ≡ g.B.Registry.table) × (empty_in l.slots.items ≡ vec_len l.locks))

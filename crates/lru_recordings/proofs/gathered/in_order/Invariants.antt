@@ -1,6 +1,6 @@
 use Rattle.std.proofs.Common.{◌≡◌, ◌≤◌, length, map, Some, vec_len, vec_capacity}
 use Rattle.std.specs.Prelude.{option_map}
-use Rattle.lru_recorded.proofs.gathered.in_order.Given as goal
+use Rattle.lru_recordings.proofs.gathered.in_order.Given as goal
 
 abbrev pub invariant-loop-slot : goal.invariant-loop-slot
 invariant-loop-slot g l = record {

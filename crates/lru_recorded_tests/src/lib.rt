@@ -1,0 +1,11 @@
+//! Tests of `lru_recorded`: its worked rows, drawn calls by four threads, and a plain checker of what they leave.
+#![tactic(auto)]
+
+#[cfg(test)]
+mod asked;
+#[cfg(test)]
+mod plain;
+#[cfg(test)]
+mod rows;
+#[cfg(test)]
+mod threads;
