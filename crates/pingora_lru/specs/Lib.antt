@@ -11,3 +11,11 @@ pub use Rattle.lru_rules.specs.Limits
 pub use Rattle.lru_rules.specs.Draws
 pub use Rattle.lru_rules.specs.ShardCalls
 pub use Rattle.lru_locks.specs.LruCalls
+pub use Rattle.lru_journals.specs.Ties
+pub use Rattle.lru_journals.specs.Stamps
+pub use Rattle.lru_journals.specs.Tied
+pub use Rattle.lru_recordings.specs.Plain
+pub use Rattle.lru_recordings.specs.Histories
+pub use Rattle.lru_recordings.specs.Gathered
+pub use Rattle.lru_recordings.specs.Replies
+pub use Rattle.lru_recorded.specs.Probes

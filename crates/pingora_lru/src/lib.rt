@@ -2,7 +2,7 @@
 //!
 //! [`linked_list::LinkedList`] is the order of one shard, [`unit::LruUnit`] is one shard,
 //! [`lru_core::LruCore`] is N shards of one owner, and [`Lru`] is N shards for many threads;
-//! [`calls`] has the calls of a core as values. Each stands in a small crate beneath; these are the names for users.
+//! [`calls`] has the calls of a core as values, and [`recorded`] an order that keeps the history of its calls. Each stands in a small crate beneath; these are the names for users.
 #![tactic(auto)]
 
 pub use lru_list::linked_list;
@@ -15,4 +15,12 @@ pub use lru_shard::unit;
 pub mod lru_core {
     pub use lru_cores::lru_core::{EvictError, LruCore};
     pub use lru_runs::inclusion::inclusion_law;
+}
+
+/// N shards for many threads, each of which keeps the history of its calls, with a receipt for each call.
+pub mod recorded {
+    pub use lru_journals::entry::{Call, Entry, Names, Receipt, Reply};
+    pub use lru_journals::journal::Seat;
+    pub use lru_journals::tie::{Blank, Registry};
+    pub use lru_recorded::recorded::{Recorded, RecordedLru};
 }
