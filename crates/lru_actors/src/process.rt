@@ -89,7 +89,7 @@ fn has_room(map: &mut HashMap<u64, usize>, key: u64) -> bool
     ensures room { IsTrue result → hash.get nat_eq map.new key ≡ None → 0 < hash.spare map.new }
     ensures wanted { IsFalse result → hash.get nat_eq map.old key ≡ None }
 {
-    map.contains_key(&key) || map.reserve(1).is_ok()
+    map.len() < map.capacity() || map.contains_key(&key) || map.reserve(1).is_ok()
 }
 
 // Sets a weight, and takes a hash out.
