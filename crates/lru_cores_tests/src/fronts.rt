@@ -9,39 +9,39 @@ use rand_core::SeedableRng;
 use std::alloc::{AllocError, Global};
 use std::test::Fail;
 
-// Does the steps of both, and says which are otherwise, and where the first has no front of the second's rows.
-fn faults_of_both(
+// Does the steps on two cores, and says which are otherwise, and where the first has no front of the second's rows.
+fn faults_of(
     alloc: Global,
-    small: &mut LruCore<u64, 1>,
-    large: &mut LruCore<u64, 1>,
+    mut small: LruCore<u64, 1>,
+    mut large: LruCore<u64, 1>,
     steps: &[(Step, Step)],
 ) -> Result<String, AllocError> {
     let mut rng = StdRng::seed_from_u64(7);
     let mut faults = String::new(alloc);
     for (first, second) in steps {
-        faults.push_str(fault(alloc, small, &mut rng, *first)?.as_str())?;
-        faults.push_str(fault(alloc, large, &mut rng, *second)?.as_str())?;
-        let front = rows_of(alloc, small, 0)?;
-        if !rows_of(alloc, large, 0)?.starts_with(&front) {
+        faults.push_str(fault(alloc, &mut small, &mut rng, *first)?.as_str())?;
+        faults.push_str(fault(alloc, &mut large, &mut rng, *second)?.as_str())?;
+        let front = rows_of(alloc, &small, 0)?;
+        if !rows_of(alloc, &large, 0)?.starts_with(&front) {
             faults.push_str("no front\n")?;
         }
     }
     Ok(faults)
 }
 
+fn all_faults(alloc: Global) -> Result<String, AllocError> {
+    let small = LruCore::with_capacity(alloc, 3, 0)?;
+    let large = LruCore::with_capacity(alloc, 5, 0)?;
+    let mut faults = faults_of(alloc, small, large, &UNDER_TWO_LIMITS)?;
+    let small = LruCore::with_capacity_and_watermark(alloc, 10, 0, Some(2))?;
+    let large = LruCore::with_capacity(alloc, 10, 0)?;
+    faults.push_str(faults_of(alloc, small, large, &UNDER_A_WATERMARK)?.as_str())?;
+    Ok(faults)
+}
+
 #[test]
 fn keeps_a_front_under_smaller_limits(rt: HostRuntime) -> Result<(), Fail> {
     inclusion_law::<u64>();
-    for (limit, watermark, greater, steps) in [
-        (3, None, 5, UNDER_TWO_LIMITS.as_slice()),
-        (10, Some(2), 10, UNDER_A_WATERMARK.as_slice()),
-    ] {
-        let mut small = LruCore::with_capacity_and_watermark(rt.alloc(), limit, 0, watermark)?;
-        let mut large = LruCore::with_capacity(rt.alloc(), greater, 0)?;
-        assert_eq!(rt;
-            faults_of_both(rt.alloc(), &mut small, &mut large, steps)?.as_str(),
-            ""
-        );
-    }
+    assert_eq!(rt; all_faults(rt.alloc())?.as_str(), "");
     Ok(())
 }

@@ -1,7 +1,6 @@
 // What a core shows of its shards and limits.
 ghost use Rattle.std.specs.Prelude.{◌<◌};
 
-use crate::steps::shown;
 use lru_cores::lru_core::LruCore;
 use std::alloc::{AllocError, Global};
 use std::test::Fail;
@@ -35,25 +34,26 @@ fn seen<const N: usize>(
     format!(in alloc; "{len} {weight} {rows:?}")
 }
 
+// A core with room made for it, before and after three rows.
+fn shows(alloc: Global) -> Result<String, Fail> {
+    let mut core = LruCore::<u64, 2>::with_capacity(alloc, 10, 3)?;
+    let room = (core.reserve_shard(0, 100), core.reserve_shard(2, MOST));
+    let empty = counters(&core);
+    let shards = (
+        core.admit(0, 0, 2)?,
+        core.admit(1, 10, 3)?,
+        core.admit(2, 20, 0)?,
+    );
+    let full = counters(&core);
+    let (even, odd) = (seen(alloc, &core, 0)?, seen(alloc, &core, 1)?);
+    Ok(format!(in alloc; "{room:?} {empty:?} {shards:?} {full:?} {even} {odd}")?)
+}
+
 #[test]
 fn shows_its_shards(rt: HostRuntime) -> Result<(), Fail> {
-    let mut core = LruCore::<u64, 2>::with_capacity(rt.alloc(), 10, 3)?;
-    for (shard, more) in [(0, 100), (2, MOST)] {
-        assert_eq!(rt; core.reserve_shard(shard, more), Ok(()));
-    }
-    assert_eq!(rt; counters(&core), [2, 10, 0, 0, 0, 0]);
-    for (key, weight) in [(0, 2), (1, 3), (2, 0)] {
-        assert_eq!(rt; core.admit(key, key * 10, weight)? as u64, key % 2);
-    }
-    assert_eq!(rt; counters(&core), [2, 10, 3, 6, 0, 0]);
     assert_eq!(rt;
-        shown(rt.alloc(), &core)?.as_str(),
-        "6: [(20, 1), (0, 2)] [(10, 3)]"
+        shows(rt.alloc())?.as_str(),
+        "(Ok(()), Ok(())) [2, 10, 0, 0, 0, 0] (0, 1, 0) [2, 10, 3, 6, 0, 0] 2 3 [(20, 1), (0, 2)] 1 3 [(10, 3)]"
     );
-    assert_eq!(rt;
-        seen(rt.alloc(), &core, 0)?.as_str(),
-        "2 3 [(20, 1), (0, 2)]"
-    );
-    assert_eq!(rt; seen(rt.alloc(), &core, 1)?.as_str(), "1 3 [(10, 3)]");
     Ok(())
 }

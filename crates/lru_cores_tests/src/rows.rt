@@ -38,8 +38,9 @@ fn faults_of<const N: usize>(
     Ok(faults)
 }
 
-#[test]
-fn one_shard_follows_its_rows(rt: HostRuntime) -> Result<(), Fail> {
+// The faults of all tables.
+fn all_faults(alloc: Global) -> Result<String, AllocError> {
+    let mut faults = String::new(alloc);
     for (limit, steps) in [
         (100, SETS_WEIGHTS.as_slice()),
         (100, WEIGHS_NEW_ROWS.as_slice()),
@@ -48,13 +49,8 @@ fn one_shard_follows_its_rows(rt: HostRuntime) -> Result<(), Fail> {
         (10, EVICTS_THE_OLDEST.as_slice()),
         (0, COUNTS_UP_TO_THE_WIDTH.as_slice()),
     ] {
-        assert_eq!(rt; faults_of::<1>(rt.alloc(), limit, steps)?.as_str(), "");
+        faults.push_str(faults_of::<1>(alloc, limit, steps)?.as_str())?;
     }
-    Ok(())
-}
-
-#[test]
-fn many_shards_follow_their_rows(rt: HostRuntime) -> Result<(), Fail> {
     for (limit, steps) in [
         (100, PROMOTES.as_slice()),
         (14, STEPS_TO_A_VICTIM.as_slice()),
@@ -62,16 +58,16 @@ fn many_shards_follow_their_rows(rt: HostRuntime) -> Result<(), Fail> {
         (10, ANSWERS_EACH_CALL.as_slice()),
         (10, ANSWERS_WHERE_NOTHING_IS.as_slice()),
     ] {
-        assert_eq!(rt; faults_of::<2>(rt.alloc(), limit, steps)?.as_str(), "");
+        faults.push_str(faults_of::<2>(alloc, limit, steps)?.as_str())?;
     }
-    assert_eq!(rt;
-        faults_of::<3>(rt.alloc(), MOST, &WEIGHS_A_THIRD)?.as_str(),
-        ""
-    );
-    assert_eq!(rt;
-        faults_of::<4>(rt.alloc(), 1, &GOES_ROUND_THE_CIRCLE)?.as_str(),
-        ""
-    );
+    faults.push_str(faults_of::<3>(alloc, MOST, &WEIGHS_A_THIRD)?.as_str())?;
+    faults.push_str(faults_of::<4>(alloc, 1, &GOES_ROUND_THE_CIRCLE)?.as_str())?;
+    Ok(faults)
+}
+
+#[test]
+fn follows_its_rows(rt: HostRuntime) -> Result<(), Fail> {
+    assert_eq!(rt; all_faults(rt.alloc())?.as_str(), "");
     Ok(())
 }
 

@@ -51,9 +51,10 @@ fn keys(rt: &HostRuntime, list: &LinkedListU64) -> Result<Vec<u64>, Fail> {
 #[test]
 fn iterates_from_both_ends(rt: HostRuntime) -> Result<(), Fail> {
     let mut list = LinkedListU64::with_capacity(rt.alloc(), 3)?;
-    list.push_head(2)?;
-    list.push_head(3)?;
-    list.push_tail(4)?;
+    assert_eq!(rt;
+        (list.push_head(2)?, list.push_head(3)?, list.push_tail(4)?),
+        (2, 3, 4)
+    );
     let mut items = list.iter();
     assert_eq!(rt; items.size_hint(), (3, Some(3)));
     assert_eq!(rt; items.next().copied(), Some(3));
@@ -84,9 +85,10 @@ fn uses_a_freed_slot_again(rt: HostRuntime) -> Result<(), Fail> {
 #[test]
 fn finds_near_the_head(rt: HostRuntime) -> Result<(), Fail> {
     let mut list = LinkedListU64::with_capacity(rt.alloc(), 0)?;
-    list.push_tail(3)?;
-    list.push_tail(2)?;
-    list.push_tail(4)?;
+    assert_eq!(rt;
+        (list.push_tail(3)?, list.push_tail(2)?, list.push_tail(4)?),
+        (2, 3, 4)
+    );
     for (limit, found) in [(1, false), (2, false), (3, true), (99999, true)] {
         assert_eq!(rt;
             list.exist_near_head(&4, limit),
@@ -127,8 +129,8 @@ fn makes_room_in_an_empty_list(rt: HostRuntime) -> Result<(), Fail> {
 #[test]
 fn promotes_and_walks(rt: HostRuntime) -> Result<(), Fail> {
     let mut list = LinkedListU64::with_capacity(rt.alloc(), 4)?;
-    for k in 1..=4 {
-        list.push_tail(k)?;
+    for k in 1..=4u64 {
+        assert_eq!(rt; list.push_tail(k)? as u64, k + 1);
     }
     assert_eq!(rt; (list.head(), list.tail()), (Some(2), Some(5)));
     assert!(rt; promote_at(&mut list, 4));
@@ -175,7 +177,7 @@ fn holds_texts(rt: HostRuntime) -> Result<(), Fail> {
     assert_eq!(rt; list.pop_tail(), Some(word(&rt, "c")?));
     assert_eq!(rt; remove_at(&mut list, 2), Some(word(&rt, "bd")?));
     assert!(rt; list.peek(2).is_some_and(|item| item.is_none()));
-    assert!(rt; list.iter().next_back().is_some());
+    assert_eq!(rt; list.iter().next_back(), Some(&word(&rt, "a")?));
     assert_eq!(rt; list.len(), 1);
     Ok(())
 }

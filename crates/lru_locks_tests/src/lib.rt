@@ -2,10 +2,16 @@
 #![tactic(auto)]
 
 #[cfg(test)]
+mod closures;
+#[cfg(test)]
+mod draws;
+#[cfg(test)]
 mod replays;
 #[cfg(test)]
 mod rows;
 #[cfg(test)]
 mod shown;
+#[cfg(test)]
+mod steps;
 #[cfg(test)]
 mod threads;

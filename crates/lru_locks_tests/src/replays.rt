@@ -2,11 +2,11 @@
 ghost use Rattle.lru_runs.specs.Calls.{IsAllowed};
 
 use crate::shown::{core_state_of, state_of, text_of};
+use crate::steps::answer_of;
 use lru_cores::lru_core::LruCore;
 use lru_locks::lru::Lru;
 use lru_runs::calls;
-use lru_runs::calls::{Call, Reply};
-use lru_shard::unit::Refused;
+use lru_runs::calls::Call;
 use rand::RngExt;
 use rand::rngs::StdRng;
 use rand_core::SeedableRng;
@@ -62,73 +62,6 @@ fn drawn_call<const N: usize>(rng: &mut StdRng, of: Of) -> Call<u64>
         12 => Call::EvictToLimit,
         13 => Call::SetWeightLimit { limit: 15 + most },
         _ => Call::Totals,
-    }
-}
-
-fn update<R: Wait, const N: usize>(
-    rt: &R,
-    lru: &Lru<u64, N>,
-    key: u64,
-    present: u64,
-    missing: u64,
-    delta: usize,
-) -> Result<Option<usize>, Refused<Option<(u64, usize)>>> {
-    lru.update_or_admit(
-        rt,
-        key,
-        |value: &mut u64, weight: usize| {
-            *value = present;
-            weight.saturating_add(delta)
-        },
-        || (missing, delta),
-    )
-}
-
-// Does a call on an `Lru`. An `evict_step` is no call of it.
-fn answer_of<R: Wait, const N: usize>(
-    rt: &R,
-    alloc: Global,
-    rng: &mut StdRng,
-    lru: &Lru<u64, N>,
-    call: Call<u64>,
-) -> Reply<u64> {
-    match call {
-        Call::Admit { key, data, weight } => Reply::Shard(lru.admit(rt, key, data, weight)),
-        Call::InsertTail { key, data, weight } => Reply::Inserted(lru.insert_tail(
-            rt, key, data, weight,
-        )),
-        Call::IncrementWeight {
-            key,
-            data,
-            delta,
-            max_weight,
-        } => Reply::Weight(lru.increment_weight(rt, key, || data, delta, max_weight)),
-        Call::UpdateOrAdmit {
-            key,
-            present,
-            missing,
-            delta,
-        } => Reply::Updated(update(rt, lru, key, present, missing, delta)),
-        Call::SetWeight { key, weight } => Reply::Was(lru.set_weight(rt, key, weight)),
-        Call::Promote { key } => Reply::Held(lru.promote(rt, key)),
-        Call::PromoteTopN { key, top } => Reply::Held(lru.promote_top_n(rt, key, top)),
-        Call::Remove { key } => Reply::Left(lru.remove(rt, key)),
-        Call::EvictShard { shard } => Reply::Left(lru.evict_shard(rt, shard)),
-        Call::EvictStep { .. } => Reply::Left(None),
-        Call::EvictToLimit => Reply::Evicted(lru.evict_to_limit(rt, alloc, rng)),
-        Call::SetWeightLimit { limit } => {
-            lru.set_weight_limit(limit);
-            Reply::Done
-        }
-        Call::Peek { key } => Reply::Held(lru.peek(rt, key)),
-        Call::PeekWeight { key } => Reply::Known(lru.peek_weight(rt, key)),
-        Call::PeekLru { shard } => Reply::Last(lru.peek_lru(rt, shard)),
-        Call::Totals => Reply::Totals {
-            len: lru.len(),
-            weight: lru.weight(),
-            evicted_len: lru.evicted_len(),
-            evicted_weight: lru.evicted_weight(),
-        },
     }
 }
 

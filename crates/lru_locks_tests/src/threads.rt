@@ -19,7 +19,7 @@ fn is_raised(flag: &AtomicBool) -> bool {
     false
 }
 
-// One thread holds shard 0 until another has used shard 1. Whether it saw that.
+// One thread holds shard 0 until another has used shard 1. Whether each saw the other, and got its answer.
 fn works_at_once<R: Threads + Wait + Sync>(rt: &R, lru: &Lru<u64, 2>) -> (bool, bool) {
     let first = AtomicBool::new(false);
     let second = AtomicBool::new(false);
@@ -29,7 +29,7 @@ fn works_at_once<R: Threads + Wait + Sync>(rt: &R, lru: &Lru<u64, 2>) -> (bool, 
         rt,
         move || {
             let mut seen = false;
-            let _ = lru.update_or_admit(
+            let answer = lru.update_or_admit(
                 rt,
                 0,
                 |value: &mut u64, weight: usize| {
@@ -40,13 +40,13 @@ fn works_at_once<R: Threads + Wait + Sync>(rt: &R, lru: &Lru<u64, 2>) -> (bool, 
                 },
                 || (0, 1),
             );
-            seen
+            seen && matches!(answer, Ok(Some(1)))
         },
         move || {
             let seen = is_raised(one);
-            let admitted = lru.admit(rt, 1, 5, 1).is_ok();
+            let answer = lru.admit(rt, 1, 5, 1);
             two.store(true, Ordering::SeqCst);
-            seen && admitted
+            seen && matches!(answer, Ok(1))
         },
     )
 }
@@ -55,7 +55,7 @@ fn works_at_once<R: Threads + Wait + Sync>(rt: &R, lru: &Lru<u64, 2>) -> (bool, 
 fn shards_work_at_once(rt: HostRuntime) -> Result<(), Fail> {
     let alloc: Global = rt.alloc();
     let lru = Lru::<u64, 2>::with_capacity(alloc, 10, 1)?;
-    lru.admit(&rt, 0, 1, 1)?;
+    assert_eq!(rt; lru.admit(&rt, 0, 1, 1)?, 0);
     assert_eq!(rt; works_at_once(&rt, &lru), (true, true));
     assert_eq!(rt; lru.len(), 2);
     assert_eq!(rt;

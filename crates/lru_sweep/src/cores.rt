@@ -1,7 +1,7 @@
 // Evictions of one shard and of two, and the two cores of which one keeps a beginning of the other's rows.
 use crate::made;
 use lru_cores::lru_core::LruCore;
-use lru_shard::unit::Cause;
+use lru_shard::unit::{Cause, Refused};
 use rand::rngs::StdRng;
 use rand_core::{Rng, SeedableRng};
 use std::alloc::Global;
@@ -33,14 +33,18 @@ fn shown<const N: usize>(core: &LruCore<u64, N>) -> Shown {
 }
 
 // Admits a key as its own data, at the second try where the first was refused for memory and changed nothing.
-fn admit<const N: usize>(core: &mut LruCore<u64, N>, key: u64, weight: usize) -> bool {
+fn admit<const N: usize>(
+    core: &mut LruCore<u64, N>,
+    key: u64,
+    weight: usize,
+) -> Result<usize, Refused<u64>> {
     let before = shown(core);
     match core.admit(key, key, weight) {
         Err(refused)
             if refused.cause == Cause::Memory && refused.held == key && before == shown(core) => {
-            core.admit(key, key, weight).is_ok()
+            core.admit(key, key, weight)
         }
-        answer => answer.is_ok(),
+        answer => answer,
     }
 }
 
@@ -84,8 +88,8 @@ fn one_shard<W: Write>(alloc: Global, writer: &mut W) -> io::Result<()> {
         |alloc| LruCore::<u64, 1>::with_capacity(alloc, 10, 0),
     )?;
     for key in 0..5u64 {
-        let admitted = admit(&mut core, key, 2);
-        writeln!(writer, "admit {key} {admitted}")?;
+        let answer = admit(&mut core, key, 2);
+        writeln!(writer, "admit {key} {answer:?}")?;
     }
     core.set_weight_limit(4);
     evict(&mut core, alloc, &mut rng, writer)?;
@@ -100,8 +104,8 @@ fn two_shards<W: Write>(alloc: Global, writer: &mut W) -> io::Result<()> {
         |alloc| LruCore::<u64, 2>::with_capacity_and_watermark(alloc, 100, 0, Some(2)),
     )?;
     for key in 0..6u64 {
-        let admitted = admit(&mut core, key, 1);
-        writeln!(writer, "admit {key} {admitted}")?;
+        let answer = admit(&mut core, key, 1);
+        writeln!(writer, "admit {key} {answer:?}")?;
     }
     // Which rows leave hangs on the draws: how many leave does not.
     let evicted = match core.evict_to_limit(alloc, &mut rng) {
@@ -121,8 +125,8 @@ fn two_limits<W: Write>(alloc: Global, writer: &mut W) -> io::Result<()> {
     let mut small = made(alloc, |alloc| LruCore::<u64, 1>::with_capacity(alloc, 3, 0))?;
     let mut large = made(alloc, |alloc| LruCore::<u64, 1>::with_capacity(alloc, 5, 0))?;
     for key in [1, 2, 3, 1, 4u64] {
-        let admitted = (admit(&mut small, key, 2), admit(&mut large, key, 2));
-        writeln!(writer, "admit {key} {admitted:?}")?;
+        let answers = (admit(&mut small, key, 2), admit(&mut large, key, 2));
+        writeln!(writer, "admit {key} {answers:?}")?;
         evict(&mut small, alloc, &mut rng, writer)?;
         evict(&mut large, alloc, &mut rng, writer)?;
     }
