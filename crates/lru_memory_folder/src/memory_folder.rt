@@ -1,6 +1,6 @@
 // A folder in memory, which can be made to fail, and which knows what a stop could have left.
-ghost use Rattle.std.specs.Prelude.{◌≡◌, ◌≢◌, ◌<◌, ◌++◌, ◌∷◌, [], ℕ, List, None, Some, IfOk, IsErrOf, IsTrue, MatchOption, MatchResult, OnOk, length, map, take, vec_len, vec_capacity};
-ghost use Rattle.std.specs.FinMap.{empty, get, insert};
+ghost use Rattle.std.specs.Prelude.{◌≡◌, ◌≢◌, [], ℕ, List, None, Some, IfOk, IsErrOf, IsTrue, MatchOption, MatchResult, OnOk, length, map, take};
+ghost use Rattle.std.specs.FinMap.{get, insert};
 ghost use Rattle.lru_memory_folder.specs.declared.calls.Plan.TheVariants.{Works, FailsAt, StopsAt};
 ghost use Rattle.lru_folder.specs.Files.{created, appended, renamed, removed, AllOrNone, SomeFront, Same};
 ghost use Rattle.lru_folder.specs.Folder as mode;
@@ -8,7 +8,7 @@ ghost use Rattle.lru_folder.specs.Folder.{HasCause, IsReading, IsWriting, Passes
 ghost use Rattle.lru_folder.specs.Listings.{name_of};
 ghost use Rattle.lru_memory_folder.specs.Memory.{files_of, folders_of, clock_of, faults_of, stopped_since_of};
 ghost use Rattle.lru_folder.specs.Places.{folder_of, is_there, can_list, listing, MakesAll, MakesSome};
-ghost use Rattle.lru_memory_folder.specs.Plans.{fate, front_of, nothing, GoesAsPlanned, MovesOn};
+ghost use Rattle.lru_memory_folder.specs.Plans.{front_of, nothing, GoesAsPlanned};
 
 use crate::calls::Plan;
 use crate::held::find;
