@@ -1,4 +1,5 @@
 //! A message with its cell.
+ghost use Rattle.std.specs.Prelude.{◌≡◌, Some, None};
 
 use crate::reply_cell::ReplyCell;
 use lru_actors::effect::Reply;
@@ -17,7 +18,9 @@ pub struct Letter<K: Drop> {
 
 impl<K: Drop> Letter<K> {
     /// A message that asks for nothing.
-    pub fn new(message: LruMsg<K>) -> Self {
+    pub fn new(message: LruMsg<K>) -> Self
+        ensures { (result.message ≡ message) × (result.cell ≡ None) }
+    {
         Letter {
             message,
             cell: None,
@@ -25,7 +28,9 @@ impl<K: Drop> Letter<K> {
     }
 
     /// A message whose reply is to be given in this cell.
-    pub fn asking(message: LruMsg<K>, cell: Arc<ReplyCell<Reply<K>>, Global>) -> Self {
+    pub fn asking(message: LruMsg<K>, cell: Arc<ReplyCell<Reply<K>>, Global>) -> Self
+        ensures { (result.message ≡ message) × (result.cell ≡ Some cell) }
+    {
         Letter {
             message,
             cell: Some(cell),
