@@ -11,9 +11,11 @@ ghost use Rattle.lru_recorded.specs.Probes.{Adds, AreProbes, FindsNone, IsRound}
 ghost use Rattle.lru_recordings.specs.Replies.{refused, weighed, paired, increments, IsGiven, IsMade};
 ghost use Rattle.lru_shard.specs.Unit.{Updates};
 
-use lru_journals::entry::{Call, Entry, Names};
-use lru_journals::journal::{Seat, compare_all};
-use lru_journals::tie::{Blank, Registry, Tie, Token};
+pub use lru_journals::entry::{Call, Entry, Names, Receipt, Reply};
+pub use lru_journals::journal::Seat;
+use lru_journals::journal::compare_all;
+pub use lru_journals::tie::{Blank, Registry};
+use lru_journals::tie::{Tie, Token};
 use lru_recordings::gathered::{Gathered, Room};
 use lru_recordings::recording::Recording;
 use lru_rules::eviction::{EvictError, drawn_shards, place_after};

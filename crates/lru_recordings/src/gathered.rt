@@ -19,8 +19,11 @@ use std::sync::Mutex;
 /// A shard and its history, out of its lock.
 #[derive(Drop)]
 pub struct Kept<T, const N: usize> {
+    /// Its number.
     pub number: usize,
+    /// The shard.
     pub unit: LruUnit<T>,
+    /// Its calls, in their order.
     pub history: Vec<Entry>,
     pub ghost ends: { forget unit.rows ≡ left_by (cap_of N) [] history.items },
     pub ghost right: { replies history.items ≡ answers (cap_of N) [] history.items },
@@ -31,7 +34,9 @@ pub struct Kept<T, const N: usize> {
 /// The units and the histories of the first shards, in their order.
 #[derive(Drop)]
 pub struct Gathered<T, const N: usize> {
+    /// The shards.
     pub units: Vec<LruUnit<T>>,
+    /// The history of each.
     pub histories: Vec<Vec<Entry>>,
     pub ghost ends: { map (λ u. forget u.rows) units.items ≡ map (left_by (cap_of N) []) (lists_of histories.items) },
     pub ghost right: { map replies (lists_of histories.items) ≡ map (answers (cap_of N) []) (lists_of histories.items) },
@@ -68,7 +73,7 @@ impl<T: Drop, const N: usize> Gathered<T, N> {
     }
 }
 
-/// Puts a shard at its place, and its token into the one that has all that were put.
+// Puts a shard at its place, and its token into the one that has all that were put.
 fn place<T: Drop, B: Registry, const N: usize>(
     tie: &Tie,
     names: Names,
@@ -100,7 +105,7 @@ fn place<T: Drop, B: Registry, const N: usize>(
     });
 }
 
-/// Takes all shards out of their locks, and puts each at its place.
+// Takes all shards out of their locks, and puts each at its place.
 fn gather<T: Drop, B: Registry, const N: usize>(
     tie: &Tie,
     names: Names,
@@ -123,7 +128,7 @@ fn gather<T: Drop, B: Registry, const N: usize>(
     }
 }
 
-/// Takes the shards out of their places, in order.
+// Takes the shards out of their places, in order.
 fn in_order<T: Drop, const N: usize>(
     slots: Vec<Option<Kept<T, N>>>,
     room: Gathered<T, N>,

@@ -24,7 +24,9 @@ const MOST_ROWS: usize = 4294967293;
 /// A shard, and its calls so far.
 #[derive(Drop)]
 pub struct Recording<T, B: Registry, const N: usize> {
+    /// The shard.
     pub unit: LruUnit<T>,
+    /// Its number, and its calls so far.
     pub journal: Journal<B>,
     pub ghost below: { journal.number < N },
     pub ghost capped: { unit.cap ≡ cap_of N },
@@ -126,6 +128,7 @@ fn noted_weight<T>(held: &Option<(T, usize)>, given: usize) -> usize
 }
 
 impl<T: Drop, B: Registry, const N: usize> Recording<T, B, N> {
+    /// An empty shard with this number, with room for `capacity` rows, and an empty history.
     pub fn new(
         alloc: Global,
         capacity: usize,
@@ -141,6 +144,8 @@ impl<T: Drop, B: Registry, const N: usize> Recording<T, B, N> {
         })
     }
 
+    /// Puts a row first, in place of its key's, and answers the weight that this one had, 0 for a new row. A weight of 0
+    /// counts as 1. A refusal hands the data back and changes nothing; one for want of memory is not noted.
     pub fn admit(
         &mut self,
         tie: &Tie,
@@ -168,6 +173,8 @@ impl<T: Drop, B: Registry, const N: usize> Recording<T, B, N> {
         answer
     }
 
+    /// Puts a row last where its key has none, and answers whether it did. A weight of 0 is kept. A refusal hands the data
+    /// back and changes nothing; one for want of memory is not noted.
     pub fn insert_tail(
         &mut self,
         tie: &Tie,
@@ -200,6 +207,8 @@ impl<T: Drop, B: Registry, const N: usize> Recording<T, B, N> {
         answer
     }
 
+    /// Adds to a key's weight, puts its row first, and answers the new weight. A refusal comes before `admit_data` is called,
+    /// and changes nothing; one for want of memory is not noted.
     pub fn increment_weight<F: FnOnce() -> T + Drop>(
         &mut self,
         tie: &Tie,
@@ -226,6 +235,8 @@ impl<T: Drop, B: Registry, const N: usize> Recording<T, B, N> {
         answer
     }
 
+    /// Gives a key another weight, in its place, and answers the weight that it had. A weight of 0 counts as 1. A refusal
+    /// changes nothing; one for want of memory is not noted.
     pub fn set_weight(
         &mut self,
         tie: &Tie,
@@ -248,6 +259,7 @@ impl<T: Drop, B: Registry, const N: usize> Recording<T, B, N> {
         answer
     }
 
+    /// Puts a key's row first, and answers whether there is one. Where there is no room for a note, nothing happens.
     pub fn promote(&mut self, tie: &Tie, seat: &mut Seat<B>, key: u64) -> Result<bool, AllocError>
         requires tie { tie.now.table.shared.table_id ≡ B.table }
         requires home { key % N ≡ self.old.journal.number }
@@ -262,6 +274,8 @@ impl<T: Drop, B: Registry, const N: usize> Recording<T, B, N> {
         Ok(answer)
     }
 
+    /// Puts a key's row first unless it is among the first `top`, and answers whether there is one. Where there is no room for
+    /// a note, nothing happens.
     pub fn promote_top_n(
         &mut self,
         tie: &Tie,
@@ -287,6 +301,8 @@ impl<T: Drop, B: Registry, const N: usize> Recording<T, B, N> {
         Ok(answer)
     }
 
+    /// Takes the last row out, if there is one, and answers its data and weight. It is noted as this call. Where there is no
+    /// room for a note, nothing happens.
     pub fn evict(
         &mut self,
         tie: &Tie,
@@ -306,6 +322,7 @@ impl<T: Drop, B: Registry, const N: usize> Recording<T, B, N> {
         Ok(answer)
     }
 
+    /// Takes a key's row out, and answers its data and weight. Where there is no room for a note, nothing happens.
     pub fn remove(
         &mut self,
         tie: &Tie,
@@ -325,6 +342,7 @@ impl<T: Drop, B: Registry, const N: usize> Recording<T, B, N> {
         Ok(answer)
     }
 
+    /// Whether a key has a row. Where there is no room for a note, nothing is noted.
     pub fn peek(&mut self, tie: &Tie, seat: &mut Seat<B>, key: u64) -> Result<bool, AllocError>
         requires tie { tie.now.table.shared.table_id ≡ B.table }
         requires home { key % N ≡ self.old.journal.number }
@@ -339,6 +357,7 @@ impl<T: Drop, B: Registry, const N: usize> Recording<T, B, N> {
         Ok(answer)
     }
 
+    /// The weight of a key. Where there is no room for a note, nothing is noted.
     pub fn peek_weight(
         &mut self,
         tie: &Tie,
@@ -358,6 +377,8 @@ impl<T: Drop, B: Registry, const N: usize> Recording<T, B, N> {
         Ok(answer)
     }
 
+    /// The data, cloned, and the weight of the last row. A clone has to equal its source. Where there is no memory for the
+    /// clone or the note, nothing is noted.
     pub fn peek_lru(
         &mut self,
         tie: &Tie,
@@ -378,6 +399,9 @@ impl<T: Drop, B: Registry, const N: usize> Recording<T, B, N> {
         Ok(answer)
     }
 
+    /// Updates a key's data and weight, or admits what `admit_data` gives, puts the row first, and answers the weight that the
+    /// key had. The weight that the called closure gives, at least 1, is noted. A refused update keeps what `update` did to
+    /// the data; a refused admission hands back what was made. Want of memory is not noted.
     pub fn update_or_admit<U, A>(
         &mut self,
         tie: &Tie,
