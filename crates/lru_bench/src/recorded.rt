@@ -26,8 +26,14 @@ fn record<B: Registry, R: Print + Clock + Wait>(
     requires blank { (blank.tie.table.shared.table_id ≡ B.table) × (blank.tie.table.shared.key ≡ record { shards = 8; seats = 1 }) }
     requires callers { B.seats ≡ 1 }
 {
-    let (lru, mut seats) =
-        RecordedLru::<u64, B, 8>::new(alloc, blank, usize::MAX, rows as usize, None, 1)?;
+    let (lru, mut seats) = RecordedLru::<u64, B, 8>::new(
+        alloc,
+        blank,
+        usize::MAX,
+        rows as usize,
+        None,
+        1,
+    )?;
     for seat in seats.iter_mut() {
         for key in 0..rows as u64 {
             if lru.admit(rt, seat, key, key, 1).is_err() {
