@@ -1,5 +1,5 @@
 -- The messages of an actor: what each does to a shard's rows, to the map of weights by hash, and to what is evicted.
-use Rattle.std.specs.Prelude.{◌≡◌, ℕ, ◌+◌, ◌%◌, ◌^◌, ◌⊎◌, max, Bool, true, false, List, [], ◌∷◌, length, map, Option, Some, None, option_map, if◌then◌else◌, refl}
+use Rattle.std.specs.Prelude.{◌≡◌, ℕ, ◌+◌, ◌%◌, ◌^◌, ◌<◌, ◌⊎◌, max, Bool, true, false, List, [], ◌∷◌, length, map, Option, Some, None, option_map, if◌then◌else◌, refl}
 use Rattle.std.specs.Option.{option_map_or}
 use Rattle.std.specs.Borrow.{Bor}
 use Rattle.std.specs.Coded.{Coded, code_by, coded×, coded_ℕ}
@@ -142,11 +142,11 @@ module _ {K : Type 0} where
     IsCloneOf (Some p) (Some q) = IsClone p.0 q.0 × (q.1 ≡ p.1)
     IsCloneOf (Some p) None = ⊥
 
-    -- the reply to a message that asks; it may say that it found no memory
+    -- the reply to a message that asks; where something is to be cloned it may say that it found no memory
     abbrev pub Replies : List (Row K) → LruMsg K → Option (Reply K) → Type 0
     Replies rows QueryWeight (Some (reply.Weight w)) = w ≡ weight_of rows
     Replies rows PeekLru (Some (reply.Lru found)) = IsCloneOf (option_map pair_of (last_row rows)) found
-    Replies rows PeekLru (Some reply.Memory) = Unit {0}
+    Replies rows PeekLru (Some reply.Memory) = 0 < length rows
     Replies rows Snapshot (Some (reply.Rows pairs)) = AreClones (map pair_of rows) pairs.items
     Replies rows Snapshot (Some reply.Memory) = Unit {0}
     Replies rows QueryWeight _ = ⊥

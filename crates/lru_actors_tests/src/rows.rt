@@ -1,5 +1,4 @@
 //! The shard of an actor by its worked rows, with its map and its queue.
-use lru_actors::effect::{Effect, Reply};
 use lru_actors::key::hash_key;
 use lru_actors::message::LruMsg;
 use lru_actors::process::{choose_victim, process_batch, process_msg};
@@ -15,39 +14,34 @@ fn admit(hash: u64, key: u8, weight: usize) -> LruMsg<u8> {
     LruMsg::Admit { hash, key, weight }
 }
 
-// The keys and weights that a snapshot tells.
-fn pairs(effect: Effect<u8>) -> Option<Vec<(u8, usize)>> {
-    match effect.reply {
-        Some(Reply::Rows(pairs)) => Some(pairs),
-        _ => None,
-    }
-}
-
 // A row keeps its first key and takes the second weight; it is evicted once.
 #[test]
 fn evicts_the_one_row(rt: HostRuntime) -> Result<(), Fail> {
-    let mut state = ShardState::with_capacity(rt.alloc(), 0, 100)?;
+    let mut state: ShardState<&'static str> = ShardState::with_capacity(rt.alloc(), 0, 100)?;
     let mut map = HashMap::new(rt.alloc());
     let mut evicted = MailState::new(rt.alloc());
-    process_msg(&mut state, &mut map, &mut evicted, admit(7, 1, 2));
-    let second = process_msg(&mut state, &mut map, &mut evicted, admit(7, 2, 5));
-    assert_eq!(rt;
-        (second.put, second.weight_before, second.weight_after),
-        (Some((7, 5)), 2, 5)
-    );
-    assert!(rt; second.look && !second.refused);
-    let rows = pairs(state.step(LruMsg::Snapshot)).ok_or("no rows")?;
-    assert_eq!(rt; rows.as_slice(), [(1, 5)].as_slice());
+    for (key, weight) in [("a", 2), ("b", 5)] {
+        let message = LruMsg::Admit {
+            hash: 7,
+            key,
+            weight,
+        };
+        process_msg(&mut state, &mut map, &mut evicted, message);
+    }
+    let mut rows = Vec::new(rt.alloc());
+    for (hash, key, weight) in state.iter() {
+        rows.push((hash, *key, weight))?;
+    }
     let left = process_msg(&mut state, &mut map, &mut evicted, LruMsg::Evict);
-    assert_eq!(rt;
-        (left.cleared, left.evicted, left.len_after),
-        (Some(7), None, 0)
-    );
     let none = process_msg(&mut state, &mut map, &mut evicted, LruMsg::Evict);
-    assert_eq!(rt; (none.cleared, none.refused), (None, false));
-    assert_eq!(rt; evicted.pop(), Some((1, 5)));
-    assert_eq!(rt; evicted.pop(), None);
-    assert!(rt; map.is_empty());
+    assert!(rt;
+        rows.as_slice() == [(7, "a", 5)].as_slice()
+            && (left.cleared, left.len_after, left.refused) == (Some(7), 0, false)
+            && (none.cleared, none.refused) == (None, false)
+            && evicted.pop() == Some(("a", 5))
+            && evicted.pop().is_none()
+            && map.is_empty()
+    );
     Ok(())
 }
 
@@ -60,6 +54,9 @@ fn refuses_what_is_too_heavy(rt: HostRuntime) -> Result<(), Fail> {
     assert!(rt; !first.refused);
     let second = process_msg(&mut state, &mut map, &mut evicted, admit(8, 2, 5));
     assert!(rt; second.refused && second.look);
+    let mut alone = ShardState::with_capacity(rt.alloc(), 0, 10)?;
+    alone.step(admit(7, 1, 6));
+    assert!(rt; alone.step(admit(8, 2, 5)).refused);
     assert_eq!(rt;
         (state.refused(), state.len(), state.used_weight()),
         (1, 1, 6)

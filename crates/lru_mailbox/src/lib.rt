@@ -5,8 +5,6 @@
 
 mod mail_error;
 mod mail_state;
-#[cfg(test)]
-mod tests;
 
 pub use mail_error::MailError;
 pub use mail_state::MailState;

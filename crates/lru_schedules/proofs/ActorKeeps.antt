@@ -13,29 +13,19 @@ use Rattle.lru_shard.specs.Shard.{shard}
 use Rattle.lru_actors.specs.declared.message.LruMsg.{LruMsg}
 use Rattle.lru_actors.specs.declared.message.LruMsg.TheVariants.{Evict}
 use Rattle.lru_actors.specs.declared.effect.Effect.{Effect}
-use Rattle.lru_actors.specs.Messages.{State, state_of, consumed, put_of, cleared_of, IsMeasured}
+use Rattle.lru_actors.specs.Messages.{State, state_of, consumed, put_of, cleared_of, refusal_of, MayBeRefused, IsMeasured}
 use Rattle.lru_actors.specs.Processing.{mapped, IsServed, IsTurnedAway, Processes}
 use Rattle.lru_actors.proofs.Served.{mapped_same}
-use Rattle.lru_schedules.specs.Turns.{Turn, turn, rows_after, rows_left, refusals, brings, removes, evicts, times_done, IsAnswered, AreAnswered}
-use Rattle.lru_schedules.specs.World.{Actor, rows_of, accepted_by, Sends, Urges, Takes, Stops}
-use Rattle.lru_schedules.proofs.TurnLaws.{rows_more, refusals_more, once, done_more, answered_more}
-use Rattle.lru_schedules.proofs.MessageLaws.{weighed, one_if, follows}
+use Rattle.lru_schedules.specs.Turns.{Turn, turn, rows_after, rows_left, refusals, brings, removes, evicts, times_done, weight_in, IsAllowed, AreAllowed, IsAnswered, AreAnswered}
+use Rattle.lru_schedules.specs.World.{Actor, PutsPair, IsSameQueue, itself, rows_of, accepted_by, Sends, Urges, Takes, Stops}
+use Rattle.lru_schedules.proofs.TurnLaws.{rows_more, refusals_more, once, done_more, allowed_more, answered_more}
+use Rattle.lru_schedules.proofs.MessageLaws.{weighed, one_if, follows, wants_same}
 use Rattle.lru_schedules.proofs.PostLaws.{IsKnown, known_posted, known_urged, known_served}
 
 off : true ≡ false → ⊥
 off e = cc
 
--- the queue as the world has it
 module _ {K : Type 0} where
-  abbrev pub PutsPair : Queue K → ℕ → K → ℕ → Queue K → Type 0
-  PutsPair q _ key weight q' = q' ≡ dispatched q key weight
-
-  abbrev pub IsSameQueue : Queue K → Queue K → Type 0
-  IsSameQueue q q' = q' ≡ q
-
-  abbrev pub itself : Queue K → Queue K
-  itself q = q
-
   abbrev pub messages : List (Turn K) → List (LruMsg K)
   messages turns = map (λ (t : Turn K). t.msg) turns
 
@@ -48,6 +38,7 @@ module _ {K : Type 0} (IsClone : K → K → Type 0) (cap : ℕ) where
     pub known : IsKnown a.post
     pub open_behind : a.post.closed ≡ false → a.behind ≡ []
     pub closed_waits : a.post.closed ≡ true → a.post.waiting ≡ []
+    pub allowed : AreAllowed cap [] a.turns
     pub answered : AreAnswered IsClone [] a.turns
     pub hashes : (h : ℕ) → times_done (brings h) [] a.turns ≡ times h (rows_of a) + times_done (removes h) [] a.turns + times_done (evicts h) [] a.turns
 
@@ -68,6 +59,7 @@ module _ {K : Type 0} (IsClone : K → K → Type 0) (cap : ℕ) where
         known = subst IsKnown (sym e) g.known;
         open_behind = λ c. g.open_behind (sym (ap (λ (p : Post (LruMsg K)). p.closed) e) ∙ c);
         closed_waits = λ c. ap (λ (p : Post (LruMsg K)). p.waiting) e ∙ g.closed_waits (sym (ap (λ (p : Post (LruMsg K)). p.closed) e) ∙ c);
+        allowed = g.allowed;
         answered = g.answered;
         hashes = g.hashes;
       };
@@ -88,6 +80,7 @@ module _ {K : Type 0} (IsClone : K → K → Type 0) (cap : ℕ) where
         known = known;
         open_behind = λ c. g.open_behind was;
         closed_waits = λ c. absurd (off (sym c ∙ is_open));
+        allowed = g.allowed;
         answered = g.answered;
         hashes = g.hashes;
       };
@@ -119,6 +112,7 @@ module _ {K : Type 0} (IsClone : K → K → Type 0) (cap : ℕ) where
         known = known_served n a.post g.known;
         open_behind = g.open_behind;
         closed_waits = λ c. ap (drop n) (g.closed_waits c) ∙ drop_none n;
+        allowed = g.allowed;
         answered = g.answered;
         hashes = g.hashes;
       };
@@ -154,6 +148,7 @@ module _ {K : Type 0} (IsClone : K → K → Type 0) (cap : ℕ) where
         known = λ i e. cc;
         open_behind = λ c. absurd (off c);
         closed_waits = λ c. refl;
+        allowed = g.allowed;
         answered = g.answered;
         hashes = g.hashes;
       };
@@ -178,6 +173,7 @@ module _ {K : Type 0} (IsClone : K → K → Type 0) (cap : ℕ) where
     pub state : new ≡ state_of (shard (rows_after (rows_of a) (turn msg e)) cap) (refusals (a.turns ++ turn msg e ∷ []) % 2 ^ 64)
     pub distinct : HasDistinctKeys (rows_after (rows_of a) (turn msg e))
     pub map_is : (h : ℕ) → look h ≡ weighed (rows_after (rows_of a) (turn msg e)) h
+    pub allowed : IsAllowed cap (rows_of a) (turn msg e)
     pub answered : IsAnswered IsClone (rows_of a) (turn msg e)
     pub hashes : (h : ℕ) → once (brings h) (rows_of a) (turn msg e) + times h (rows_of a)
         ≡ times h (rows_after (rows_of a) (turn msg e)) + once (removes h) (rows_of a) (turn msg e) + once (evicts h) (rows_of a) (turn msg e)
@@ -204,6 +200,7 @@ module _ {K : Type 0} (IsClone : K → K → Type 0) (cap : ℕ) where
           distinct = subst HasDistinctKeys (sym rows) f.distinct;
           map_is = λ h. s.map h ∙ ap (λ p. mapped p e.cleared a.look h) s.done.put ∙ ap (λ c. mapped (put_of (rows_of a) msg) c a.look h) s.done.cleared
               ∙ mapped_same (put_of (rows_of a) msg) (cleared_of (rows_of a) msg) a.look (weighed (rows_of a)) g.map_is h ∙ sym (f.weighs h) ∙ ap (λ rs. weighed rs h) (sym rows);
+          allowed = inl (no, ap (λ c. refusal_of (shard (rows_of a) c) msg) (sym cap_is) ∙ s.done.allowed);
           answered = inr (no, s.done.reply);
           hashes = λ h. omega (arith, f.counts h, did (brings h), did (removes h), did (evicts h), ap (times h) rows);
           measured = record { weight_before = m.weight_before; len_before = m.len_before; weight_after = m.weight_after; len_after = m.len_after };
@@ -221,6 +218,13 @@ module _ {K : Type 0} (IsClone : K → K → Type 0) (cap : ℕ) where
               ∙ sym (λ i. state_of (shard (rows i) cap) (count i % 2 ^ 64));
           distinct = subst HasDistinctKeys (sym rows) g.distinct;
           map_is = λ h. t.map h ∙ g.map_is h ∙ ap (λ rs. weighed rs h) (sym rows);
+          allowed = inr (
+            yes,
+            elim t.may [
+              | inl m ↦ inl (subst (λ c. MayBeRefused (shard (rows_of a) c) msg) cap_is m)
+              | inr w ↦ inr (wants_same (rows_of a) a.look (weight_in (rows_of a)) g.map_is msg w)
+            ],
+          );
           answered = inl (yes, t.refused.reply);
           hashes = λ h. omega (arith, did (brings h), did (removes h), did (evicts h), ap (times h) rows);
           measured = t.refused.measured;
@@ -251,6 +255,7 @@ module _ {K : Type 0} (IsClone : K → K → Type 0) (cap : ℕ) where
           known = g.known;
           open_behind = g.open_behind;
           closed_waits = g.closed_waits;
+          allowed = allowed_more cap [] a.turns t g.allowed (subst (λ rs. IsAllowed cap rs t) left v.allowed);
           answered = answered_more IsClone [] a.turns t g.answered (subst (λ rs. IsAnswered IsClone rs t) left v.answered);
           hashes = λ h. omega (arith, did (brings h), did (removes h), did (evicts h), v.hashes h, g.hashes h, ap (times h) rows);
         }

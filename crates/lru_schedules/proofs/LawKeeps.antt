@@ -188,6 +188,7 @@ module _ {K : Type 0} (IsClone : K → K → Type 0) (cap : ℕ) where
     known = λ i e. cc;
     open_behind = λ _. refl;
     closed_waits = λ _. refl;
+    allowed = tt;
     answered = tt;
     hashes = λ h. refl;
   }
@@ -215,13 +216,15 @@ module _ {K : Type 0} (IsClone : K → K → Type 0) (cap : ℕ) where
     none_waits = λ _. refl;
   }
 
-  pub shard_law : (n : ℕ) (es : List (Event K)) (w : World K) → Runs IsClone (start n cap) es w → (s : ℕ) (a : Actor K) → slice_get w.actors s ≡ Some a → IsKept IsClone w s a
+  pub shard_law : (n : ℕ) (es : List (Event K)) (w : World K) → Runs IsClone (start n cap) es w → (s : ℕ) (a : Actor K) → slice_get w.actors s ≡ Some a → IsKept IsClone cap w s a
   shard_law n es w h s a e =
       let k = runs_keep (start n cap) w es (start_kept n) h in
       let g = k.each s a e in
       record {
         order = g.order;
         rows = ap (λ (x : State K). x.shard.rows) g.state;
+        cap_is = ap (λ (x : State K). x.shard.cap) g.state;
+        allowed = g.allowed;
         refused = ap (λ (x : State K). x.refused) g.state;
         map_is = g.map_is;
         one_evict = one_place a.post g.known;

@@ -4,3 +4,4 @@ pub mod PostLaws
 pub mod ActorKeeps
 pub mod WorldKeeps
 pub mod LawKeeps
+pub mod Batches

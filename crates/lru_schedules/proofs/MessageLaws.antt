@@ -11,7 +11,7 @@ use Rattle.lru_shard.proofs.UnitCalls.{times_none}
 use Rattle.lru_actors.specs.declared.message.LruMsg.{LruMsg}
 use Rattle.lru_actors.specs.declared.message.LruMsg.TheVariants.{Admit, IncrementWeight, Promote, Remove, InsertTail, Evict, PeekLru, Snapshot, QueryWeight}
 use Rattle.lru_actors.specs.Messages.{consumed, kept, grown, put_of, cleared_of}
-use Rattle.lru_actors.specs.Processing.{mapped}
+use Rattle.lru_actors.specs.Processing.{mapped, MayWantRoom}
 use Rattle.lru_actors.proofs.Rows.{no_last}
 use Rattle.lru_schedules.specs.Turns.{brings, removes, evicts}
 
@@ -222,3 +222,15 @@ module _ {K : Type 0} where
     follows PeekLru = same rows d
     follows Snapshot = same rows d
     follows QueryWeight = same rows d
+
+  -- what may want room depends on the map at the message's hash alone
+  pub wants_same : (rows : List (Row K)) (f g : ℕ → Option ℕ) → ((h : ℕ) → f h ≡ g h) → (msg : LruMsg K) → MayWantRoom f rows msg → MayWantRoom g rows msg
+  wants_same rows f g same (Admit h _ _) w = sym (same h) ∙ w
+  wants_same rows f g same (IncrementWeight h _ _ _) w = sym (same h) ∙ w
+  wants_same rows f g same (Promote _) w = w
+  wants_same rows f g same (Remove _) w = w
+  wants_same rows f g same (InsertTail h _ _) w = sym (same h) ∙ w
+  wants_same rows f g same Evict w = w
+  wants_same rows f g same PeekLru w = w
+  wants_same rows f g same Snapshot w = w
+  wants_same rows f g same QueryWeight w = w

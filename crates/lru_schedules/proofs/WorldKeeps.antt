@@ -12,8 +12,7 @@ use Rattle.lru_actors.specs.declared.effect.Effect.{Effect}
 use Rattle.lru_actors.specs.Messages.{State, evicted_of}
 use Rattle.lru_actors.specs.Processing.{queued, Processes}
 use Rattle.lru_schedules.specs.Turns.{turn, leaving}
-use Rattle.lru_schedules.specs.World.{Actor, rows_of}
-use Rattle.lru_schedules.proofs.ActorKeeps.{PutsPair, IsSameQueue, itself}
+use Rattle.lru_schedules.specs.World.{Actor, PutsPair, IsSameQueue, itself, rows_of}
 
 pub not_both : true ≡ false → ⊥
 not_both e = cc

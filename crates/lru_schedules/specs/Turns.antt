@@ -1,11 +1,13 @@
 -- The messages that one actor consumed, in order, and what they leave. A turn is a message with the effect that it had.
-use Rattle.std.specs.Prelude.{◌≡◌, ℕ, ◌+◌, ◌⊎◌, ◌==◌, ◌&&◌, not, Bool, true, false, List, [], ◌∷◌, ◌++◌, count_by, fold, None, option_to_list, if◌then◌else◌}
+use Rattle.std.specs.Prelude.{◌≡◌, ℕ, ◌+◌, ◌⊎◌, ◌==◌, ◌&&◌, not, Bool, true, false, List, [], ◌∷◌, ◌++◌, count_by, fold, Option, None, option_to_list, option_map, if◌then◌else◌}
 use Rattle.std.specs.Option.{option_map_or}
-use Rattle.lru_shard.specs.Row.{Row, is_held, last_row}
+use Rattle.lru_shard.specs.Row.{Row, row_of, is_held, last_row}
+use Rattle.lru_shard.specs.Shard.{shard}
 use Rattle.lru_actors.specs.declared.message.LruMsg.{LruMsg}
 use Rattle.lru_actors.specs.declared.message.LruMsg.TheVariants.{Admit, IncrementWeight, Remove, InsertTail, Evict}
 use Rattle.lru_actors.specs.declared.effect.Effect.{Effect}
-use Rattle.lru_actors.specs.Messages.{consumed, evicted_of, Replies}
+use Rattle.lru_actors.specs.Messages.{consumed, evicted_of, refusal_of, MayBeRefused, Replies}
+use Rattle.lru_actors.specs.Processing.{MayWantRoom}
 
 pub record Turn (K : Type 0) : Type 0 where
   pub msg : LruMsg K
@@ -34,6 +36,20 @@ module _ {K : Type 0} where
   abbrev pub evictions : List (Row K) → List (Turn K) → List (K × ℕ)
   evictions rows [] = []
   evictions rows (t ∷ turns) = leaving rows t ++ evictions (rows_after rows t) turns
+
+  -- the weight of a hash, if it has a row
+  abbrev pub weight_in : List (Row K) → ℕ → Option ℕ
+  weight_in rows h = option_map (λ r. r.weight) (row_of rows h)
+
+  -- a turn is refused only where it may be: by the shard's cap and length, or for want of memory; and one that the shard has to refuse is refused
+  abbrev pub IsAllowed : ℕ → List (Row K) → Turn K → Type 0
+  IsAllowed cap rows t =
+      ((t.effect.refused ≡ false) × (refusal_of (shard rows cap) t.msg ≡ None))
+      ⊎ ((t.effect.refused ≡ true) × (MayBeRefused (shard rows cap) t.msg ⊎ MayWantRoom (weight_in rows) rows t.msg))
+
+  abbrev pub AreAllowed : ℕ → List (Row K) → List (Turn K) → Type 0
+  AreAllowed cap rows [] = Unit {0}
+  AreAllowed cap rows (t ∷ turns) = IsAllowed cap rows t × AreAllowed cap (rows_after rows t) turns
 
   -- a message brings the row of a hash, where it has none
   abbrev pub brings : ℕ → List (Row K) → LruMsg K → Bool

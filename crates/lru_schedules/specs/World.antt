@@ -4,14 +4,14 @@ use Rattle.std.specs.Prelude.{◌≡◌, ℕ, ◌+◌, ◌-◌, ◌≤◌, ◌%�
 use Rattle.lru_mailbox.specs.declared.mail_error.MailError.{MailError}
 use Rattle.lru_mailbox.specs.Mail.{Post, Mail, mail_of, empty, served, left, Pushes, PushesEvict}
 use Rattle.lru_dispatch.specs.Queue.{Queue, dispatched}
-use Rattle.lru_shard.specs.Row.{Row, row_of, weight_of, times}
+use Rattle.lru_shard.specs.Row.{Row, weight_of, times}
 use Rattle.lru_shard.specs.Shard.{shard}
 use Rattle.lru_actors.specs.declared.message.LruMsg.{LruMsg}
 use Rattle.lru_actors.specs.declared.message.LruMsg.TheVariants.{Evict}
 use Rattle.lru_actors.specs.declared.effect.Effect.{Effect}
 use Rattle.lru_actors.specs.Messages.{State, state_of}
-use Rattle.lru_actors.specs.Processing.{Processes, victim_of}
-use Rattle.lru_schedules.specs.Turns.{Turn, turn, rows_left, refusals, leaving, evictions, brings, removes, evicts, times_done, AreAnswered}
+use Rattle.lru_actors.specs.Processing.{Processes, ProcessesAll, victim_of}
+use Rattle.lru_schedules.specs.Turns.{Turn, turn, rows_left, refusals, leaving, evictions, brings, removes, evicts, times_done, weight_in, AreAllowed, AreAnswered}
 
 -- one shard with its mailbox and its actor. `accepted` are all messages that were ever put, `turns` those that were
 -- consumed, `hand` those that the actor took and has still to consume, `behind` those that waited when the mailbox was stopped
@@ -118,13 +118,23 @@ module _ {K : Type 0} where
     queue = queue;
   }
 
+  -- a plain queue, into which a pair is put as `dispatched` says
+  abbrev pub PutsPair : Queue K → ℕ → K → ℕ → Queue K → Type 0
+  PutsPair q _ key weight q' = q' ≡ dispatched q key weight
+
+  abbrev pub IsSameQueue : Queue K → Queue K → Type 0
+  IsSameQueue q q' = q' ≡ q
+
+  abbrev pub itself : Queue K → Queue K
+  itself q = q
+
   module _ (IsClone : K → K → Type 0) where
     -- an actor consumes the first message in its hand, as `process_msg` does with a queue of pairs
     abbrev pub Consumes : ℕ → World K → World K → Type 0
     Consumes s old new =
         (a : Actor K) × ((msg : LruMsg K) × ((rest : List (LruMsg K)) × ((e : Effect K) × ((state : State K) × ((look : ℕ → Option ℕ) × ((queue : Queue K)
         × ((slice_get old.actors s ≡ Some a) × ((a.hand ≡ msg ∷ rest)
-        × (Processes (λ q _ key weight q'. q' ≡ dispatched q key weight) (λ q q'. q' ≡ q) (λ q. q) IsClone a.state a.look old.queue msg e state look queue
+        × (Processes PutsPair IsSameQueue itself IsClone a.state a.look old.queue msg e state look queue
         × (new ≡ followed old s (record a { turns = a.turns ++ turn msg e ∷ []; hand = rest; state = state; look = look }) e (leaving (rows_of a) (turn msg e)) queue))))))))))
 
     abbrev pub Happens : World K → Event K → World K → Type 0
@@ -142,13 +152,15 @@ module _ {K : Type 0} where
     Runs old [] new = new ≡ old
     Runs old (e ∷ es) new = (mid : World K) × (Happens old e mid × Runs mid es new)
 
-    -- what holds of each shard: of n, its number
-    pub record IsKept (w : World K) (s : ℕ) (a : Actor K) : Type 0 where
+    -- what holds of each shard, whose weights may sum up to the cap
+    pub record IsKept (cap : ℕ) (w : World K) (s : ℕ) (a : Actor K) : Type 0 where
       -- in the order in which they were put: the consumed ones, those in hand, those left behind, those that wait
       pub order : a.accepted ≡ map (λ (t : Turn K). t.msg) a.turns ++ (a.hand ++ (a.behind ++ a.post.waiting))
       pub rows : rows_of a ≡ rows_left [] a.turns
+      pub cap_is : a.state.shard.cap ≡ cap
+      pub allowed : AreAllowed cap [] a.turns
       pub refused : a.state.refused ≡ refusals a.turns % 2 ^ 64
-      pub map_is : (h : ℕ) → a.look h ≡ option_map (λ r. r.weight) (row_of (rows_of a) h)
+      pub map_is : (h : ℕ) → a.look h ≡ weight_in (rows_of a) h
       pub one_evict : (i j : ℕ) → slice_get a.post.waiting i ≡ Some Evict → slice_get a.post.waiting j ≡ Some Evict → i ≡ j
       pub answered : AreAnswered IsClone [] a.turns
       -- of each hash, the rows that ever came are held, were removed or were evicted
@@ -183,3 +195,20 @@ module _ {K : Type 0} where
     queue = record { waiting = []; closed = false; lost = 0 };
     stopped = false;
   }
+
+  module _ (IsClone : K → K → Type 0) where
+    -- a batch of messages that an actor has first in its hand, processed with a plain queue, is so many consume events in a row
+    abbrev pub BatchIsConsumes : Type 0
+    BatchIsConsumes =
+        (msgs rest : List (LruMsg K)) (effects : List (Effect K)) (old : World K) (s : ℕ) (a : Actor K) (state : State K) (look : ℕ → Option ℕ) (queue : Queue K)
+        → slice_get old.actors s ≡ Some a → a.hand ≡ msgs ++ rest
+        → ProcessesAll PutsPair IsSameQueue itself IsClone a.state a.look old.queue msgs effects state look queue
+        → (new : World K) × ((b : Actor K) × (Runs IsClone old (replicate (length msgs) (Consume s)) new
+        × ((slice_get new.actors s ≡ Some b) × ((b.state ≡ state) × (((h : ℕ) → b.look h ≡ look h) × ((b.hand ≡ rest) × (new.queue ≡ queue)))))))
+
+    -- a message that is processed with any queue is processed so with the plain queue that it is
+    abbrev pub IsAsPlain : {D : Type 0} → (D → ℕ → K → ℕ → D → Type 0) → (D → D → Type 0) → (D → Queue K) → Type 0
+    IsAsPlain {D} Puts IsSame queue =
+        (old : State K) (look : ℕ → Option ℕ) (d : D) (msg : LruMsg K) (e : Effect K) (new : State K) (look' : ℕ → Option ℕ) (d' : D)
+        → Processes Puts IsSame queue IsClone old look d msg e new look' d'
+        → Processes PutsPair IsSameQueue itself IsClone old look (queue d) msg e new look' (queue d')

@@ -1,6 +1,8 @@
 //! The law.
 ghost use Rattle.std.specs.Prelude.{◌≡◌, ℕ, List, Some, slice_get};
-ghost use Rattle.lru_schedules.specs.World.{Actor, World, Event, Runs, IsKept, IsWhole, start};
+ghost use Rattle.lru_schedules.specs.World.{Actor, World, Event, Runs, IsKept, IsWhole, BatchIsConsumes, IsAsPlain, start};
+
+use lru_dispatch::Dispatch;
 
 /// Whatever happens, in whatever order, from the start on: each shard's messages are consumed in the order in which
 /// they were put, and its rows, its map and its answers are those that they leave; each evicted row is called once,
@@ -8,6 +10,15 @@ ghost use Rattle.lru_schedules.specs.World.{Actor, World, Event, Runs, IsKept, I
 ///
 /// It does nothing: its contract is the law.
 pub fn schedule_law<K: Clone>()
-    ensures shards { (n cap : ℕ) (events : List (Event K)) (w : World K) → Runs K.is_clone (start n cap) events w → (s : ℕ) (a : Actor K) → slice_get w.actors s ≡ Some a → IsKept K.is_clone w s a }
+    ensures shards { (n cap : ℕ) (events : List (Event K)) (w : World K) → Runs K.is_clone (start n cap) events w → (s : ℕ) (a : Actor K) → slice_get w.actors s ≡ Some a → IsKept K.is_clone cap w s a }
     ensures whole { (n cap : ℕ) (events : List (Event K)) (w : World K) → Runs K.is_clone (start n cap) events w → IsWhole w }
+{}
+
+/// What an actor does with a batch, by the contract of `process_batch`, is so many events of the law in a row, whatever
+/// the queue is that it dispatches to.
+///
+/// It does nothing: its contract is this.
+pub fn batch_law<K: Clone + Drop, D: Dispatch<K>>()
+    ensures batches { BatchIsConsumes K.is_clone }
+    ensures queues { IsAsPlain K.is_clone D.Puts D.IsSame D.queue }
 {}

@@ -4,4 +4,4 @@
 
 mod law;
 
-pub use law::schedule_law;
+pub use law::{batch_law, schedule_law};

@@ -4,6 +4,7 @@
 #![tactic(auto)]
 
 mod boxes;
+mod mails;
 mod shards;
 
 use std::process::ExitCode;
@@ -12,7 +13,8 @@ fn main(rt: HostRuntime) -> ExitCode {
     let alloc = rt.alloc();
     let shards = shards::script(alloc, &mut rt.stdout());
     let boxes = boxes::script(alloc, &mut rt.stdout());
-    if shards.is_ok() && boxes.is_ok() {
+    let mails = mails::script(alloc, &mut rt.stdout());
+    if shards.is_ok() && boxes.is_ok() && mails.is_ok() {
         ExitCode::SUCCESS
     } else {
         let _ = println!(rt; "a script did not end");

@@ -43,8 +43,8 @@ fn message(step: usize) -> LruMsg<u8> {
     }
 }
 
-// The first four rows, what the map has for four hashes, and how many pairs wait.
-type Shown = ([(u64, u8, usize); 4], [Option<usize>; 4], usize);
+// The first four rows, what the map has for four hashes, and of the queue how many pairs wait, were put, taken and lost.
+type Shown = ([(u64, u8, usize); 4], [Option<usize>; 4], [u64; 4]);
 
 fn shown(
     state: &ShardState<u8>,
@@ -61,7 +61,13 @@ fn shown(
         map.get(&9).copied(),
         map.get(&10).copied(),
     ];
-    (rows, weights, queue.len())
+    let counts = [
+        queue.len() as u64,
+        queue.pushed(),
+        queue.taken(),
+        queue.lost(),
+    ];
+    (rows, weights, counts)
 }
 
 // Whether memory may have been wanting.
@@ -103,7 +109,10 @@ pub fn script<W: Write>(alloc: Global, out: &mut W) -> io::Result<()> {
         let all = shown(&state, &map, &queue);
         writeln!(out, "left {all:?}")?;
     }
-    while let Some((key, weight)) = queue.pop() {
+    for _ in 0..STEPS {
+        let Some((key, weight)) = queue.pop() else {
+            break;
+        };
         writeln!(out, "evicted {key} {weight}")?;
     }
     Ok(())

@@ -2,6 +2,7 @@ pub use Rattle.lru_shard.specs.Row
 pub use Rattle.lru_shard.specs.Shard
 pub use Rattle.lru_shard.specs.Unit
 pub use Rattle.lru_list.specs.Linked
+pub use Rattle.lru_list.specs.LinkedLends
 pub use Rattle.lru_cores.specs.Core
 pub use Rattle.lru_cores.specs.CoreCalls
 pub use Rattle.lru_cores.specs.Eviction

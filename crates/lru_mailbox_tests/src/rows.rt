@@ -1,7 +1,7 @@
-//! A mailbox by its worked rows; and a script to be run with each allocation refused in turn.
+//! A mailbox by its worked rows.
 ghost use Rattle.std.specs.Prelude.{◌≡◌, vec_len};
 
-use crate::{MailError, MailState};
+use lru_mailbox::{MailError, MailState};
 use std::collections::VecDeque;
 use std::test::Fail;
 
