@@ -5,63 +5,82 @@ use lru_shard::unit::Cause;
 /// What was called, with all that was given but the data.
 #[derive(Clone, Copy, Debug, PartialEq, Eq)]
 pub enum Call {
-    /// A row goes first, in place of its key's. The weight is the one given; 0 counts as 1.
+    /// A row goes first, in place of its key's.
     Admit {
+        /// The key.
         key: u64,
+        /// The weight that was given; 0 counts as 1.
         weight: usize,
     },
     /// A row goes last where its key has none.
     InsertTail {
+        /// The key.
         key: u64,
+        /// The weight that was given; 0 is kept.
         weight: usize,
     },
     /// A key's weight grows without a bound of its own.
     IncrementWeight {
+        /// The key.
         key: u64,
+        /// What its weight grows by.
         delta: usize,
     },
     /// A key's weight grows up to a bound.
     IncrementWeightUpTo {
+        /// The key.
         key: u64,
+        /// What its weight grows by.
         delta: usize,
+        /// The bound on the new weight.
         max_weight: usize,
     },
-    /// A row is updated or admitted. The weight is the one that the called closure gave, at least 1; where no
-    /// closure was called, it is 0.
+    /// A row is updated or admitted.
     UpdateOrAdmit {
+        /// The key.
         key: u64,
+        /// The weight that the called closure gave, at least 1; where no closure was called, it is 0.
         weight: usize,
     },
-    /// A key gets another weight, in its place. The weight is the one given; 0 counts as 1.
+    /// A key gets another weight, in its place.
     SetWeight {
+        /// The key.
         key: u64,
+        /// The weight that was given; 0 counts as 1.
         weight: usize,
     },
     /// A key's row goes first.
     Promote {
+        /// The key.
         key: u64,
     },
     /// A key's row goes first unless it is among the first `top`.
     PromoteTopN {
+        /// The key.
         key: u64,
+        /// How many rows are near enough to the first.
         top: usize,
     },
     /// The last row of the shard `shard` modulo the number of shards leaves.
     EvictShard {
+        /// The number that was given.
         shard: u64,
     },
     /// One shard, probed by an `evict_to_limit`: its last row leaves.
     EvictToLimit,
     /// A key's row leaves.
     Remove {
+        /// The key.
         key: u64,
     },
     /// Whether a key has a row.
     Peek {
+        /// The key.
         key: u64,
     },
     /// The weight of a key's row.
     PeekWeight {
+        /// The key.
         key: u64,
     },
     /// The weight of the last row.

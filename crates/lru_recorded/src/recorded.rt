@@ -1,5 +1,5 @@
 //! N shards for many threads, each behind a lock of its own with its history.
-ghost use Rattle.std.specs.Prelude.{◌≡◌, ◌+◌, ◌-◌, ◌%◌, ◌<◌, ◌≤◌, [], vec_len, map, IfOk, IfErr, OnOk, OnErr, Some, Ok, None};
+ghost use Rattle.std.specs.Prelude.{◌≡◌, ◌+◌, ◌-◌, ◌%◌, ◌<◌, ◌≤◌, [], vec_len, map, All, IfOk, IfErr, OnOk, OnErr, Some, Ok, None};
 ghost use Rattle.lru_journals.specs.declared.entry.Reply.TheVariants.{Flag, Weight};
 ghost use Rattle.lru_journals.specs.Stamps.{GetsReceipt};
 ghost use Rattle.lru_journals.specs.Ties.{hand, up};
@@ -110,6 +110,7 @@ fn deal_seats<B: Registry>(
     requires tie { tie.now.table.shared.table_id ≡ B.table }
     requires rest { (rest.old.table_id ≡ B.table) × (rest.old.me ≡ (hand [] (up 0 count) [] [], [])) }
     ensures all { IfOk result (λ seats. map (λ s. s.number) seats.items ≡ up 0 count) }
+    ensures fresh { IfOk result (λ seats. All (λ s. s.receipts.items ≡ []) seats.items) }
     ensures rest { OnOk result ((rest.new.table_id ≡ B.table) × (rest.new.me ≡ (hand [] [] [] [], []))) }
 {
     let mut seats = Vec::with_capacity(alloc, count)?;
@@ -133,7 +134,7 @@ pub struct Recorded<T, B: Registry, const N: usize> {
 
 impl<T: Drop, B: Registry, const N: usize> RecordedLru<T, B, N> {
     /// An empty `RecordedLru` with a limit on its weight and, where there is a watermark, on its length, and one seat for
-    /// each caller. Each shard has room for `capacity` rows, and may weigh `usize::MAX / N`.
+    /// each caller, without receipts. Each shard has room for `capacity` rows, and may weigh `usize::MAX / N`.
     pub fn new(
         alloc: Global,
         blank: Blank,
@@ -145,7 +146,8 @@ impl<T: Drop, B: Registry, const N: usize> RecordedLru<T, B, N> {
         requires some { 0 < N }
         requires blank { (blank.tie.table.shared.table_id ≡ B.table) × (blank.tie.table.shared.key ≡ record { shards = N; seats = callers }) }
         requires callers { B.seats ≡ callers }
-        ensures { IfOk result (λ r. map (λ s. s.number) r.1.items ≡ up 0 callers) }
+        ensures seats { IfOk result (λ r. map (λ s. s.number) r.1.items ≡ up 0 callers) }
+        ensures fresh { IfOk result (λ r. All (λ s. s.receipts.items ≡ []) r.1.items) }
     {
         let Blank { tie, token } = blank;
         let mut rest = token;
@@ -298,7 +300,7 @@ impl<T: Drop, B: Registry, const N: usize> RecordedLru<T, B, N> {
         requires update { U.IsAlwaysCallable update }
         requires admit_data { A.IsAlwaysCallable admit_data }
         ensures ok { IfOk result (λ was. (w : _) × (IsGiven (Updates (U.post update)) (A.post admit_data) was w × GetsReceipt seat.old.receipts.items (key % N) (Call.UpdateOrAdmit key w) (Some (weighed was)) seat.new.receipts.items)) }
-        ensures err { IfErr result (λ r. (w : _) × (IsMade (A.post admit_data) r.held w × GetsReceipt seat.old.receipts.items (key % N) (Call.UpdateOrAdmit key w) (refused r.cause) seat.new.receipts.items)) }
+        ensures err { IfErr result (λ r. (w : _) × (IsMade (A.post admit_data) r.cause r.held w × GetsReceipt seat.old.receipts.items (key % N) (Call.UpdateOrAdmit key w) (refused r.cause) seat.new.receipts.items)) }
         ensures seat { seat.new.number ≡ seat.old.number }
     {
         let shard = self.shard_of(key);

@@ -122,3 +122,73 @@ fn one_caller_over_the_limit(rt: HostRuntime) -> Result<(), Fail> {
     }
     Ok(())
 }
+
+// Rows as data, which is the key, and weight, in the order of their admission.
+const ROWS: [(u64, usize); 4] = [(1, 1), (2, 2), (3, 1), (4, 3)];
+
+// A limit on the weight, one on the length, and how many of the rows have to leave, the oldest first.
+const OVER: [(usize, Option<usize>, usize); 4] = [
+    (6, None, 1),
+    (7, Some(2), 2),
+    (4, Some(3), 2),
+    (3, None, 3),
+];
+
+// What is evicted of the rows.
+fn evict_rows<B: Registry, R: Wait>(
+    rt: &R,
+    alloc: Global,
+    blank: Blank,
+    weight_limit: usize,
+    watermark: Option<usize>,
+) -> Result<Vec<(u64, usize)>, AllocError>
+    requires blank { (blank.tie.table.shared.table_id ≡ B.table) × (blank.tie.table.shared.key ≡ record { shards = 1; seats = 1 }) }
+    requires callers { B.seats ≡ 1 }
+{
+    let (lru, mut seats) = RecordedLru::<u64, B, 1>::new(
+        alloc,
+        blank,
+        weight_limit,
+        4,
+        watermark,
+        1,
+    )?;
+    let mut draws = StdRng::seed_from_u64(0);
+    let mut evicted = Vec::new(alloc);
+    for seat in seats.iter_mut() {
+        for (key, weight) in &ROWS {
+            let _ = lru.admit(rt, seat, *key, *key, *weight);
+        }
+        evicted = match lru.evict_to_limit(rt, alloc, seat, &mut draws) {
+            Ok(pairs) => pairs,
+            Err(_) => return Err(AllocError),
+        };
+    }
+    Ok(evicted)
+}
+
+fn evicted_of_one<R: Wait>(
+    rt: &R,
+    alloc: Global,
+    weight_limit: usize,
+    watermark: Option<usize>,
+) -> Result<Vec<(u64, usize)>, AllocError> {
+    let blank = Blank::new(
+        alloc,
+        Names {
+            shards: 1,
+            seats: 1,
+        },
+    )?;
+    evict_rows::<Brand, _>(rt, alloc, blank, weight_limit, watermark)
+}
+
+#[test]
+fn evicts_until_no_limit_is_passed(rt: HostRuntime) -> Result<(), Fail> {
+    let alloc: Global = rt.alloc();
+    for (weight_limit, watermark, count) in &OVER {
+        let evicted = evicted_of_one(&rt, alloc, *weight_limit, *watermark)?;
+        assert_eq!(rt; Some(evicted.as_slice()), ROWS.get(..*count));
+    }
+    Ok(())
+}

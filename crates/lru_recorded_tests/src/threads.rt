@@ -1,12 +1,13 @@
 // Runs of two threads and of four.
 ghost use Rattle.std.specs.Prelude.{◌≡◌};
 
-use crate::asked::ask;
+use crate::asked::{Answer, ask};
 use crate::plain::{finished, is_right};
 use lru_journals::entry::{Call, Names, Reply};
 use lru_journals::journal::Seat;
 use lru_journals::tie::{Blank, Registry};
 use lru_recorded::recorded::{Recorded, RecordedLru};
+use lru_shard::unit::Cause;
 use rand::RngExt;
 use rand::rngs::StdRng;
 use rand_core::SeedableRng;
@@ -43,20 +44,23 @@ fn drawn_call(rng: &mut StdRng) -> Call {
     }
 }
 
-// Ten thousand drawn calls by one seat.
+// Ten thousand drawn calls by one seat. Whether one of them was refused for want of memory.
 fn draw_calls<B: Registry, R: Wait>(
     rt: &R,
     alloc: Global,
     lru: &RecordedLru<u64, B, 4>,
     seat: &mut Seat<B>,
     seed: u64,
-) {
+) -> bool {
     let mut rng = StdRng::seed_from_u64(seed);
+    let mut wanted_memory = false;
     for _ in 0..10_000u32 {
         let call = drawn_call(&mut rng);
         let shard = rng.random_range(0..5usize);
-        ask(rt, alloc, lru, seat, &mut rng, shard, call);
+        let answer = ask(rt, alloc, lru, seat, &mut rng, shard, call);
+        wanted_memory = wanted_memory || answer == Answer::Refused(Cause::Memory);
     }
+    wanted_memory
 }
 
 // How many entries there are, and whether the plain checker agrees.
@@ -71,26 +75,33 @@ fn seen<B: Registry, const N: usize>(
     Ok((entries, is_right(alloc, recorded)?))
 }
 
+// How many entries there are, whether the plain checker agrees, and whether a call was refused for want of memory.
 fn four_threads<B: Registry + Send + Sync, R: Threads + Wait + Sync>(
     rt: &R,
     alloc: Global,
     blank: Blank,
-) -> Result<Option<(usize, bool)>, AllocError>
+) -> Result<Option<(usize, bool, bool)>, AllocError>
     requires blank { (blank.tie.table.shared.table_id ≡ B.table) × (blank.tie.table.shared.key ≡ record { shards = 4; seats = 4 }) }
     requires callers { B.seats ≡ 4 }
 {
     let (lru, mut seats) = RecordedLru::<u64, B, 4>::new(alloc, blank, 30, 4, Some(12), 4)?;
+    let wanted_memory = AtomicBool::new(false);
     let shared = &lru;
     thread::for_each_mut(
         rt,
         seats.as_mut_slice(),
         4,
-        &|number: usize, seat: &mut Seat<B>| { draw_calls(rt, alloc, shared, seat, number as u64) },
+        &|number: usize, seat: &mut Seat<B>| {
+            if draw_calls(rt, alloc, shared, seat, number as u64) {
+                wanted_memory.store(true, Ordering::SeqCst);
+            }
+        },
     );
     let Some(recorded) = finished(lru, seats, 4) else {
         return Ok(None);
     };
-    Ok(Some(seen(alloc, &recorded)?))
+    let (entries, right) = seen(alloc, &recorded)?;
+    Ok(Some((entries, right, wanted_memory.load(Ordering::SeqCst))))
 }
 
 #[test]
@@ -103,10 +114,10 @@ fn four_threads_over_four_shards(rt: HostRuntime) -> Result<(), Fail> {
             seats: 4,
         },
     )?;
-    let Some((entries, right)) = four_threads::<Brand, _>(&rt, alloc, blank)? else {
+    let Some((entries, right, wanted_memory)) = four_threads::<Brand, _>(&rt, alloc, blank)? else {
         panic!(rt; "no seats");
     };
-    assert!(rt; right);
+    assert!(rt; right && !wanted_memory);
     // of the draws of `peek_lru` a fifth is past the last shard, and a probe or more stands for each `evict_to_limit`
     assert!(rt; entries > 30_000);
     Ok(())

@@ -16,7 +16,7 @@ use Rattle.lru_journals.specs.declared.entry.Reply.{Reply}
 use Rattle.lru_journals.specs.declared.entry.Reply.TheVariants.{Flag, Weight, Refused}
 use Rattle.lru_shard.proofs.Rows.{weight-cons}
 use Rattle.lru_shard.proofs.Edits.{at_row, weight-without, weight-first, length-first}
-use Rattle.lru_shard.proofs.Refusals.{refusal_weight, refusal_length}
+use Rattle.lru_shard.proofs.Refusals.{refusal_none, refusal_weight, refusal_length}
 use Rattle.lru_recordings.specs.Plain.{Plain, plain, forget, Step, step, found, unless_refused, grown, increment, called}
 use Rattle.lru_recordings.specs.Histories.{home, IsEviction}
 use Rattle.lru_recordings.specs.Replies.{refused, weighed, paired, admitted, inserted, new_weight, incremented, increments, set, IsGiven, IsMade}
@@ -240,14 +240,6 @@ module _ {T : Type 0} where
     made_row (Some x) r h = none_made r.held h.1.1.1.1.0
     made_row None r h = new_made r.cause r.held h.0
 
-    weighed_as : (held : Option (T × ℕ)) (w : ℕ) → IfSome held Makes → IfSome held (λ made. w ≡ max made.1 1) → IsMade Makes held w
-    weighed_as None w m e = tt
-    weighed_as (Some made) w m e = (m, e)
-
-    -- the weight of what was made, where it was handed back
-    pub made_of : (r : Handed (Option (T × ℕ))) (w : ℕ) → UpdatesOrAdmits Changes Makes old k (Err r) new → IfSome r.held (λ made. w ≡ max made.1 1) → IsMade Makes r.held w
-    made_of r w h e = weighed_as r.held w (made_row (row_of old.rows k) r h) e
-
     refused_row : (o : Option (Row T)) (r : Handed (Option (T × ℕ))) → UpdatesRow Changes Makes old k o (Err r) new → forget new.rows ≡ forget old.rows
     refused_row (Some x) r h = ap (λ (s : Shard T). forget s.rows) h.1.1.1.1.1 ∙ forget-with_value old.rows k h.0
     refused_row None r h = ap (λ (s : Shard T). forget s.rows) h.1
@@ -295,6 +287,66 @@ module _ {T : Type 0} where
       let at = at_row u.rows k r.0 valid.keys r.1.0 in
       same_refusal u.cap u.rows (first u.rows (row k r.0.value w)) (first (forget u.rows) (row k tt w)) (first-forget u.rows (row k r.0.value w))
       ∙ refusal_weight u.cap (size_of u.rows) (size_of (first u.rows (row k r.0.value w))) (inl (omega (arith, length-first u.rows k r.0 at r.0.value w))) (omega (arith, weight-first u.rows k r.0 at r.0.value w, r.1.1, much))
+
+  fits : (u : Shard T) (k w : ℕ) → None ≡ option_map (λ (r : Row T). r.weight) (row_of u.rows k) → refusal u.cap (size_of (forget u.rows)) (size_of (first (forget u.rows) (row k tt w))) ≡ refusal u.cap (size_of u.rows) (and_row (size_of u.rows) w)
+  fits u k w h = λ i. refusal u.cap (size-forget u.rows i) (size-new u.rows k w (plain_none u.rows k (no_row u.rows k h)) i)
+
+  pub fits_new : (u : Shard T) (k w : ℕ) → None ≡ option_map (λ (r : Row T). r.weight) (row_of u.rows k) → length u.rows < most_rows u.cap → weight_of u.rows + w ≤ u.cap → refusal u.cap (size_of (forget u.rows)) (size_of (first (forget u.rows) (row k tt w))) ≡ None
+  fits_new u k w h short light = fits u k w h ∙ refusal_none u.cap (size_of u.rows) (and_row (size_of u.rows) w) (inr short) light
+
+  pub fits_row_of : (u : Shard T) (k w old : ℕ) → IsShard u → Some old ≡ option_map (λ (r : Row T). r.weight) (row_of u.rows k) → weight_of u.rows + w ≤ u.cap + old → refusal u.cap (size_of (forget u.rows)) (size_of (first (forget u.rows) (row k tt w))) ≡ None
+  fits_row_of u k w old valid h light =
+      let r = has_row u.rows k old h in
+      let at = at_row u.rows k r.0 valid.keys r.1.0 in
+      same_refusal u.cap u.rows (first u.rows (row k r.0.value w)) (first (forget u.rows) (row k tt w)) (first-forget u.rows (row k r.0.value w))
+      ∙ refusal_none u.cap (size_of u.rows) (size_of (first u.rows (row k r.0.value w))) (inl (omega (arith, length-first u.rows k r.0 at r.0.value w))) (omega (arith, weight-first u.rows k r.0 at r.0.value w, r.1.1, light))
+
+  -- a refused `update_or_admit`, looked up by the weight that is noted
+  module _ (Changes : T → ℕ → ℕ → T → Type 0) (Makes : T × ℕ → Type 0) (old new : Shard T) (k w : ℕ) where
+    abbrev pub looked_up : Option Cause
+    looked_up = refusal old.cap (size_of (forget new.rows)) (size_of (first (forget new.rows) (row k tt w)))
+
+    abbrev IsHeavy : Option (T × ℕ) → Type 0
+    IsHeavy held = IfSome held (λ _. looked_up ≡ Some Heavy)
+
+    none_heavy : (held : Option (T × ℕ)) → held ≡ None → IsHeavy held
+    none_heavy held e = subst (λ (x : Option (T × ℕ)). IsHeavy x) (sym e) tt
+
+    new_heavy : (cause : Cause) (held : Option (T × ℕ)) → row_of old.rows k ≡ None → new ≡ old → RefusesNew Makes old cause held → IfSome held (λ made. w ≡ max made.1 1) → IsHeavy held
+    new_heavy Length held n same h e = none_heavy held h.1
+    new_heavy Memory held n same h e = none_heavy held h.1
+    new_heavy Heavy held n same h e =
+        let is : w ≡ max h.0.1 1 = subst (λ (x : Option (T × ℕ)). IfSome x (λ made. w ≡ max made.1 1)) h.1.1.0 e in
+        let none : row_of (forget old.rows) k ≡ None = plain_none old.rows k n in
+        let found : looked_up ≡ Some Heavy = (λ i. refusal old.cap (size_of (forget (same i).rows)) (size_of (first (forget (same i).rows) (row k tt w))))
+            ∙ (λ i. refusal old.cap (size-forget old.rows i) (size-new old.rows k w none i))
+            ∙ (λ i. refusal old.cap (size_of old.rows) (and_row (size_of old.rows) (is i)))
+            ∙ h.1.1.1 in
+        subst (λ (x : Option (T × ℕ)). IsHeavy x) (sym h.1.1.0) found
+
+    heavy_row : (o : Option (Row T)) (r : Handed (Option (T × ℕ))) → row_of old.rows k ≡ o → UpdatesRow Changes Makes old k o (Err r) new → IfSome r.held (λ made. w ≡ max made.1 1) → IsHeavy r.held
+    heavy_row (Some x) r n h e = none_heavy r.held h.1.1.1.1.0
+    heavy_row None r n h e = new_heavy r.cause r.held n h.1 h.0 e
+
+    by_held : (held : Option (T × ℕ)) (cause : Cause) → looked_up ≡ Some cause → IsHeavy held → IfSome held Makes → IfSome held (λ made. w ≡ max made.1 1) → IsMade Makes cause held w
+    by_held None Memory f v m e = refl
+    by_held None Length f v m e = refl
+    by_held None Heavy f v m e = tt
+    by_held (Some made) Memory f v m e = absurd (cc)
+    by_held (Some made) Length f v m e = absurd (cc)
+    by_held (Some made) Heavy f v m e = (m, e)
+
+    -- what was handed back, where the refusal was found
+    pub made_of : (r : Handed (Option (T × ℕ))) (cause : Cause) → UpdatesOrAdmits Changes Makes old k (Err r) new → IfSome r.held (λ made. w ≡ max made.1 1) → looked_up ≡ Some cause → IsMade Makes cause r.held w
+    made_of r cause h e f = by_held r.held cause f (heavy_row (row_of old.rows k) r refl h e) (made_row Changes Makes old new k (row_of old.rows k) r h) e
+
+    not_held : (held : Option (T × ℕ)) → looked_up ≡ None → IsHeavy held → held ≡ None
+    not_held None f v = refl
+    not_held (Some made) f v = absurd (cc)
+
+    -- and where it was not
+    pub none_held : (r : Handed (Option (T × ℕ))) → UpdatesOrAdmits Changes Makes old k (Err r) new → IfSome r.held (λ made. w ≡ max made.1 1) → looked_up ≡ None → r.held ≡ None
+    none_held r h e f = not_held r.held f (heavy_row (row_of old.rows k) r refl h e)
 
 -- a closure that does no more than another gives a weight that the other may give
 pub given_by : {T : Type 0} (Changes Changes' : T → ℕ → ℕ → T → Type 0) (Makes : T × ℕ → Type 0) (was : Option ℕ) (w : ℕ) → ((o : T) (v x : ℕ) (n : T) → Changes o v x n → Changes' o v x n) → IsGiven Changes Makes was w → IsGiven Changes' Makes was w

@@ -55,6 +55,9 @@ abbrev pub IsGiven : {T : Type 0} → (T → ℕ → ℕ → T → Type 0) → (
 IsGiven {T} Changes Makes None w = (made : T × ℕ) × (Makes made × (w ≡ max made.1 1))
 IsGiven {T} Changes Makes (Some was) w = (old : T) × ((new : T) × ((given : ℕ) × (Changes old was given new × (w ≡ max given 1))))
 
--- the same of one that was refused, and handed back what was made
-abbrev pub IsMade : {T : Type 0} → (T × ℕ → Type 0) → Option (T × ℕ) → ℕ → Type 0
-IsMade Makes held w = IfSome held (λ made. Makes made × (w ≡ max made.1 1))
+-- the same of one that was refused for this cause, with what it handed back: want of memory and Length come before
+-- anything is made
+abbrev pub IsMade : {T : Type 0} → (T × ℕ → Type 0) → Cause → Option (T × ℕ) → ℕ → Type 0
+IsMade Makes Memory held w = held ≡ None
+IsMade Makes Length held w = held ≡ None
+IsMade Makes Heavy held w = IfSome held (λ made. Makes made × (w ≡ max made.1 1))

@@ -96,7 +96,7 @@ fn cloned_last<T: Clone>(unit: &LruUnit<T>) -> Result<Option<(T, usize)>, AllocE
 // Why a key is refused this weight under the shard's cap, whatever memory there is, as far as it is.
 fn refusal_of<T>(unit: &LruUnit<T>, cap: usize, key: u64, weight: usize) -> Option<Cause>
     requires { unit.now.cap ≡ cap }
-    ensures why { IfSome result (λ cause. refusal unit.now.cap (size_of (forget unit.now.rows)) (size_of (first (forget unit.now.rows) (row key tt weight))) ≡ Some cause) }
+    ensures why { refusal unit.now.cap (size_of (forget unit.now.rows)) (size_of (first (forget unit.now.rows) (row key tt weight))) ≡ result }
     ensures noted { IfSome result (λ cause. refused cause ≡ Some (Reply.Refused cause)) }
 {
     let used = unit.used_weight();
@@ -418,7 +418,7 @@ impl<T: Drop, B: Registry, const N: usize> Recording<T, B, N> {
         requires update { U.IsAlwaysCallable update }
         requires admit_data { A.IsAlwaysCallable admit_data }
         ensures ok { IfOk result (λ was. (w : _) × (IsGiven (Updates (U.post update)) (A.post admit_data) was w × GetsReceipt seat.old.receipts.items self.old.journal.number (Call.UpdateOrAdmit key w) (Some (weighed was)) seat.new.receipts.items)) }
-        ensures err { IfErr result (λ r. (w : _) × (IsMade (A.post admit_data) r.held w × GetsReceipt seat.old.receipts.items self.old.journal.number (Call.UpdateOrAdmit key w) (refused r.cause) seat.new.receipts.items)) }
+        ensures err { IfErr result (λ r. (w : _) × (IsMade (A.post admit_data) r.cause r.held w × GetsReceipt seat.old.receipts.items self.old.journal.number (Call.UpdateOrAdmit key w) (refused r.cause) seat.new.receipts.items)) }
         ensures same { (self.new.journal.number ≡ self.old.journal.number) × (seat.new.number ≡ seat.old.number) }
     {
         let Recording { unit, journal } = self;

@@ -7,7 +7,7 @@ use Rattle.lru_recordings.specs.Plain.{forget}
 use Rattle.lru_journals.specs.declared.entry.Call.TheVariants.{UpdateOrAdmit}
 use Rattle.lru_journals.specs.declared.entry.Reply.TheVariants.{Refused}
 use Rattle.lru_shard.proofs.EditsOf.{edits_update}
-use Rattle.lru_recordings.proofs.Calls.{stands_update, refused_update, stands_refused, given_of, given_by, updates_through, made_of}
+use Rattle.lru_recordings.proofs.Calls.{stands_update, refused_update, stands_refused, given_of, given_by, updates_through, made_of, none_held}
 use Rattle.lru_recordings.proofs.Noted.{keeps}
 use Rattle.lru_recordings.proofs.recording.Recording.update_or_admit.Goals as goal
 
@@ -67,10 +67,12 @@ returns-clause-err g c =
     let new = c.update_or_admit-answer.new.self in
     let w = c.noted_weight-weight.result in
     let call = UpdateOrAdmit c.args.key w in
-    let cause = c.in-Some.cause in (
+    let cause = c.in-Some.cause in
+    let caps = (edits_update _ _ old.unit c.args.key (Err c.in-Err.refusal) new c.in-Err.ensures).caps in
+    let why = subst (λ (x : ℕ). refusal x (size_of (forget new.rows)) (size_of (first (forget new.rows) (row c.args.key tt w))) ≡ Some cause) caps c.in-Some.ensures.why in (
       w,
       (
-        made_of _ _ old.unit new c.args.key c.in-Err.refusal w c.in-Err.ensures c.noted_weight-weight.ensures,
+        made_of _ _ old.unit new c.args.key w c.in-Err.refusal cause c.in-Err.ensures c.noted_weight-weight.ensures why,
         (
           length c.reserve.new.self.history.items,
           c.note-2.ensures.receipts.1
@@ -79,3 +81,12 @@ returns-clause-err g c =
         ),
       ),
     )
+
+pub returns-in_default-clause-err : goal.returns-in_default-clause-err
+returns-in_default-clause-err g c =
+    let old = c.args.self.now in
+    let new = c.update_or_admit-answer.new.self in
+    let w = c.noted_weight-weight.result in
+    let caps = (edits_update _ _ old.unit c.args.key (Err c.in-Err.refusal) new c.in-Err.ensures).caps in
+    let why = subst (λ (x : ℕ). refusal x (size_of (forget new.rows)) (size_of (first (forget new.rows) (row c.args.key tt w))) ≡ None) caps c.in_default.ensures.why in
+    (w, (none_held _ _ old.unit new c.args.key w c.in-Err.refusal c.in-Err.ensures c.noted_weight-weight.ensures why, (0, c.reserve.ensures.receipts.1)))
