@@ -86,6 +86,49 @@ fn what_was_saved_is_loaded_and_cleaned_up(rt: HostRuntime) -> Result<(), Fail> 
     Ok(())
 }
 
+// A file of many pages is written whole and read whole.
+#[test]
+fn a_large_file_comes_back(rt: HostRuntime) -> Result<(), Fail> {
+    let alloc = rt.alloc();
+    let log = sink::Memory::new(alloc);
+    let mut rng = StdRng::seed_from_u64(7);
+    let mut folder = HostFolder::new(rt);
+    let mut large = Vec::new(alloc);
+    for place in 0..100_000usize {
+        large.push((place % 251) as u8)?;
+    }
+    let give = |_shard: usize| large.as_slice().to_vec(alloc);
+    save_shards(
+        alloc,
+        &mut folder,
+        &mut rng,
+        &log,
+        "large_here",
+        "c",
+        1,
+        give,
+    )?;
+    let mut deserialize = |_shard: usize, bytes: &[u8]| {
+        if bytes == large.as_slice() {
+            Ok(())
+        } else {
+            Err("other bytes")
+        }
+    };
+    let report = load_shards(
+        alloc,
+        &mut folder,
+        &log,
+        "large_here",
+        "c",
+        1,
+        &mut deserialize,
+    )?;
+    assert_eq!(rt; (report.loaded_shards, report.error_shards), (1, 0));
+    fs::remove_dir_all(&rt, "large_here")?;
+    Ok(())
+}
+
 #[test]
 fn a_folder_is_not_there(rt: HostRuntime) -> Result<(), Fail> {
     let (report, lines) = load(rt.alloc(), &mut HostFolder::new(rt), "never_made", 2)?;

@@ -1,4 +1,4 @@
-// Want of memory in loads of shards. To be run with each allocation refused in turn, as the calls on a core.
+// Want of memory in loads of shards. A refused load is made again; `rt try --test --fail-alloc N` refuses one allocation.
 use log::sink;
 use lru_test_folders::refusals::{Ending, Loaded, end_of_load};
 use lru_test_folders::two_shards::{folder_to_load, has_temp, is_bytes, is_saved};
