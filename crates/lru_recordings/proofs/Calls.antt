@@ -319,9 +319,9 @@ module _ {T : Type 0} where
         let is : w ≡ max h.0.1 1 = subst (λ (x : Option (T × ℕ)). IfSome x (λ made. w ≡ max made.1 1)) h.1.1.0 e in
         let none : row_of (forget old.rows) k ≡ None = plain_none old.rows k n in
         let found : looked_up ≡ Some Heavy = (λ i. refusal old.cap (size_of (forget (same i).rows)) (size_of (first (forget (same i).rows) (row k tt w))))
-            ∙ (λ i. refusal old.cap (size-forget old.rows i) (size-new old.rows k w none i))
-            ∙ (λ i. refusal old.cap (size_of old.rows) (and_row (size_of old.rows) (is i)))
-            ∙ h.1.1.1 in
+        ∙ (λ i. refusal old.cap (size-forget old.rows i) (size-new old.rows k w none i))
+        ∙ (λ i. refusal old.cap (size_of old.rows) (and_row (size_of old.rows) (is i)))
+        ∙ h.1.1.1 in
         subst (λ (x : Option (T × ℕ)). IsHeavy x) (sym h.1.1.0) found
 
     heavy_row : (o : Option (Row T)) (r : Handed (Option (T × ℕ))) → row_of old.rows k ≡ o → UpdatesRow Changes Makes old k o (Err r) new → IfSome r.held (λ made. w ≡ max made.1 1) → IsHeavy r.held

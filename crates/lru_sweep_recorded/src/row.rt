@@ -25,9 +25,7 @@ fn admit<B: Registry, R: Wait>(
         Err(refused)
             if refused.cause == Cause::Memory
                 && refused.held == data
-                && before == seat.receipts().len() => {
-            lru.admit(rt, seat, key, data, 1)
-        }
+                && before == seat.receipts().len() => { lru.admit(rt, seat, key, data, 1) }
         answer => answer,
     }
 }
