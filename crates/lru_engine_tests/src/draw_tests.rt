@@ -16,7 +16,9 @@ const ADMITTED: &str = "0\n1\n0\n1\n0\n1\n0\n1\n0\n1\n0\n1\n";
 fn expected(alloc: Global, seed: u64) -> Result<String, Fail> {
     let mut core: LruCore<Keyed, 2> = LruCore::with_capacity(alloc, 6, 0)?;
     for key in 0..12 {
-        let _ = core.admit(key, Keyed { key, value: key }, 1);
+        if core.admit(key, Keyed { key, value: key }, 1).ok() != Some((key % 2) as usize) {
+            return Err("not admitted")?;
+        }
     }
     let mut rng = StdRng::seed_from_u64(seed);
     let mut text = String::from_str(alloc, ADMITTED)?;

@@ -92,9 +92,11 @@ fn refuses_an_argument_that_is_not_text(rt: HostRuntime) -> Result<(), Fail> {
     Ok(())
 }
 
+// The folder keeps its files.
 #[test]
 fn tells_that_the_input_failed(rt: HostRuntime) -> Result<(), Fail> {
     let arguments = words(rt.alloc(), "4 - 7")?;
+    let mut folder = MemoryFolder::new(rt.alloc()).with("d/c.0", b"kept")?;
     for (kind, text) in [
         (io::ErrorKind::TimedOut, "error input\n"),
         (io::ErrorKind::OutOfMemory, "error memory\n"),
@@ -102,7 +104,7 @@ fn tells_that_the_input_failed(rt: HostRuntime) -> Result<(), Fail> {
         let mut writer = Vec::new(rt.alloc());
         let status = run(
             rt.alloc(),
-            &mut MemoryFolder::new(rt.alloc()),
+            &mut folder,
             &Discard,
             &arguments,
             &mut Broken { kind },
@@ -110,6 +112,7 @@ fn tells_that_the_input_failed(rt: HostRuntime) -> Result<(), Fail> {
         );
         assert_eq!(rt; status, 1);
         assert!(rt; writer.as_slice() == text.as_bytes());
+        assert!(rt; folder.get("d/c.0") == Some(b"kept".as_slice()));
     }
     Ok(())
 }
@@ -174,8 +177,8 @@ fn refuses_no_memory_without_cause(rt: HostRuntime) -> Result<(), Fail> {
     Ok(())
 }
 
-// To be run with each allocation refused in turn: where the input or the core finds no memory, that is all that is
-// written; a row or an eviction that finds none is told on its own line, and the lines after it are answered.
+// `rt try --test --fail-alloc N` refuses one allocation: where the input or the core finds no memory, that is all that
+// is written; a row or an eviction that finds none is told on its own line, and the lines after it are answered.
 #[test]
 fn tells_where_memory_is_refused(rt: HostRuntime) -> Result<(), Fail> {
     let Ok(arguments) = words(rt.alloc(), "0 - 1") else {

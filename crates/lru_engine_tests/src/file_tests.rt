@@ -115,7 +115,7 @@ fn draws_the_words_of_a_save(rt: HostRuntime) -> Result<(), Fail> {
         let text = "saved 1 failed 1\n";
         assert!(rt; answers_over(&rt, &mut folder, b"save d c\n".as_slice(), 0, text)?);
         let path = format!(in rt.alloc(); "d/c.{shard}.{word:08x}.tmp")?;
-        assert!(rt; folder.get(&path).is_some());
+        assert!(rt; folder.get(&path) == Some(b"".as_slice()));
     }
     Ok(())
 }
@@ -150,8 +150,8 @@ fn takes_texts_for_folder_and_file(rt: HostRuntime) -> Result<(), Fail> {
     let text = "saved 2 failed 0\nloaded 2 missing 0 errored 0 removed 0\n";
     let text = format!(in rt.alloc(); "{text}{text}{text}")?;
     assert!(rt; answers_over(&rt, &mut folder, input.as_bytes(), 0, &text)?);
-    assert!(rt; folder.get("a/b/\u{e9}.0").is_some());
-    assert!(rt; folder.get("/-.1").is_some());
+    assert!(rt; folder.get("a/b/\u{e9}.0") == Some(b"".as_slice()));
+    assert!(rt; folder.get("/-.1") == Some(b"".as_slice()));
     Ok(())
 }
 
@@ -205,6 +205,16 @@ fn stored(rt: &HostRuntime) -> Result<MemoryFolder, AllocError> {
     )
 }
 
+// Where nothing is refused, both files are loaded and saved.
+#[test]
+fn refuses_no_file_without_cause(rt: HostRuntime) -> Result<(), Fail> {
+    let mut folder = stored(&rt)?;
+    let input = b"load d c\nsave d c\n".as_slice();
+    let text = "loaded 2 missing 0 errored 0 removed 1\nsaved 2 failed 0\n";
+    assert!(rt; answers_over(&rt, &mut folder, input, 0, text)?);
+    Ok(())
+}
+
 // What a load may tell where one allocation is refused.
 const LOADS: [&str; 6] = [
     "loaded 2 missing 0 errored 0 removed 1\n",
@@ -223,7 +233,7 @@ const SAVES: [&str; 4] = [
     "error memory\n",
 ];
 
-// To be run with each allocation refused in turn.
+// `rt try --test --fail-alloc N` refuses one allocation; then the program tells one of these texts, and no other.
 #[test]
 fn tells_where_memory_is_refused_to_a_file(rt: HostRuntime) -> Result<(), Fail> {
     let Ok(arguments) = words(rt.alloc(), "9 - 7") else {

@@ -2,6 +2,7 @@
 use crate::file_tests::answers_over;
 use crate::run_tests::answers;
 use pingora_lru_files::persistence::MemoryFolder;
+use std::alloc::{AllocError, Global};
 use std::test::Fail;
 
 #[test]
@@ -23,7 +24,18 @@ fn answers_ten_thousand_lines(rt: HostRuntime) -> Result<(), Fail> {
     Ok(())
 }
 
-// Each shard has 4,167 rows of 24 bytes.
+// The file of that shard: its 4,167 rows, most recent first, each with key, value and weight as 8 bytes, lowest first.
+fn file_of(alloc: Global, shard: u64) -> Result<Vec<u8>, AllocError> {
+    let mut bytes = Vec::new(alloc);
+    for row in 0..4167u64 {
+        let key = 8332 - 2 * row + shard % 2;
+        for number in [key, key, 1] {
+            bytes.extend_from_slice(&number.to_le_bytes())?;
+        }
+    }
+    Ok(bytes)
+}
+
 #[test]
 fn keeps_files_of_many_pages(rt: HostRuntime) -> Result<(), Fail> {
     let mut folder = MemoryFolder::new(rt.alloc());
@@ -37,12 +49,9 @@ fn keeps_files_of_many_pages(rt: HostRuntime) -> Result<(), Fail> {
     input.push_str("save d c\n")?;
     text.push_str("saved 2 failed 0\n")?;
     assert!(rt; answers_over(&rt, &mut folder, input.as_bytes(), 0, &text)?);
-    for path in ["d/c.0", "d/c.1"] {
-        let length = match folder.get(path) {
-            Some(bytes) => bytes.len(),
-            None => 0,
-        };
-        assert_eq!(rt; length, 100008);
+    for (shard, path) in [(0, "d/c.0"), (1, "d/c.1")] {
+        let bytes = file_of(rt.alloc(), shard)?;
+        assert!(rt; folder.get(path) == Some(bytes.as_slice()));
     }
     let input = b"load d c\ntotal\nlru 0\nlru 1\nevict 0\n".as_slice();
     let text = "loaded 2 missing 0 errored 0 removed 0\n8334 8334 0 0\n0 0 1\n1 1 1\n0 0 1\n";
