@@ -4,7 +4,7 @@ use Rattle.std.specs.Prelude.{Option, Bool, option_map, ◌⊎◌, if◌then◌e
 use Rattle.std.specs.Option.{option_map_or}
 use Rattle.lru_shard.specs.declared.unit.Cause.{Cause}
 use Rattle.lru_shard.specs.declared.unit.Refused.{Refused}
-use Rattle.lru_shard.specs.Row.{Row, row, row_of, first, last_row, without_last, pair_of, with_value, HasDistinctKeys}
+use Rattle.lru_shard.specs.Row.{Row, row, row_of, with_first, last_row, without_last, pair_of, with_value, HasDistinctKeys}
 use Rattle.lru_shard.specs.Shard.{Shard, shard, size_of, MayRefuse, Accepts}
 use Rattle.lru_shard.specs.Unit.{UpdatesRow, UpdatesOrAdmits, IncrementsRow, IncrementsWeight, raised, started}
 use Rattle.lru_actors.specs.Messages.{AreClones}
@@ -25,55 +25,55 @@ module _ {K : Type 0} where
   module _ (Changes : K → ℕ → ℕ → K → Type 0) (Makes : K × ℕ → Type 0) (old new : Shard K) (h : ℕ) (key : K) (w : ℕ)
       (change : (d : K) (x g : ℕ) (d' : K) → Changes d x g d' → (g ≡ w) × (d' ≡ d)) (make : (m : K × ℕ) → Makes m → m ≡ (key, w)) where
     admits_by : (o : Option (Row K)) (answer : Option ℕ × ℕ) → UpdatesRow Changes Makes old h o (Ok answer) new
-        → (answer.1 ≡ max w 1) × Accepts old new (first old.rows (admitted h o key w))
+        → (answer.1 ≡ max w 1) × Accepts old new (with_first old.rows (admitted h o key w))
     admits_by (Some r) answer x =
         let c = change r.value r.weight x.1.0 x.0 x.1.1.0 in (
           x.1.1.1.0.1 ∙ ap (λ g. max g 1) c.0,
-          subst (λ g. Accepts old new (first old.rows (row h r.value (max g 1)))) c.0 (subst (λ d. Accepts old new (first old.rows (row h d (max x.1.0 1)))) c.1 x.1.1.1.1),
+          subst (λ g. Accepts old new (with_first old.rows (row h r.value (max g 1)))) c.0 (subst (λ d. Accepts old new (with_first old.rows (row h d (max x.1.0 1)))) c.1 x.1.1.1.1),
         )
     admits_by None answer x =
         let m = make x.0 x.1.0 in (
           x.1.1.0.1 ∙ ap (λ (p : K × ℕ). max p.1 1) m,
-          subst (λ (p : K × ℕ). Accepts old new (first old.rows (row h p.0 (max p.1 1)))) m x.1.1.1,
+          subst (λ (p : K × ℕ). Accepts old new (with_first old.rows (row h p.0 (max p.1 1)))) m x.1.1.1,
         )
 
-    pub admits : (answer : Option ℕ × ℕ) → UpdatesOrAdmits Changes Makes old h (Ok answer) new → (answer.1 ≡ max w 1) × Accepts old new (first old.rows (admitted h (row_of old.rows h) key w))
+    pub admits : (answer : Option ℕ × ℕ) → UpdatesOrAdmits Changes Makes old h (Ok answer) new → (answer.1 ≡ max w 1) × Accepts old new (with_first old.rows (admitted h (row_of old.rows h) key w))
     admits answer x = admits_by (row_of old.rows h) answer x
 
     refuses_by : (o : Option (Row K)) (refused : Refused (Option (K × ℕ))) → row_of old.rows h ≡ o → HasDistinctKeys old.rows → UpdatesRow Changes Makes old h o (Err refused) new
-        → (new ≡ old) × ((o ≡ None) ⊎ ((cause : Cause) × MayRefuse old.cap (size_of old.rows) (size_of (first old.rows (admitted h o key w))) cause))
+        → (new ≡ old) × ((o ≡ None) ⊎ ((cause : Cause) × MayRefuse old.cap (size_of old.rows) (size_of (with_first old.rows (admitted h o key w))) cause))
     refuses_by (Some r) refused e d x =
         let c = change r.value r.weight x.1.0 x.0 x.1.1.0 in (
           x.1.1.1.1.1 ∙ ap (λ v. shard (with_value old.rows h v) old.cap) c.1 ∙ ap (λ rows. shard rows old.cap) (same_value old.rows h r d e),
           inr (
             refused.cause,
-            subst (λ g. MayRefuse old.cap (size_of old.rows) (size_of (first old.rows (row h r.value (max g 1)))) refused.cause) c.0
-                (subst (λ v. MayRefuse old.cap (size_of old.rows) (size_of (first old.rows (row h v (max x.1.0 1)))) refused.cause) c.1 x.1.1.1.0),
+            subst (λ g. MayRefuse old.cap (size_of old.rows) (size_of (with_first old.rows (row h r.value (max g 1)))) refused.cause) c.0
+                (subst (λ v. MayRefuse old.cap (size_of old.rows) (size_of (with_first old.rows (row h v (max x.1.0 1)))) refused.cause) c.1 x.1.1.1.0),
           ),
         )
     refuses_by None refused e d x = (x.1, inl refl)
 
     pub refuses : (refused : Refused (Option (K × ℕ))) → HasDistinctKeys old.rows → UpdatesOrAdmits Changes Makes old h (Err refused) new
-        → (new ≡ old) × ((row_of old.rows h ≡ None) ⊎ ((cause : Cause) × MayRefuse old.cap (size_of old.rows) (size_of (first old.rows (admitted h (row_of old.rows h) key w))) cause))
+        → (new ≡ old) × ((row_of old.rows h ≡ None) ⊎ ((cause : Cause) × MayRefuse old.cap (size_of old.rows) (size_of (with_first old.rows (admitted h (row_of old.rows h) key w))) cause))
     refuses refused d x = refuses_by (row_of old.rows h) refused refl d x
 
   module _ (Makes : K → Type 0) (old new : Shard K) (h : ℕ) (key : K) (delta : ℕ) (most : Option ℕ) (make : (m : K) → Makes m → m ≡ key) where
     increments_by : (o : Option (Row K)) (answer : ℕ × ℕ × Bool) → IncrementsRow Makes old h delta most o (Ok answer) new
-        → (answer.1 ≡ (incremented h o key delta most).weight) × Accepts old new (first old.rows (incremented h o key delta most))
+        → (answer.1 ≡ (incremented h o key delta most).weight) × Accepts old new (with_first old.rows (incremented h o key delta most))
     increments_by (Some r) answer x = (x.0.1.0, x.1)
-    increments_by None answer x = (x.0.1.0, subst (λ k. Accepts old new (first old.rows (row h k (started delta most)))) (make x.1.0 x.1.1.0) x.1.1.1)
+    increments_by None answer x = (x.0.1.0, subst (λ k. Accepts old new (with_first old.rows (row h k (started delta most)))) (make x.1.0 x.1.1.0) x.1.1.1)
 
     pub increments : (answer : ℕ × ℕ × Bool) → IncrementsWeight Makes old h delta most (Ok answer) new
-        → (answer.1 ≡ (incremented h (row_of old.rows h) key delta most).weight) × Accepts old new (first old.rows (incremented h (row_of old.rows h) key delta most))
+        → (answer.1 ≡ (incremented h (row_of old.rows h) key delta most).weight) × Accepts old new (with_first old.rows (incremented h (row_of old.rows h) key delta most))
     increments answer x = increments_by (row_of old.rows h) answer x
 
     stops_by : (o : Option (Row K)) (cause : Cause) → IncrementsRow Makes old h delta most o (Err cause) new
-        → (new ≡ old) × ((o ≡ None) ⊎ ((c : Cause) × MayRefuse old.cap (size_of old.rows) (size_of (first old.rows (incremented h o key delta most))) c))
+        → (new ≡ old) × ((o ≡ None) ⊎ ((c : Cause) × MayRefuse old.cap (size_of old.rows) (size_of (with_first old.rows (incremented h o key delta most))) c))
     stops_by (Some r) cause x = (x.left, inr (cause, x.may))
     stops_by None cause x = (x.1, inl refl)
 
     pub stops : (cause : Cause) → IncrementsWeight Makes old h delta most (Err cause) new
-        → (new ≡ old) × ((row_of old.rows h ≡ None) ⊎ ((c : Cause) × MayRefuse old.cap (size_of old.rows) (size_of (first old.rows (incremented h (row_of old.rows h) key delta most))) c))
+        → (new ≡ old) × ((row_of old.rows h ≡ None) ⊎ ((c : Cause) × MayRefuse old.cap (size_of old.rows) (size_of (with_first old.rows (incremented h (row_of old.rows h) key delta most))) c))
     stops cause x = stops_by (row_of old.rows h) cause x
 
   -- whether a row was there, by what was answered of it

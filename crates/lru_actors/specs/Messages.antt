@@ -4,9 +4,9 @@ use Rattle.std.specs.Option.{option_map_or}
 use Rattle.std.specs.Borrow.{Bor}
 use Rattle.std.specs.Coded.{Coded, code_by, coded×, coded_ℕ}
 use Rattle.lru_shard.specs.declared.unit.Cause.{Cause}
-use Rattle.lru_shard.specs.Row.{Row, row, row_of, is_held, first, without, without_last, last_row, pair_of, weight_of}
+use Rattle.lru_shard.specs.Row.{Row, row, row_of, is_held, with_first, without, without_last, last_row, pair_of, weight_of}
 use Rattle.lru_shard.specs.Shard.{Shard, shard, shard_code, size_of, refusal, MayRefuse}
-use Rattle.lru_shard.specs.Unit.{raised, started, accessed, tailed}
+use Rattle.lru_shard.specs.Unit.{grown, accessed, tailed}
 use Rattle.lru_actors.specs.declared.message.LruMsg.{LruMsg}
 use Rattle.lru_actors.specs.declared.message.LruMsg.TheVariants.{Admit, IncrementWeight, Promote, Remove, InsertTail, Evict, PeekLru, Snapshot, QueryWeight}
 use Rattle.lru_actors.specs.declared.effect.Effect.{Effect}
@@ -37,14 +37,10 @@ module _ {K : Type 0} where
   abbrev pub kept : List (Row K) → ℕ → K → K
   kept rows hash key = option_map_or (λ r. r.value) (row_of rows hash) key
 
-  -- the weight that an increment gives
-  abbrev pub grown : List (Row K) → ℕ → ℕ → Option ℕ → ℕ
-  grown rows hash delta most = option_map_or (λ r. raised r.weight delta most) (row_of rows hash) (started delta most)
-
   -- the rows after a message that is not refused
   abbrev pub consumed : List (Row K) → LruMsg K → List (Row K)
-  consumed rows (Admit hash key weight) = first rows (row hash (kept rows hash key) (max weight 1))
-  consumed rows (IncrementWeight hash key delta most) = first rows (row hash (kept rows hash key) (grown rows hash delta most))
+  consumed rows (Admit hash key weight) = with_first rows (row hash (kept rows hash key) (max weight 1))
+  consumed rows (IncrementWeight hash key delta most) = with_first rows (row hash (kept rows hash key) (grown delta most (row_of rows hash)))
   consumed rows (Promote hash) = accessed rows hash
   consumed rows (Remove hash) = without rows hash
   consumed rows (InsertTail hash key weight) = tailed rows hash key weight
@@ -54,7 +50,7 @@ module _ {K : Type 0} where
   -- the hash whose weight is set in the map, and that weight
   abbrev pub put_of : List (Row K) → LruMsg K → Option (ℕ × ℕ)
   put_of rows (Admit hash key weight) = Some (hash, max weight 1)
-  put_of rows (IncrementWeight hash key delta most) = Some (hash, grown rows hash delta most)
+  put_of rows (IncrementWeight hash key delta most) = Some (hash, grown delta most (row_of rows hash))
   put_of rows (InsertTail hash key weight) = if is_held rows hash then None else Some (hash, weight)
   put_of rows _ = None
 

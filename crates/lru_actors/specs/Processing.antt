@@ -1,5 +1,5 @@
 -- A message processed with the map of weights by hash, and with the queue of evicted pairs.
-use Rattle.std.specs.Prelude.{◌≡◌, ℕ, ◌<◌, ◌⊎◌, cond, eqb, nat_le, List, [], ◌∷◌, length, Option, Some, None, if◌then◌else◌}
+use Rattle.std.specs.Prelude.{◌≡◌, ℕ, ◌<◌, ◌⊎◌, cond, eqb, List, [], ◌∷◌, length, Option, Some, None}
 use Rattle.lru_shard.specs.Row.{Row}
 use Rattle.lru_dispatch.specs.Queue.{Queue, dispatched}
 use Rattle.lru_actors.specs.declared.message.LruMsg.{LruMsg}
@@ -15,10 +15,6 @@ set_in (Some p) look k = cond (eqb p.0 k) (Some p.1) (look k)
 abbrev pub mapped : Option (ℕ × ℕ) → Option ℕ → (ℕ → Option ℕ) → ℕ → Option ℕ
 mapped put None look k = set_in put look k
 mapped put (Some h) look k = cond (eqb h k) None (set_in put look k)
-
--- which of two shards gives up a row: the first, unless it is the shorter one
-abbrev pub victim_of : ℕ → ℕ → ℕ → ℕ → ℕ
-victim_of a b len_a len_b = if nat_le len_b len_a then a else b
 
 module _ {K : Type 0} where
   -- an evicted pair is dispatched

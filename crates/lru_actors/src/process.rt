@@ -2,7 +2,7 @@
 ghost use Rattle.std.specs.Prelude.{◌≡◌, ℕ, ◌<◌, Some, None, IsTrue, IsFalse, IsSome, nat_eq, ◌≤◌, [], vec_len, vec_capacity};
 ghost use Rattle.std.specs.HashMap as hash;
 ghost use Rattle.lru_actors.specs.Messages.{looks};
-ghost use Rattle.lru_actors.specs.Processing.{mapped, queued, MapHasRoom, HasPlace, MayWantRoom, IsKept, HandsOver, Processes, ProcessesAll, victim_of};
+ghost use Rattle.lru_actors.specs.Processing.{mapped, queued, MapHasRoom, HasPlace, MayWantRoom, IsKept, HandsOver, Processes, ProcessesAll};
 
 use crate::effect::Effect;
 use crate::message::LruMsg;
@@ -134,7 +134,7 @@ fn hand_over<K, D: Dispatch<K>>(dispatch: &mut D, cleared: Option<u64>, evicted:
 
 /// Which of two shards gives up a row: the first, unless it is the shorter one.
 pub fn choose_victim(a: usize, b: usize, len_a: usize, len_b: usize) -> usize
-    ensures { result ≡ victim_of a b len_a len_b }
+    ensures { result ≡ longer_of a b len_a len_b }
 {
     if len_a >= len_b { a } else { b }
 }

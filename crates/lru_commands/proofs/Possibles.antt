@@ -6,7 +6,7 @@ use Rattle.pingora_lru_files.specs.Names.{has_slash}
 use Rattle.std.proofs.lemmas.Bool.{cond_both, and_parts, ltb-true}
 use Rattle.pingora_lru.specs.declared.calls.Call.TheVariants.{EvictStep}
 use Rattle.lru_lines.specs.Lines.{number_of, most_of, lines_of, parts_of}
-use Rattle.lru_commands.specs.Commands.{Asked, Do, ListRows, Save, Load, text_of, file_name_of, of_three, bare, with_one, with_two, with_three, with_four, of_words, command_of, commands_of, Possible, IsPossible}
+use Rattle.lru_commands.specs.Commands.{Asked, Do, ListRows, Save, Load, text_of, file_name_of, of_name_and_two, bare, with_one, with_two, with_three, with_four, of_words, command_of, commands_of, Possible, IsPossible}
 
 -- a name that is asked for, and else what the names after it mean
 or_else : (b : Bool) (command : Asked) (other : Option Asked) → IsPossible command → Possible other → Possible (cond b (Some command) other)
@@ -51,8 +51,8 @@ possible_place : (a b : List ℕ) (make : List ℕ → List ℕ → Asked) → (
     → Possible (option_and_then (λ dir. option_and_then (λ file. Some (make dir file)) (file_name_of b)) (text_of a))
 possible_place a b make h = then_possible (text_of a) _ (λ dir. no_slash (has_slash b) b refl (make dir) (h dir))
 
-possible_of_three : (name a b : List ℕ) → Possible (of_three name a b)
-possible_of_three name a b =
+possible_of_name_and_two : (name a b : List ℕ) → Possible (of_name_and_two name a b)
+possible_of_name_and_two name a b =
     cond_both (bytes_eq name (codes "save")) _ _ Possible (λ _. possible_place a b Save (λ dir file e. e))
     (λ _. cond_both (bytes_eq name (codes "load")) _ _ Possible (λ _. possible_place a b Load (λ dir file e. e))
     (λ _. then_possible (number_of a) _ (λ x. then_possible (number_of b) _ (λ y. possible_two name x y))))
@@ -61,7 +61,7 @@ possible_words : (words : List (List ℕ)) → Possible (of_words words)
 possible_words [] = tt
 possible_words (name ∷ []) = possible_bare name
 possible_words (name ∷ a ∷ []) = then_possible (number_of a) _ (λ x. possible_one name x)
-possible_words (name ∷ a ∷ b ∷ []) = possible_of_three name a b
+possible_words (name ∷ a ∷ b ∷ []) = possible_of_name_and_two name a b
 possible_words (name ∷ a ∷ b ∷ c ∷ []) = then_possible (number_of a) _ (λ x. then_possible (number_of b) _ (λ y. then_possible (number_of c) _ (λ z. possible_three name x y z)))
 possible_words (name ∷ a ∷ b ∷ c ∷ m ∷ []) =
     then_possible (number_of a) _ (λ x. then_possible (number_of b) _ (λ y. then_possible (number_of c) _ (λ z. then_possible (most_of m) _ (λ most. possible_four name x y z most))))

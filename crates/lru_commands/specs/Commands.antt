@@ -69,8 +69,8 @@ with_four name a b c most =
     if bytes_eq name (codes "incr") then Some (Do (IncrementWeight a (keyed a b) c most)) else None
 
 -- a name with a folder and a file's name, or with two numbers
-abbrev pub of_three : List ℕ → List ℕ → List ℕ → Option Asked
-of_three name a b =
+abbrev pub of_name_and_two : List ℕ → List ℕ → List ℕ → Option Asked
+of_name_and_two name a b =
     if bytes_eq name (codes "save") then option_and_then (λ dir. option_and_then (λ file. Some (Save dir file)) (file_name_of b)) (text_of a) else (
     if bytes_eq name (codes "load") then option_and_then (λ dir. option_and_then (λ file. Some (Load dir file)) (file_name_of b)) (text_of a) else
     option_and_then (λ x. option_and_then (λ y. with_two name x y) (number_of b)) (number_of a))
@@ -79,7 +79,7 @@ of_three name a b =
 abbrev pub of_words : List (List ℕ) → Option Asked
 of_words (name ∷ []) = bare name
 of_words (name ∷ a ∷ []) = option_and_then (λ x. with_one name x) (number_of a)
-of_words (name ∷ a ∷ b ∷ []) = of_three name a b
+of_words (name ∷ a ∷ b ∷ []) = of_name_and_two name a b
 of_words (name ∷ a ∷ b ∷ c ∷ []) =
     option_and_then (λ x. option_and_then (λ y. option_and_then (λ z. with_three name x y z) (number_of c)) (number_of b)) (number_of a)
 of_words (name ∷ a ∷ b ∷ c ∷ m ∷ []) =

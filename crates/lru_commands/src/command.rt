@@ -1,6 +1,6 @@
 //! The commands of the program: what the lines of an input ask for.
 ghost use Rattle.std.specs.Prelude.{◌≡◌, All, IfOk, map, option_map};
-ghost use Rattle.lru_commands.specs.Commands.{asked, text_of, file_name_of, of_words, of_three, bare, with_one, with_two, with_three, with_four, command_of, commands_of, Possible};
+ghost use Rattle.lru_commands.specs.Commands.{asked, text_of, file_name_of, of_words, of_name_and_two, bare, with_one, with_two, with_three, with_four, command_of, commands_of, Possible};
 ghost use Rattle.lru_lines.specs.Lines.{now_of};
 
 use lru_lines::numbers::{number, number_or_dash};
@@ -50,7 +50,7 @@ pub fn command_from<'a>(words: &[&'a [u8]]) -> Option<Command<'a>>
     match words {
         [name] => bare(name),
         [name, a] => with_one(name, number(a)?),
-        [name, a, b] => of_three(name, a, b),
+        [name, a, b] => of_name_and_two(name, a, b),
         [name, a, b, c] => with_three(name, number(a)?, number(b)?, number(c)?),
         [name, a, b, c, most] => with_four(
             name,
@@ -64,8 +64,8 @@ pub fn command_from<'a>(words: &[&'a [u8]]) -> Option<Command<'a>>
 }
 
 // A name with a folder and a file's name, or with two numbers.
-fn of_three<'a>(name: &[u8], a: &'a [u8], b: &'a [u8]) -> Option<Command<'a>>
-    ensures { option_map asked result ≡ of_three name.now a.now b.now }
+fn of_name_and_two<'a>(name: &[u8], a: &'a [u8], b: &'a [u8]) -> Option<Command<'a>>
+    ensures { option_map asked result ≡ of_name_and_two name.now a.now b.now }
 {
     if name == b"save".as_slice() {
         let (dir, file_name) = (text(a)?, file_name(b)?);

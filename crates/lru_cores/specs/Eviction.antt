@@ -1,6 +1,7 @@
 -- Eviction: when a core is over, whose last row leaves, and whole runs.
-use Rattle.std.specs.Prelude.{◌≡◌, ℕ, ◌+◌, ◌<◌, ◌≤◌, ◌%◌, ◌^◌, Bool, nat_le, List, [], ◌∷◌, length, take, slice_index_or, if◌then◌else◌, Option, Some, None, MatchOption, IsTrue, IsFalse}
+use Rattle.std.specs.Prelude.{◌≡◌, ℕ, ◌+◌, ◌<◌, ◌≤◌, ◌%◌, ◌^◌, Bool, List, [], ◌∷◌, length, take, slice_index_or, Option, Some, None, MatchOption, IsTrue, IsFalse}
 use Rattle.lru_shard.specs.Row.{Row, pair_of, last_row, without_last}
+use Rattle.lru_shard.specs.Shard.{longer_of}
 use Rattle.lru_rules.specs.Limits.{is_past}
 use Rattle.lru_rules.specs.Draws.{drawn_shards}
 use Rattle.rand_core.specs.Stream.{Stream}
@@ -13,7 +14,7 @@ module _ {T : Type 0} where
 
   -- of two shards the longer one, or the first where they are as long
   abbrev pub start : Core T → ℕ → ℕ → ℕ
-  start c a b = if nat_le (length (list_at c b)) (length (list_at c a)) then a else b
+  start c a b = longer_of a b (length (list_at c a)) (length (list_at c b))
 
   -- the first list that isn't empty, from this one on and round the circle: fewer places on than there are lists
   pub record IsVictim (lists : List (List (Row T))) (from victim : ℕ) : Type 0 where

@@ -5,7 +5,7 @@ ghost use Rattle.lru_cores.specs.Eviction.{IsVictim};
 ghost use Rattle.lru_cores.specs.Representation.Units.{lists_of};
 
 pub use lru_rules::eviction::EvictError;
-use lru_rules::eviction::{drawn_shards, place_after};
+use lru_rules::eviction::{drawn_shards, is_past, place_after};
 use lru_rules::totals::Totals;
 use lru_shard::unit::{Cause, LruUnit, LruUnitIter, Refused};
 use rand_core::Rng;
@@ -278,11 +278,12 @@ impl<T, const N: usize> LruCore<T, N> {
     fn is_over(&self) -> bool
         ensures { result ≡ is_over self.now }
     {
-        self.totals.weight > self.weight_limit
-            || match self.watermark {
-                None => false,
-                Some(most) => self.totals.len > most,
-            }
+        is_past(
+            self.weight_limit,
+            self.watermark,
+            self.totals.weight,
+            self.totals.len,
+        )
     }
 }
 

@@ -1,10 +1,14 @@
--- The whole program: the core that it begins with, its random words, and its status.
-use Rattle.std.specs.Prelude.{ℕ, List, [], replicate, is_some, Option, if◌then◌else◌}
+-- The whole program: the core that it begins with, its random words, what it writes, and its status.
+use Rattle.std.specs.Prelude.{◌≡◌, ℕ, List, [], replicate, is_some, Option, if◌then◌else◌}
 use Rattle.std.specs.List.{list_all}
+use Rattle.std.specs.Io.KnownBytes.{Appends}
 use Rattle.lru_snapshot.specs.declared.snapshot.Keyed.{Keyed}
 use Rattle.lru_commands.specs.declared.settings.Settings.{Settings}
 use Rattle.lru_commands.specs.Commands.{Asked}
 use Rattle.pingora_lru.specs.Core.{Core}
+use Rattle.pingora_lru_files.specs.Stores.{Meaning}
+use Rattle.lru_replies.specs.Storing.{State}
+use Rattle.lru_replies.specs.Replies.{Serves}
 use Rattle.rand_core.specs.Stream.{Stream}
 use Rattle.rand_core.specs.Steps.{stream_of, steps_u32}
 use Rattle.rand_core.specs.Pcg32Seed.{pcg32_seed}
@@ -21,3 +25,12 @@ words_of seed = stream_of (steps_u32 (next_word 6)) (of_seed (pcg32_seed 32 seed
 -- 0, or 2 where a line is bad
 abbrev pub status_of : List (Option Asked) → ℕ
 status_of lines = if list_all is_some lines then 0 else 2
+
+-- The lines are served, from line 1 on: a text for them was written, and this folder is left.
+abbrev pub WritesFor : {F : Type 0} → Meaning F → State F → List (Option Asked) → List ℕ → List ℕ → F → Type 0
+WritesFor m state lines old new last = (text : List ℕ) × (Serves m state lines 1 text last × Appends old new text)
+
+-- A run with these settings over these lines ends with their status, and they were served.
+abbrev pub Runs : {F : Type 0} → Meaning F → Settings → F → List (Option Asked) → ℕ → List ℕ → List ℕ → F → Type 0
+Runs m settings folder lines status old new last =
+    (status ≡ status_of lines) × WritesFor m (record { core = fresh settings; folder = folder; words = words_of settings.seed }) lines old new last

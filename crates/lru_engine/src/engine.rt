@@ -1,11 +1,12 @@
 //! The engine: all of the program but where its arguments and its streams come from.
-ghost use Rattle.std.specs.Prelude.{◌≡◌, ◌≢◌, ◌↔◌, List, ℕ, All, Some, None, IfOk, IfSome, OnOk, map, option_map, is_some, string_bytes};
+ghost use Rattle.std.specs.Prelude.{◌≡◌, ◌≢◌, ◌↔◌, List, ℕ, All, Some, None, IfOk, IfSome, IsSome, OnOk, map, option_map, is_some, string_bytes};
 ghost use Rattle.std.specs.List.{list_all};
+ghost use Rattle.std.specs.Io.Buffered.{writer_contents};
 ghost use Rattle.std.specs.Io.KnownBytes.{Appends};
 ghost use Rattle.lru_commands.specs.Commands.{asked, Possible, commands_of};
 ghost use Rattle.lru_commands.specs.Settings.{settings_of};
-ghost use Rattle.lru_replies.specs.Replies.{Serves, usage_text};
-ghost use Rattle.lru_engine.specs.Program.{fresh, words_of, status_of};
+ghost use Rattle.lru_replies.specs.Replies.{usage_text};
+ghost use Rattle.lru_engine.specs.Program.{fresh, WritesFor, Runs};
 
 use log::Log;
 use lru_commands::command::{Command, commands};
@@ -18,7 +19,7 @@ use rand::rngs::StdRng;
 use rand_core::{Rng, SeedableRng};
 use std::alloc::{AllocError, Global};
 use std::io;
-use std::io::{ErrorKind, Read, Write};
+use std::io::{BufWriter, ErrorKind, Read, Write};
 
 // Answers line after line, up to and with a bad one; whether there was none.
 fn serve<F: Folder, R: Rng, L: Log, W: Write>(
@@ -31,10 +32,9 @@ fn serve<F: Folder, R: Rng, L: Log, W: Write>(
     writer: &mut W,
 ) -> io::Result<bool>
     requires { All Possible (map (option_map asked) lines.items) }
-    ensures text { OnOk result ((text : List ℕ)
-        × (Serves (record { files = F.files; folders = F.folders; clock = F.clock; stopped_since = F.stopped_since; faults = F.faults; last_call = F.last_call; keeps = F.keeps }) (record { core = core.old; folder = folder.old; words = R.stream rng.old })
-        (map (option_map asked) lines.entry.items) 1 text folder.new
-        × Appends (W.contents writer.old) (W.contents writer.new) text)) }
+    ensures text { OnOk result (WritesFor (record { files = F.files; folders = F.folders; clock = F.clock; stopped_since = F.stopped_since; faults = F.faults; last_call = F.last_call; keeps = F.keeps })
+        (record { core = core.old; folder = folder.old; words = R.stream rng.old })
+        (map (option_map asked) lines.entry.items) (W.contents writer.old) (W.contents writer.new) folder.new) }
     ensures good { IfOk result (λ good. good ≡ list_all is_some (map (option_map asked) lines.entry.items)) }
     ensures kept { F.keeps folder.old ↔ F.keeps folder.new }
 {
@@ -81,10 +81,8 @@ pub fn run<F: Folder, L: Log, R: Read, W: Write>(
     ensures unread { settings_of (map string_bytes arguments.now) ≡ None → reader.new ≡ reader.old }
     ensures unmoved { settings_of (map string_bytes arguments.now) ≡ None → folder.new ≡ folder.old }
     ensures served { IfSome (settings_of (map string_bytes arguments.now)) (λ settings. result ≢ 1 → IfSome (R.remaining reader.old) (λ input.
-        (result ≡ status_of (commands_of input)) × ((text : List ℕ)
-        × (Serves (record { files = F.files; folders = F.folders; clock = F.clock; stopped_since = F.stopped_since; faults = F.faults; last_call = F.last_call; keeps = F.keeps }) (record { core = fresh settings; folder = folder.old; words = words_of settings.seed })
-        (commands_of input) 1 text folder.new
-        × Appends (W.contents writer.old) (W.contents writer.new) text)))) }
+        Runs (record { files = F.files; folders = F.folders; clock = F.clock; stopped_since = F.stopped_since; faults = F.faults; last_call = F.last_call; keeps = F.keeps })
+        settings folder.old (commands_of input) result (W.contents writer.old) (W.contents writer.new) folder.new)) }
     ensures kept { F.keeps folder.old ↔ F.keeps folder.new }
 {
     let Some(settings) = settings_from(arguments) else {
@@ -123,4 +121,33 @@ fn make_core(alloc: Global, settings: Settings) -> Result<LruCore<Keyed, 2>, All
         None => None,
     };
     LruCore::with_capacity_and_watermark(alloc, settings.limit as usize, 0, watermark)
+}
+
+/// As `run`, through a buffer: replies are written many at a time. Answers the status, and the writer beneath, which has
+/// taken all of them. Where its last write fails the status is 1 and there is no writer; what it took is a beginning of
+/// the replies.
+pub fn run_buffered<F: Folder, L: Log, R: Read, W: Write + Drop>(
+    alloc: Global,
+    folder: &mut F,
+    log: &L,
+    arguments: &[String],
+    reader: &mut R,
+    writer: BufWriter<W>,
+) -> (u8, Option<W>)
+    ensures usage { settings_of (map string_bytes arguments.now) ≡ None → result.0 ≢ 1
+        → (result.0 ≡ 2) × IfSome result.1 (λ written. Appends (writer_contents W.contents writer) (W.contents written) usage_text) }
+    ensures unread { settings_of (map string_bytes arguments.now) ≡ None → reader.new ≡ reader.old }
+    ensures unmoved { settings_of (map string_bytes arguments.now) ≡ None → folder.new ≡ folder.old }
+    ensures served { IfSome (settings_of (map string_bytes arguments.now)) (λ settings. result.0 ≢ 1 → IfSome (R.remaining reader.old) (λ input.
+        IfSome result.1 (λ written. Runs (record { files = F.files; folders = F.folders; clock = F.clock; stopped_since = F.stopped_since; faults = F.faults; last_call = F.last_call; keeps = F.keeps })
+        settings folder.old (commands_of input) result.0 (writer_contents W.contents writer) (W.contents written) folder.new))) }
+    ensures whole { result.0 ≢ 1 → IsSome result.1 }
+    ensures kept { F.keeps folder.old ↔ F.keeps folder.new }
+{
+    let mut buffered = writer;
+    let status = run(alloc, folder, log, arguments, reader, &mut buffered);
+    match buffered.into_inner() {
+        Ok(written) => (status, Some(written)),
+        Err(_) => (1, None),
+    }
 }

@@ -3,7 +3,7 @@ use Rattle.std.proofs.Common.{◌≡◌, ℕ, ◌≤◌, Some, None, refl, sym, 
 use Rattle.std.specs.Prelude.{Option, option_map, IfSome, IfOk, OnOk, Result, Ok, Err, Bool}
 use Rattle.lru_shard.specs.declared.unit.Refused.{Refused}
 use Rattle.lru_shard.specs.declared.unit.Cause.{Cause}
-use Rattle.lru_shard.specs.Row.{Row, row, row_of, pair_of, last_row, weight_of, first, without}
+use Rattle.lru_shard.specs.Row.{Row, row, row_of, pair_of, last_row, weight_of, with_first, without}
 use Rattle.lru_shard.specs.Shard.{Shard, shard, IsShard}
 use Rattle.lru_shard.specs.Unit.{Admits, IncrementsRow, raised, started}
 use Rattle.lru_rules.specs.ShardCalls.{IncrementsTo}
@@ -39,7 +39,7 @@ module _ {T : Type 0} where
   shown_light s o valid is = subst (λ p. IfSome p (λ pair. pair.1 ≤ s.cap)) (sym is) (last_light s valid)
 
   -- a row that was put first
-  light_first : (a b : Shard T) (r : Row T) → b ≡ shard (first a.rows r) a.cap → IsShard b → r.weight ≤ b.cap
+  light_first : (a b : Shard T) (r : Row T) → b ≡ shard (with_first a.rows r) a.cap → IsShard b → r.weight ≤ b.cap
   light_first a b r is valid = omega (arith, valid.light, ap (λ (s : Shard T). weight_of s.rows) is, weight-cons r (without a.rows r.key))
 
   pub admit_light : (a : Shard T) (k : ℕ) (d : T) (w : ℕ) (answer : Result ℕ (Refused T)) (b : Shard T) → Admits a k d w answer b → IsShard b → OnOk answer (w ≤ b.cap)

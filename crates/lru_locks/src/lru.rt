@@ -3,7 +3,7 @@ ghost use Rattle.std.specs.Prelude.{◌≡◌, ℕ, ◌+◌, ◌-◌, ◌%◌, �
 ghost use Rattle.lru_rules.specs.Limits.{cap_of};
 
 use crossbeam_utils::CachePadded;
-use lru_rules::eviction::{EvictError, drawn_shards, place_after};
+use lru_rules::eviction::{EvictError, drawn_shards, is_past, place_after};
 use lru_rules::totals::Totals;
 use lru_shard::unit::{Cause, LruUnit, Refused};
 use rand_core::Rng;
@@ -278,25 +278,26 @@ pub struct Lru<T, const N: usize> {
 
 // What an `evict_to_limit` read at its start; its weight and length go down by what it evicts.
 #[derive(Clone, Copy)]
-struct Excess {
+struct Readings {
     weight: usize,
     len: usize,
     weight_limit: usize,
     watermark: Option<usize>,
 }
 
-impl Excess {
+impl Readings {
     ghost use Rattle.lru_rules.specs.Limits.{is_past};
 
     // Whether what is left of the values first read and these values are both past one limit.
     fn is_past(&self, weight: usize, len: usize) -> bool
         ensures { result ≡ is_past self.now.weight_limit self.now.watermark (min self.now.weight weight) (min self.now.len len) }
     {
-        self.weight.min(weight) > self.weight_limit
-            || match self.watermark {
-                None => false,
-                Some(most) => self.len.min(len) > most,
-            }
+        is_past(
+            self.weight_limit,
+            self.watermark,
+            self.weight.min(weight),
+            self.len.min(len),
+        )
     }
 
     // A row of this weight was evicted.
@@ -653,8 +654,8 @@ impl<T: Drop, const N: usize> Lru<T, N> {
     }
 
     // The values that an `evict_to_limit` goes by, as they are now.
-    fn excess(&self) -> Excess {
-        Excess {
+    fn readings(&self) -> Readings {
+        Readings {
             weight: self.weight(),
             len: self.len(),
             weight_limit: self.weight_limit(),
@@ -682,10 +683,10 @@ impl<T: Drop, const N: usize> Lru<T, N> {
         ensures err { IfErr result (λ stopped. All (λ pair. pair.1 ≤ cap_of N) stopped.evicted.items) }
         ensures undrawn { N ≡ 1 → rng.new ≡ rng.old }
     {
-        let mut excess = self.excess();
+        let mut readings = self.readings();
         let mut evicted = Vec::new(alloc);
-        for _ in 0..excess.len {
-            if !excess.is_past(self.weight(), self.len()) {
+        for _ in 0..readings.len {
+            if !readings.is_past(self.weight(), self.len()) {
                 break;
             }
             if evicted.reserve(1).is_err() {
@@ -694,7 +695,7 @@ impl<T: Drop, const N: usize> Lru<T, N> {
             let Some(pair) = self.evict_near(rt, self.drawn_shard(rng)) else {
                 break;
             };
-            excess.evicted(pair.1);
+            readings.evicted(pair.1);
             evicted.push_reserved(pair);
         }
         Ok(evicted)

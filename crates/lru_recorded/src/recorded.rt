@@ -4,7 +4,7 @@ ghost use Rattle.lru_journals.specs.declared.entry.Reply.TheVariants.{Flag, Weig
 ghost use Rattle.lru_journals.specs.Stamps.{GetsReceipt};
 ghost use Rattle.lru_journals.specs.Ties.{hand, up};
 ghost use Rattle.lru_journals.specs.Tied.{AreTied};
-ghost use Rattle.lru_rules.specs.Limits.{cap_of, is_past};
+ghost use Rattle.lru_rules.specs.Limits.{cap_of};
 ghost use Rattle.lru_recordings.specs.Plain.{forget};
 ghost use Rattle.lru_recordings.specs.Histories.{IsEviction, left_by, AreLegal, lists_of};
 ghost use Rattle.lru_recorded.specs.Probes.{Adds, AreProbes, FindsNone, IsRound};
@@ -18,7 +18,7 @@ pub use lru_journals::tie::{Blank, Registry};
 use lru_journals::tie::{Tie, Token};
 use lru_recordings::gathered::{Gathered, Room};
 use lru_recordings::recording::Recording;
-use lru_rules::eviction::{EvictError, drawn_shards, place_after};
+use lru_rules::eviction::{EvictError, drawn_shards, is_past, place_after};
 use lru_rules::totals::Totals;
 use lru_shard::unit::{Cause, LruUnit, Refused};
 use rand_core::Rng;
@@ -511,17 +511,6 @@ impl<T: Drop, B: Registry, const N: usize> RecordedLru<T, B, N> {
         }
     }
 
-    // Whether a weight or a length is past its limit.
-    fn is_past(&self, weight: usize, len: usize) -> bool
-        ensures { result ≡ is_past self.now.weight_limit self.now.watermark weight len }
-    {
-        weight > self.weight_limit
-            || match self.watermark {
-                None => false,
-                Some(most) => len > most,
-            }
-    }
-
     /// Evicts while the order is over, and answers the data and the weight of each evicted row, in order. For each it
     /// makes room for a pair, draws two shards and probes from the longer one on, as an `Lru` does, up to the first one
     /// that is not empty. Each probe is noted, with the weight of the row that it found: at most N for each pair, and N
@@ -550,7 +539,9 @@ impl<T: Drop, B: Registry, const N: usize> RecordedLru<T, B, N> {
         for count in 0..len {
             let weight_now = self.weight.load(Ordering::SeqCst);
             let len_now = self.len.load(Ordering::SeqCst);
-            if !self.is_past(weight.min(weight_now), len_now.min(len - count)) {
+            let weight_left = weight.min(weight_now);
+            let len_left = len_now.min(len - count);
+            if !is_past(self.weight_limit, self.watermark, weight_left, len_left) {
                 break;
             }
             if evicted.reserve(1).is_err() {

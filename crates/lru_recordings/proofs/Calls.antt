@@ -6,9 +6,9 @@ use Rattle.std.specs.Option.{option_map_or}
 use Rattle.lru_shard.specs.declared.unit.Refused.{Refused as Handed}
 use Rattle.lru_shard.specs.declared.unit.Cause.{Cause}
 use Rattle.lru_shard.specs.declared.unit.Cause.TheVariants.{Memory, Weight as Heavy, Length}
-use Rattle.lru_shard.specs.Row.{Row, row, row_of, pair_of, is_held, first, without, with_weight, with_value, last_row, without_last, weight_of}
+use Rattle.lru_shard.specs.Row.{Row, row, row_of, pair_of, is_held, with_first, without, with_weight, with_value, last_row, without_last, weight_of}
 use Rattle.lru_shard.specs.Shard.{Shard, shard, Size, size_of, and_row, refusal, MayRefuse, most_rows, IsShard, Accepts, Declines}
-use Rattle.lru_shard.specs.Unit.{Updates, Admits, InsertsTail, SetsWeight, IncrementsWeight, IncrementsRow, UpdatesOrAdmits, UpdatesRow, RefusesNew, weight_at, tailed, raised, started, accessed}
+use Rattle.lru_shard.specs.Unit.{Updates, Admits, InsertsTail, SetsWeight, IncrementsWeight, IncrementsRow, UpdatesOrAdmits, UpdatesRow, RefusesNew, weight_at, tailed, grown, raised, started, accessed}
 use Rattle.lru_rules.specs.ShardCalls.{promoted_past}
 use Rattle.lru_journals.specs.declared.entry.Call.{Call}
 use Rattle.lru_journals.specs.declared.entry.Call.TheVariants.{Admit, InsertTail, IncrementWeight, IncrementWeightUpTo, UpdateOrAdmit, SetWeight, Promote, PromoteTopN, EvictShard, EvictToLimit, Remove, Peek, PeekWeight, PeekLru}
@@ -17,7 +17,7 @@ use Rattle.lru_journals.specs.declared.entry.Reply.TheVariants.{Flag, Weight, Re
 use Rattle.lru_shard.proofs.Rows.{weight-cons}
 use Rattle.lru_shard.proofs.Edits.{at_row, weight-without, weight-first, length-first}
 use Rattle.lru_shard.proofs.Refusals.{refusal_none, refusal_weight, refusal_length}
-use Rattle.lru_recordings.specs.Plain.{Plain, plain, forget, Step, step, found, unless_refused, grown, increment, called}
+use Rattle.lru_recordings.specs.Plain.{Plain, plain, forget, Step, step, found, unless_refused, increment, called}
 use Rattle.lru_recordings.specs.Histories.{home, IsEviction}
 use Rattle.lru_recordings.specs.Replies.{refused, weighed, paired, admitted, inserted, new_weight, incremented, increments, set, IsGiven, IsMade}
 use Rattle.lru_recordings.proofs.Forgets.{length-forget, weight-forget, size-forget, row_of-forget, is_held-forget, without-forget, first-forget, tailed-forget, with_weight-forget, weight_at-forget, accessed-forget, promoted-forget, last_row-forget, without_last-forget, forget-with_value}
@@ -106,10 +106,10 @@ module _ {T : Type 0} where
 
   pub stands_admit : (old new : Shard T) (k : ℕ) (d : T) (w : ℕ) (answer : Result ℕ (Handed T)) → Admits old k d (max w 1) answer new → Stands old.cap (forget old.rows) (Admit k w) (admitted answer) (forget new.rows)
   stands_admit old new k d w (Ok was) h =
-      accepts old new (first old.rows (row k d (max w 1))) (first (forget old.rows) (row k tt (max w 1))) (Weight (weight_at (forget old.rows) k)) (first-forget old.rows (row k d (max w 1))) h.1
+      accepts old new (with_first old.rows (row k d (max w 1))) (with_first (forget old.rows) (row k tt (max w 1))) (Weight (weight_at (forget old.rows) k)) (first-forget old.rows (row k d (max w 1))) h.1
       ∙ ap (λ x. step (forget new.rows) (Weight x)) (weight_at-forget old.rows k ∙ sym h.0)
   stands_admit old new k d w (Err r) h =
-      declines (Admit k w) old new (first old.rows (row k d (max w 1))) (first (forget old.rows) (row k tt (max w 1))) (Weight (weight_at (forget old.rows) k)) r.cause refl (first-forget old.rows (row k d (max w 1))) h.declines
+      declines (Admit k w) old new (with_first old.rows (row k d (max w 1))) (with_first (forget old.rows) (row k tt (max w 1))) (Weight (weight_at (forget old.rows) k)) r.cause refl (first-forget old.rows (row k d (max w 1))) h.declines
 
   pub stands_insert : (old new : Shard T) (k : ℕ) (d : T) (w : ℕ) (answer : Result Bool (Handed T)) → InsertsTail old k d w answer new → Stands old.cap (forget old.rows) (InsertTail k w) (inserted answer) (forget new.rows)
   stands_insert old new k d w (Ok added) h =
@@ -132,7 +132,7 @@ module _ {T : Type 0} where
   stands_set old new k w (Err cause) h =
       declines (SetWeight k w) old new (with_weight old.rows k (max w 1)) (with_weight (forget old.rows) k (max w 1)) (found (row_of (forget old.rows) k)) cause refl (with_weight-forget old.rows k (max w 1)) h
 
-  pub size-new : (rows : List (Row T)) (k w : ℕ) → row_of (forget rows) k ≡ None → size_of (first (forget rows) (row k tt w)) ≡ and_row (size_of rows) w
+  pub size-new : (rows : List (Row T)) (k w : ℕ) → row_of (forget rows) k ≡ None → size_of (with_first (forget rows) (row k tt w)) ≡ and_row (size_of rows) w
   size-new rows k w none =
       let l : suc (length (without (forget rows) k)) ≡ length rows + 1 = omega (arith, ap length (without_none (forget rows) k none), length-forget rows) in
       let v : weight_of (row k tt w ∷ without (forget rows) k) ≡ weight_of rows + w = omega (arith, weight-cons (row k tt w) (without (forget rows) k), ap weight_of (without_none (forget rows) k none), weight-forget rows) in
@@ -144,27 +144,27 @@ module _ {T : Type 0} where
     weight_for o = grown delta most (option_map plain o)
 
     is_increment : (o : Option (Row T)) → row_of old.rows k ≡ o →
-        called old.cap (forget old.rows) (increments k delta most) ≡ unless_refused old.cap (forget old.rows) (first (forget old.rows) (row k tt (grown delta most (option_map plain o)))) (Weight (grown delta most (option_map plain o)))
+        called old.cap (forget old.rows) (increments k delta most) ≡ unless_refused old.cap (forget old.rows) (with_first (forget old.rows) (row k tt (grown delta most (option_map plain o)))) (Weight (grown delta most (option_map plain o)))
     is_increment o e = called_increment old.cap (forget old.rows) k delta most
-        ∙ ap (λ r. unless_refused old.cap (forget old.rows) (first (forget old.rows) (row k tt (grown delta most r))) (Weight (grown delta most r))) (row_of-forget old.rows k ∙ ap (option_map plain) e)
+        ∙ ap (λ r. unless_refused old.cap (forget old.rows) (with_first (forget old.rows) (row k tt (grown delta most r))) (Weight (grown delta most r))) (row_of-forget old.rows k ∙ ap (option_map plain) e)
 
     stands_row : (o : Option (Row T)) → row_of old.rows k ≡ o → (answer : Result (ℕ × ℕ × Bool) Cause) → IncrementsRow Makes old k delta most o answer new → Stands old.cap (forget old.rows) (increments k delta most) (incremented (new_weight answer)) (forget new.rows)
     stands_row (Some r) e (Ok answer) h =
         let w = raised r.weight delta most in
         is_increment (Some r) e
-        ∙ accepts old new (first old.rows (row k r.value w)) (first (forget old.rows) (row k tt w)) (Weight w) (first-forget old.rows (row k r.value w)) h.1
+        ∙ accepts old new (with_first old.rows (row k r.value w)) (with_first (forget old.rows) (row k tt w)) (Weight w) (first-forget old.rows (row k r.value w)) h.1
         ∙ ap (λ x. step (forget new.rows) (Weight x)) (sym h.0.1.0)
     stands_row (Some r) e (Err cause) h =
         let w = raised r.weight delta most in
-        declines (increments k delta most) old new (first old.rows (row k r.value w)) (first (forget old.rows) (row k tt w)) (Weight w) cause (is_increment (Some r) e) (first-forget old.rows (row k r.value w)) h
+        declines (increments k delta most) old new (with_first old.rows (row k r.value w)) (with_first (forget old.rows) (row k tt w)) (Weight w) cause (is_increment (Some r) e) (first-forget old.rows (row k r.value w)) h
     stands_row None e (Ok answer) h =
         let w = started delta most in
         is_increment None e
-        ∙ accepts old new (first old.rows (row k h.1.0 w)) (first (forget old.rows) (row k tt w)) (Weight w) (first-forget old.rows (row k h.1.0 w)) h.1.1.1
+        ∙ accepts old new (with_first old.rows (row k h.1.0 w)) (with_first (forget old.rows) (row k tt w)) (Weight w) (first-forget old.rows (row k h.1.0 w)) h.1.1.1
         ∙ ap (λ x. step (forget new.rows) (Weight x)) (sym h.0.1.0)
     stands_row None e (Err cause) h =
         let w = started delta most in
-        declines_by (increments k delta most) old new (first (forget old.rows) (row k tt w)) (Weight w) (and_row (size_of old.rows) w) cause (is_increment None e)
+        declines_by (increments k delta most) old new (with_first (forget old.rows) (row k tt w)) (Weight w) (and_row (size_of old.rows) w) cause (is_increment None e)
         (size-new old.rows k w (row_of-forget old.rows k ∙ ap (option_map plain) e)) h.0 h.1
 
     pub stands_increment : (answer : Result (ℕ × ℕ × Bool) Cause) → IncrementsWeight Makes old k delta most answer new → Stands old.cap (forget old.rows) (increments k delta most) (incremented (new_weight answer)) (forget new.rows)
@@ -207,15 +207,15 @@ module _ {T : Type 0} where
   module _ (Changes : T → ℕ → ℕ → T → Type 0) (Makes : T × ℕ → Type 0) (old new : Shard T) (k : ℕ) where
     updated_row : (o : Option (Row T)) → row_of old.rows k ≡ o → (was : Option ℕ) (w : ℕ) → UpdatesRow Changes Makes old k o (Ok (was, w)) new → Stands old.cap (forget old.rows) (UpdateOrAdmit k w) (Some (weighed was)) (forget new.rows)
     updated_row (Some r) e was w h =
-        put_first h.0 was w (subst (λ v. Accepts old new (first old.rows (row k h.0 v))) (sym h.1.1.1.0.1) h.1.1.1.1) (found_of old.rows k ∙ ap weighed (ap (option_map (λ (r : Row T). r.weight)) e ∙ sym h.1.1.1.0.0))
+        put_first h.0 was w (subst (λ v. Accepts old new (with_first old.rows (row k h.0 v))) (sym h.1.1.1.0.1) h.1.1.1.1) (found_of old.rows k ∙ ap weighed (ap (option_map (λ (r : Row T). r.weight)) e ∙ sym h.1.1.1.0.0))
       where
-        put_first : (d : T) (was : Option ℕ) (w : ℕ) → Accepts old new (first old.rows (row k d w)) → found (row_of (forget old.rows) k) ≡ weighed was → Stands old.cap (forget old.rows) (UpdateOrAdmit k w) (Some (weighed was)) (forget new.rows)
-        put_first d was w a f = accepts old new (first old.rows (row k d w)) (first (forget old.rows) (row k tt w)) (found (row_of (forget old.rows) k)) (first-forget old.rows (row k d w)) a ∙ ap (step (forget new.rows)) f
+        put_first : (d : T) (was : Option ℕ) (w : ℕ) → Accepts old new (with_first old.rows (row k d w)) → found (row_of (forget old.rows) k) ≡ weighed was → Stands old.cap (forget old.rows) (UpdateOrAdmit k w) (Some (weighed was)) (forget new.rows)
+        put_first d was w a f = accepts old new (with_first old.rows (row k d w)) (with_first (forget old.rows) (row k tt w)) (found (row_of (forget old.rows) k)) (first-forget old.rows (row k d w)) a ∙ ap (step (forget new.rows)) f
     updated_row None e was w h =
-        put_first h.0.0 was w (subst (λ v. Accepts old new (first old.rows (row k h.0.0 v))) (sym h.1.1.0.1) h.1.1.1) (found_of old.rows k ∙ ap weighed (ap (option_map (λ (r : Row T). r.weight)) e ∙ sym h.1.1.0.0))
+        put_first h.0.0 was w (subst (λ v. Accepts old new (with_first old.rows (row k h.0.0 v))) (sym h.1.1.0.1) h.1.1.1) (found_of old.rows k ∙ ap weighed (ap (option_map (λ (r : Row T). r.weight)) e ∙ sym h.1.1.0.0))
       where
-        put_first : (d : T) (was : Option ℕ) (w : ℕ) → Accepts old new (first old.rows (row k d w)) → found (row_of (forget old.rows) k) ≡ weighed was → Stands old.cap (forget old.rows) (UpdateOrAdmit k w) (Some (weighed was)) (forget new.rows)
-        put_first d was w a f = accepts old new (first old.rows (row k d w)) (first (forget old.rows) (row k tt w)) (found (row_of (forget old.rows) k)) (first-forget old.rows (row k d w)) a ∙ ap (step (forget new.rows)) f
+        put_first : (d : T) (was : Option ℕ) (w : ℕ) → Accepts old new (with_first old.rows (row k d w)) → found (row_of (forget old.rows) k) ≡ weighed was → Stands old.cap (forget old.rows) (UpdateOrAdmit k w) (Some (weighed was)) (forget new.rows)
+        put_first d was w a f = accepts old new (with_first old.rows (row k d w)) (with_first (forget old.rows) (row k tt w)) (found (row_of (forget old.rows) k)) (first-forget old.rows (row k d w)) a ∙ ap (step (forget new.rows)) f
 
     pub stands_update : (was : Option ℕ) (w : ℕ) → UpdatesOrAdmits Changes Makes old k (Ok (was, w)) new → Stands old.cap (forget old.rows) (UpdateOrAdmit k w) (Some (weighed was)) (forget new.rows)
     stands_update was w h = updated_row (row_of old.rows k) refl was w h
@@ -248,10 +248,10 @@ module _ {T : Type 0} where
     refused_update r h = refused_row (row_of old.rows k) r h
 
   -- a refusal that was looked up
-  pub stands_refused : (old new : Shard T) (k w : ℕ) (cause : Cause) → refusal old.cap (size_of (forget new.rows)) (size_of (first (forget new.rows) (row k tt w))) ≡ Some cause → forget new.rows ≡ forget old.rows → Stands old.cap (forget old.rows) (UpdateOrAdmit k w) (Some (Refused cause)) (forget new.rows)
+  pub stands_refused : (old new : Shard T) (k w : ℕ) (cause : Cause) → refusal old.cap (size_of (forget new.rows)) (size_of (with_first (forget new.rows) (row k tt w))) ≡ Some cause → forget new.rows ≡ forget old.rows → Stands old.cap (forget old.rows) (UpdateOrAdmit k w) (Some (Refused cause)) (forget new.rows)
   stands_refused old new k w cause why same =
-      ap (λ o. option_map_or (λ cause. step (forget old.rows) (Refused cause)) o (step (first (forget old.rows) (row k tt w)) (found (row_of (forget old.rows) k))))
-      (ap (λ l. refusal old.cap (size_of l) (size_of (first l (row k tt w)))) (sym same) ∙ why)
+      ap (λ o. option_map_or (λ cause. step (forget old.rows) (Refused cause)) o (step (with_first (forget old.rows) (row k tt w)) (found (row_of (forget old.rows) k))))
+      (ap (λ l. refusal old.cap (size_of l) (size_of (with_first l (row k tt w)))) (sym same) ∙ why)
       ∙ ap (λ l. step l (Refused cause)) (sym same)
 
   -- what a look for a weight says of the row
@@ -275,36 +275,36 @@ module _ {T : Type 0} where
   plain_none : (rows : List (Row T)) (k : ℕ) → row_of rows k ≡ None → row_of (forget rows) k ≡ None
   plain_none rows k e = row_of-forget rows k ∙ ap (option_map plain) e
 
-  pub refused_full : (u : Shard T) (k w : ℕ) → None ≡ option_map (λ (r : Row T). r.weight) (row_of u.rows k) → most_rows u.cap ≤ length u.rows → refusal u.cap (size_of (forget u.rows)) (size_of (first (forget u.rows) (row k tt w))) ≡ Some Length
+  pub refused_full : (u : Shard T) (k w : ℕ) → None ≡ option_map (λ (r : Row T). r.weight) (row_of u.rows k) → most_rows u.cap ≤ length u.rows → refusal u.cap (size_of (forget u.rows)) (size_of (with_first (forget u.rows) (row k tt w))) ≡ Some Length
   refused_full u k w h full = (λ i. refusal u.cap (size-forget u.rows i) (size-new u.rows k w (plain_none u.rows k (no_row u.rows k h)) i)) ∙ refusal_length u.cap (size_of u.rows) (and_row (size_of u.rows) w) (omega arith) full
 
-  pub refused_new : (u : Shard T) (k w : ℕ) → None ≡ option_map (λ (r : Row T). r.weight) (row_of u.rows k) → length u.rows < most_rows u.cap → u.cap < weight_of u.rows + w → refusal u.cap (size_of (forget u.rows)) (size_of (first (forget u.rows) (row k tt w))) ≡ Some Heavy
+  pub refused_new : (u : Shard T) (k w : ℕ) → None ≡ option_map (λ (r : Row T). r.weight) (row_of u.rows k) → length u.rows < most_rows u.cap → u.cap < weight_of u.rows + w → refusal u.cap (size_of (forget u.rows)) (size_of (with_first (forget u.rows) (row k tt w))) ≡ Some Heavy
   refused_new u k w h short much = (λ i. refusal u.cap (size-forget u.rows i) (size-new u.rows k w (plain_none u.rows k (no_row u.rows k h)) i)) ∙ refusal_weight u.cap (size_of u.rows) (and_row (size_of u.rows) w) (inr short) much
 
-  pub refused_row_of : (u : Shard T) (k w old : ℕ) → IsShard u → Some old ≡ option_map (λ (r : Row T). r.weight) (row_of u.rows k) → u.cap + old < weight_of u.rows + w → refusal u.cap (size_of (forget u.rows)) (size_of (first (forget u.rows) (row k tt w))) ≡ Some Heavy
+  pub refused_row_of : (u : Shard T) (k w old : ℕ) → IsShard u → Some old ≡ option_map (λ (r : Row T). r.weight) (row_of u.rows k) → u.cap + old < weight_of u.rows + w → refusal u.cap (size_of (forget u.rows)) (size_of (with_first (forget u.rows) (row k tt w))) ≡ Some Heavy
   refused_row_of u k w old valid h much =
       let r = has_row u.rows k old h in
       let at = at_row u.rows k r.0 valid.keys r.1.0 in
-      same_refusal u.cap u.rows (first u.rows (row k r.0.value w)) (first (forget u.rows) (row k tt w)) (first-forget u.rows (row k r.0.value w))
-      ∙ refusal_weight u.cap (size_of u.rows) (size_of (first u.rows (row k r.0.value w))) (inl (omega (arith, length-first u.rows k r.0 at r.0.value w))) (omega (arith, weight-first u.rows k r.0 at r.0.value w, r.1.1, much))
+      same_refusal u.cap u.rows (with_first u.rows (row k r.0.value w)) (with_first (forget u.rows) (row k tt w)) (first-forget u.rows (row k r.0.value w))
+      ∙ refusal_weight u.cap (size_of u.rows) (size_of (with_first u.rows (row k r.0.value w))) (inl (omega (arith, length-first u.rows k r.0 at r.0.value w))) (omega (arith, weight-first u.rows k r.0 at r.0.value w, r.1.1, much))
 
-  fits : (u : Shard T) (k w : ℕ) → None ≡ option_map (λ (r : Row T). r.weight) (row_of u.rows k) → refusal u.cap (size_of (forget u.rows)) (size_of (first (forget u.rows) (row k tt w))) ≡ refusal u.cap (size_of u.rows) (and_row (size_of u.rows) w)
+  fits : (u : Shard T) (k w : ℕ) → None ≡ option_map (λ (r : Row T). r.weight) (row_of u.rows k) → refusal u.cap (size_of (forget u.rows)) (size_of (with_first (forget u.rows) (row k tt w))) ≡ refusal u.cap (size_of u.rows) (and_row (size_of u.rows) w)
   fits u k w h = λ i. refusal u.cap (size-forget u.rows i) (size-new u.rows k w (plain_none u.rows k (no_row u.rows k h)) i)
 
-  pub fits_new : (u : Shard T) (k w : ℕ) → None ≡ option_map (λ (r : Row T). r.weight) (row_of u.rows k) → length u.rows < most_rows u.cap → weight_of u.rows + w ≤ u.cap → refusal u.cap (size_of (forget u.rows)) (size_of (first (forget u.rows) (row k tt w))) ≡ None
+  pub fits_new : (u : Shard T) (k w : ℕ) → None ≡ option_map (λ (r : Row T). r.weight) (row_of u.rows k) → length u.rows < most_rows u.cap → weight_of u.rows + w ≤ u.cap → refusal u.cap (size_of (forget u.rows)) (size_of (with_first (forget u.rows) (row k tt w))) ≡ None
   fits_new u k w h short light = fits u k w h ∙ refusal_none u.cap (size_of u.rows) (and_row (size_of u.rows) w) (inr short) light
 
-  pub fits_row_of : (u : Shard T) (k w old : ℕ) → IsShard u → Some old ≡ option_map (λ (r : Row T). r.weight) (row_of u.rows k) → weight_of u.rows + w ≤ u.cap + old → refusal u.cap (size_of (forget u.rows)) (size_of (first (forget u.rows) (row k tt w))) ≡ None
+  pub fits_row_of : (u : Shard T) (k w old : ℕ) → IsShard u → Some old ≡ option_map (λ (r : Row T). r.weight) (row_of u.rows k) → weight_of u.rows + w ≤ u.cap + old → refusal u.cap (size_of (forget u.rows)) (size_of (with_first (forget u.rows) (row k tt w))) ≡ None
   fits_row_of u k w old valid h light =
       let r = has_row u.rows k old h in
       let at = at_row u.rows k r.0 valid.keys r.1.0 in
-      same_refusal u.cap u.rows (first u.rows (row k r.0.value w)) (first (forget u.rows) (row k tt w)) (first-forget u.rows (row k r.0.value w))
-      ∙ refusal_none u.cap (size_of u.rows) (size_of (first u.rows (row k r.0.value w))) (inl (omega (arith, length-first u.rows k r.0 at r.0.value w))) (omega (arith, weight-first u.rows k r.0 at r.0.value w, r.1.1, light))
+      same_refusal u.cap u.rows (with_first u.rows (row k r.0.value w)) (with_first (forget u.rows) (row k tt w)) (first-forget u.rows (row k r.0.value w))
+      ∙ refusal_none u.cap (size_of u.rows) (size_of (with_first u.rows (row k r.0.value w))) (inl (omega (arith, length-first u.rows k r.0 at r.0.value w))) (omega (arith, weight-first u.rows k r.0 at r.0.value w, r.1.1, light))
 
   -- a refused `update_or_admit`, looked up by the weight that is noted
   module _ (Changes : T → ℕ → ℕ → T → Type 0) (Makes : T × ℕ → Type 0) (old new : Shard T) (k w : ℕ) where
     abbrev pub looked_up : Option Cause
-    looked_up = refusal old.cap (size_of (forget new.rows)) (size_of (first (forget new.rows) (row k tt w)))
+    looked_up = refusal old.cap (size_of (forget new.rows)) (size_of (with_first (forget new.rows) (row k tt w)))
 
     abbrev IsHeavy : Option (T × ℕ) → Type 0
     IsHeavy held = IfSome held (λ _. looked_up ≡ Some Heavy)
@@ -318,7 +318,7 @@ module _ {T : Type 0} where
     new_heavy Heavy held n same h e =
         let is : w ≡ max h.0.1 1 = subst (λ (x : Option (T × ℕ)). IfSome x (λ made. w ≡ max made.1 1)) h.1.1.0 e in
         let none : row_of (forget old.rows) k ≡ None = plain_none old.rows k n in
-        let found : looked_up ≡ Some Heavy = (λ i. refusal old.cap (size_of (forget (same i).rows)) (size_of (first (forget (same i).rows) (row k tt w))))
+        let found : looked_up ≡ Some Heavy = (λ i. refusal old.cap (size_of (forget (same i).rows)) (size_of (with_first (forget (same i).rows) (row k tt w))))
         ∙ (λ i. refusal old.cap (size-forget old.rows i) (size-new old.rows k w none i))
         ∙ (λ i. refusal old.cap (size_of old.rows) (and_row (size_of old.rows) (is i)))
         ∙ h.1.1.1 in

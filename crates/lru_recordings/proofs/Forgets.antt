@@ -3,7 +3,7 @@ use Rattle.std.proofs.Common.{◌≡◌, ℕ, zero, suc, ◌+◌, ◌-◌, not, 
 use Rattle.std.proofs.lemmas.Bool.{not-false}
 use Rattle.std.specs.Prelude.{slice_get, option_map}
 use Rattle.std.specs.Option.{option_map_or}
-use Rattle.lru_shard.specs.Row.{Row, row, row_of, is_held, weight_of, without, first, last, with_weight, with_value, last_row, without_last}
+use Rattle.lru_shard.specs.Row.{Row, row, row_of, is_held, weight_of, without, with_first, with_last, with_weight, with_value, last_row, without_last}
 use Rattle.lru_shard.specs.Shard.{Size, size_of}
 use Rattle.lru_shard.specs.Unit.{weight_at, tailed, accessed, needs_promote}
 use Rattle.lru_rules.specs.ShardCalls.{promoted_past}
@@ -42,15 +42,15 @@ module _ {T : Type 0} where
   without-forget [] k = refl
   without-forget (r ∷ rows) k = (λ i. cond (not (eqb r.key k)) (plain r ∷ without-forget rows k i) (without-forget rows k i)) ∙ cond_of forget (not (eqb r.key k)) (r ∷ without rows k) (without rows k)
 
-  pub first-forget : (rows : List (Row T)) (r : Row T) → first (forget rows) (plain r) ≡ forget (first rows r)
+  pub first-forget : (rows : List (Row T)) (r : Row T) → with_first (forget rows) (plain r) ≡ forget (with_first rows r)
   first-forget rows r = ap (λ l. plain r ∷ l) (without-forget rows r.key)
 
-  last-forget : (rows : List (Row T)) (r : Row T) → last (forget rows) (plain r) ≡ forget (last rows r)
+  last-forget : (rows : List (Row T)) (r : Row T) → with_last (forget rows) (plain r) ≡ forget (with_last rows r)
   last-forget [] r = refl
   last-forget (x ∷ rows) r = ap (λ l. plain x ∷ l) (last-forget rows r)
 
   pub tailed-forget : (rows : List (Row T)) (k : ℕ) (d : T) (w : ℕ) → tailed (forget rows) k tt w ≡ forget (tailed rows k d w)
-  tailed-forget rows k d w = (λ i. cond (is_held-forget rows k i) (forget rows) (last-forget rows (row k d w) i)) ∙ cond_of forget (is_held rows k) rows (last rows (row k d w))
+  tailed-forget rows k d w = (λ i. cond (is_held-forget rows k i) (forget rows) (last-forget rows (row k d w) i)) ∙ cond_of forget (is_held rows k) rows (with_last rows (row k d w))
 
   pub with_weight-forget : (rows : List (Row T)) (k w : ℕ) → with_weight (forget rows) k w ≡ forget (with_weight rows k w)
   with_weight-forget [] k w = refl
@@ -63,12 +63,12 @@ module _ {T : Type 0} where
   pub weight_at-forget : (rows : List (Row T)) (k : ℕ) → weight_at (forget rows) k ≡ weight_at rows k
   weight_at-forget rows k = ap (λ o. option_map_or (λ (r : Plain). r.weight) o 0) (row_of-forget rows k) ∙ weight_map (row_of rows k)
 
-  accessed_map : (rows : List (Row T)) (o : Option (Row T)) → option_map_or (λ (r : Plain). first (forget rows) r) (option_map plain o) (forget rows) ≡ forget (option_map_or (λ (r : Row T). first rows r) o rows)
+  accessed_map : (rows : List (Row T)) (o : Option (Row T)) → option_map_or (λ (r : Plain). with_first (forget rows) r) (option_map plain o) (forget rows) ≡ forget (option_map_or (λ (r : Row T). with_first rows r) o rows)
   accessed_map rows None = refl
   accessed_map rows (Some r) = first-forget rows r
 
   pub accessed-forget : (rows : List (Row T)) (k : ℕ) → accessed (forget rows) k ≡ forget (accessed rows k)
-  accessed-forget rows k = ap (λ o. option_map_or (λ (r : Plain). first (forget rows) r) o (forget rows)) (row_of-forget rows k) ∙ accessed_map rows (row_of rows k)
+  accessed-forget rows k = ap (λ o. option_map_or (λ (r : Plain). with_first (forget rows) r) o (forget rows)) (row_of-forget rows k) ∙ accessed_map rows (row_of rows k)
 
   take-forget : (n : ℕ) (rows : List (Row T)) → take n (forget rows) ≡ forget (take n rows)
   take-forget zero rows = refl

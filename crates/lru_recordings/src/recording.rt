@@ -1,6 +1,6 @@
 //! One shard with its history: each call on it is made and noted.
 ghost use Rattle.std.specs.Prelude.{◌≡◌, ◌%◌, ◌<◌, [], ◌∷◌, max, map, option_map, Some, None, IfOk, IfErr, IfSome, OnErr};
-ghost use Rattle.lru_shard.specs.Row.{row, first, is_held, last_row, pair_of};
+ghost use Rattle.lru_shard.specs.Row.{row, with_first, is_held, last_row, pair_of};
 ghost use Rattle.lru_shard.specs.Shard.{shard, size_of, refusal};
 ghost use Rattle.lru_shard.specs.Unit.{Updates};
 ghost use Rattle.lru_rules.specs.Limits.{cap_of};
@@ -96,7 +96,7 @@ fn cloned_last<T: Clone>(unit: &LruUnit<T>) -> Result<Option<(T, usize)>, AllocE
 // Why a key is refused this weight under the shard's cap, whatever memory there is, as far as it is.
 fn refusal_of<T>(unit: &LruUnit<T>, cap: usize, key: u64, weight: usize) -> Option<Cause>
     requires { unit.now.cap ≡ cap }
-    ensures why { refusal unit.now.cap (size_of (forget unit.now.rows)) (size_of (first (forget unit.now.rows) (row key tt weight))) ≡ result }
+    ensures why { refusal unit.now.cap (size_of (forget unit.now.rows)) (size_of (with_first (forget unit.now.rows) (row key tt weight))) ≡ result }
     ensures noted { IfSome result (λ cause. refused cause ≡ Some (Reply.Refused cause)) }
 {
     let used = unit.used_weight();

@@ -1,6 +1,7 @@
 -- What the program writes.
 use Rattle.std.specs.declared.alloc.AllocError.{AllocError}
 use Rattle.std.specs.Prelude.{◌≡◌, ℕ, ◌+◌, Bool, List, [], ◌∷◌, ◌++◌, length, map, codes, decimal, Option, Some, None, Result, Ok, Err, if◌then◌else◌}
+use Rattle.std.specs.Io.KnownBytes.{Appends}
 use Rattle.lru_snapshot.specs.declared.snapshot.Keyed.{Keyed}
 use Rattle.pingora_lru.specs.declared.calls.Reply.{Reply}
 use Rattle.pingora_lru.specs.declared.calls.Reply.TheVariants.{Shard, Inserted, Weight as NewWeight, Updated, Was, Held, Left, Evicted, Known, Last, Totals, Done}
@@ -116,6 +117,10 @@ Answers m old (Save dir file) text new =
 Answers m old (Load dir file) text new =
     (result : LoadResult) × (LoadsCore m dir file 2 old.core old.folder result new.core new.folder
     × ((text ≡ load_text result) × (new.words ≡ old.words)))
+
+-- a command's reply was written
+abbrev pub WritesReply : {F : Type 0} → Meaning F → State F → Asked → List ℕ → List ℕ → State F → Type 0
+WritesReply m old command before after new = (text : List ℕ) × (Answers m old command text new × Appends before after text)
 
 -- the lines, from number n on, may write this text, and leave this folder: each command's reply in turn, up to and with the first bad line
 abbrev pub Serves : {F : Type 0} → Meaning F → State F → List (Option Asked) → ℕ → List ℕ → F → Type 0

@@ -1,7 +1,7 @@
 //! What the program writes for each command.
 ghost use Rattle.std.specs.Prelude.{◌≡◌, ◌↔◌, OnOk, List, ℕ};
 ghost use Rattle.std.specs.Io.KnownBytes.{Appends};
-ghost use Rattle.lru_replies.specs.Replies.{Answers, cause_text, refused_text, flag_text, weight_text, row_text, pair_text, rows_text, cut_short_text, reply_text, saved_text, save_text, load_text};
+ghost use Rattle.lru_replies.specs.Replies.{WritesReply, cause_text, refused_text, flag_text, weight_text, row_text, pair_text, rows_text, cut_short_text, reply_text, saved_text, save_text, load_text};
 ghost use Rattle.lru_commands.specs.Commands.{asked, IsPossible};
 
 use log::Log;
@@ -193,10 +193,9 @@ pub fn answer<F: Folder, R: Rng, L: Log, W: Write>(
     writer: &mut W,
 ) -> io::Result<()>
     requires { IsPossible (asked command) }
-    ensures text { OnOk result ((text : List ℕ)
-        × (Answers (record { files = F.files; folders = F.folders; clock = F.clock; stopped_since = F.stopped_since; faults = F.faults; last_call = F.last_call; keeps = F.keeps })
-        (record { core = core.old; folder = folder.old; words = R.stream rng.old }) (asked command.entry) text (record { core = core.new; folder = folder.new; words = R.stream rng.new })
-        × Appends (W.contents writer.old) (W.contents writer.new) text)) }
+    ensures text { OnOk result (WritesReply (record { files = F.files; folders = F.folders; clock = F.clock; stopped_since = F.stopped_since; faults = F.faults; last_call = F.last_call; keeps = F.keeps })
+        (record { core = core.old; folder = folder.old; words = R.stream rng.old }) (asked command.entry) (W.contents writer.old) (W.contents writer.new)
+        (record { core = core.new; folder = folder.new; words = R.stream rng.new })) }
     ensures kept { F.keeps folder.old ↔ F.keeps folder.new }
 {
     match command {

@@ -1,6 +1,7 @@
-//! Which shards an eviction looks at, and what a refused growth leaves of one.
+//! When an order is over its limits, which shards an eviction looks at, and what a refused growth leaves of one.
 ghost use Rattle.std.specs.Prelude.{◌≡◌, ◌+◌, ◌%◌, ◌<◌, ◌≤◌};
 ghost use Rattle.lru_rules.specs.Draws.{drawn_shards};
+ghost use Rattle.lru_rules.specs.Limits.{is_past};
 
 use rand::RngExt;
 use rand_core::Rng;
@@ -10,6 +11,18 @@ use rand_core::Rng;
 pub struct EvictError<T> {
     /// The data and the weight of each row that was evicted, in order.
     pub evicted: Vec<(T, usize)>,
+}
+
+/// Whether a weight is above its limit, or a length above the watermark.
+#[inline(always)]
+pub fn is_past(limit: usize, watermark: Option<usize>, weight: usize, len: usize) -> bool
+    ensures { result ≡ is_past limit watermark weight len }
+{
+    weight > limit
+        || match watermark {
+            None => false,
+            Some(most) => len > most,
+        }
 }
 
 /// The place that lies so many steps on, in a circle of `count` places.

@@ -11,7 +11,8 @@ use Rattle.lru_folder.proofs.Moments.{started, goes_on, then_run}
 use Rattle.lru_folder.specs.Meaning.{Meaning}
 use Rattle.lru_folder.specs.Names.{has_slash, temp_path}
 use Rattle.lru_folder.specs.Places.{Folders, folder_of, is_there, MakesAll}
-use Rattle.lru_saving.specs.Saving.{HasReason, source_of}
+use Rattle.lru_folder.specs.Blames.{blame_of}
+use Rattle.lru_saving.specs.Saving.{HasReason}
 use Rattle.lru_saving.specs.Progress.{Progress, TakesTurn, next_of}
 use Rattle.std.proofs.lemmas.Bool.{ltb-true}
 use Rattle.lru_saving.specs.Turns.{SaveTurn, EachTurn, Ends, EachOldOrGiven, IsKept, IsRefused, IfIo, SavesOne, SavesEach, failures_of}
@@ -40,10 +41,10 @@ of_memory is before now Memory here same reason = refl
 of_memory is before now Io here same reason = let rose = reason.failed refl in absurd (omega arith)
 
 refused_by : {E : Type 0} (is : Bool) (before now : ℕ) (failed : Option (ShardSaveFailure E)) → is ≡ true → now ≡ before
-    → IfSome failed (λ f. IfIo f (λ e. HasReason is before now (source_of e))) → IfSome failed IsRefused
+    → IfSome failed (λ f. IfIo f (λ e. HasReason is before now (blame_of e).cause)) → IfSome failed IsRefused
 refused_by is before now None here same reason = tt
 refused_by is before now (Some (failure.Serialize at source)) here same reason = tt
-refused_by is before now (Some (failure.Io at source)) here same reason = of_memory is before now (source_of source) here same reason
+refused_by is before now (Some (failure.Io at source)) here same reason = of_memory is before now (blame_of source).cause here same reason
 refused_by is before now (Some (failure.Memory at)) here same reason = tt
 
 -- the shard whose turn it is

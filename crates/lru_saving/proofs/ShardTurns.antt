@@ -5,13 +5,13 @@ use Rattle.std.specs.declared.alloc.Global.{Global}
 use Rattle.lru_folder.specs.declared.errors.ShardFileError.{ShardFileError}
 use Rattle.lru_folder.specs.declared.errors.ShardSaveFailure.{ShardSaveFailure}
 use Rattle.lru_folder.specs.declared.errors.ShardSaveFailure.TheVariants.{Io}
-use Rattle.lru_folder.specs.Blames.{failed_call}
+use Rattle.lru_folder.specs.Blames.{failed_call, blame_of}
 use Rattle.lru_folder.specs.Files.{Files}
 use Rattle.lru_folder.specs.Folder.{LeavesOnly}
 use Rattle.lru_folder.specs.Meaning.{Meaning}
 use Rattle.lru_folder.specs.Names.{shard_path, temp_path}
 use Rattle.lru_folder.specs.Places.{folder_of, is_there}
-use Rattle.lru_saving.specs.Saving.{IsOldOrNew, IsSaved, HasReason, source_of}
+use Rattle.lru_saving.specs.Saving.{IsOldOrNew, IsSaved, HasReason}
 use Rattle.lru_saving.specs.Turns.{IsOldOrGiven, SaveTurn, SavesOne}
 
 -- what the calls left
@@ -56,7 +56,7 @@ module _ {F E : Type 0} (m : Meaning F) (dir file_name : List ℕ) (shard word :
   }
 
   pub ends_badly : (source : ShardFileError) → Leaves m bytes.items old new (temp_path dir file_name shard word) (shard_path dir file_name shard) → m.last_call new ≡ failed_call source
-      → HasReason (is_there (m.folders old) (folder_of (temp_path dir file_name shard word))) (m.faults old) (m.faults new) (source_of source) → m.folders new ≡ m.folders old
+      → HasReason (is_there (m.folders old) (folder_of (temp_path dir file_name shard word))) (m.faults old) (m.faults new) (blame_of source).cause → m.folders new ≡ m.folders old
       → SavesOne m dir file_name shard (turn (Some (Io shard source))) old new
   ends_badly source leaves named reason places = record {
     any_moment = any_moment (Some (Io shard source)) leaves;

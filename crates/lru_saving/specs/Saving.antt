@@ -35,17 +35,6 @@ IsStepOf temp path (ReadDir at source) = ⊥
 IsStepOf temp path (ReadDirEntry at source) = ⊥
 IsStepOf temp path (Remove at source) = ⊥
 
-abbrev pub source_of : ShardFileError → FolderFault
-source_of (Create at source) = source
-source_of (Write at source) = source
-source_of (Flush at source) = source
-source_of (Rename from to source) = source
-source_of (Open at source) = source
-source_of (Read at source) = source
-source_of (ReadDir at source) = source
-source_of (ReadDirEntry at source) = source
-source_of (Remove at source) = source
-
 -- Why a save failed, other than for memory: the device failed meanwhile, or the folder was not there. Where the device
 -- failed, that is the reason.
 pub record HasReason (is_there : Bool) (before now : ℕ) (source : FolderFault) : Type 0 where

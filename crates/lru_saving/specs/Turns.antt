@@ -9,12 +9,12 @@ use Rattle.lru_folder.specs.declared.errors.ShardFileError.{ShardFileError}
 use Rattle.lru_folder.specs.declared.errors.ShardSaveFailure.{ShardSaveFailure}
 use Rattle.lru_folder.specs.declared.errors.ShardSaveFailure.TheVariants as failure
 use Rattle.lru_folder.specs.Files.{Files}
-use Rattle.lru_folder.specs.Blames.{failed_call}
+use Rattle.lru_folder.specs.Blames.{failed_call, blame_of}
 use Rattle.lru_folder.specs.Folder.{LeavesOnly}
 use Rattle.lru_folder.specs.Meaning.{Meaning}
 pub use Rattle.lru_folder.specs.Names.{shard_path, temp_path}
 use Rattle.lru_folder.specs.Places.{folder_of, is_there}
-use Rattle.lru_saving.specs.Saving.{IsStepOf, HasReason, source_of}
+use Rattle.lru_saving.specs.Saving.{IsStepOf, HasReason}
 
 -- the bytes of a shard, or the error that was given in their place
 abbrev pub Given : Type 0 → Type 0
@@ -64,13 +64,13 @@ IfIo (failure.Memory at) P = Unit {0}
 -- the device failed
 abbrev pub IsDeviceFault : {E : Type 0} → ShardSaveFailure E → Type 0
 IsDeviceFault (failure.Serialize at source) = ⊥
-IsDeviceFault (failure.Io at source) = source_of source ≡ fault.Io
+IsDeviceFault (failure.Io at source) = (blame_of source).cause ≡ fault.Io
 IsDeviceFault (failure.Memory at) = ⊥
 
 -- whether memory was refused to a shard, or its bytes were
 abbrev pub IsRefused : {E : Type 0} → ShardSaveFailure E → Type 0
 IsRefused (failure.Serialize at source) = Unit {0}
-IsRefused (failure.Io at source) = source_of source ≡ fault.Memory
+IsRefused (failure.Io at source) = (blame_of source).cause ≡ fault.Memory
 IsRefused (failure.Memory at) = Unit {0}
 
 -- the file is as it was, or has the bytes given
@@ -104,7 +104,7 @@ pub record SavesOne {F E : Type 0} (m : Meaning F) (dir file_name : List ℕ) (s
   -- an error names the call that failed, and has its reason
   pub named : IfSome turn.failed (λ f. IfIo f (λ e. m.last_call new ≡ failed_call e))
   pub reason : IfSome turn.failed (λ f. IfIo f (λ e. HasReason (is_there (m.folders old) (folder_of (temp_path dir file_name shard turn.word)))
-      (m.faults old) (m.faults new) (source_of e)))
+      (m.faults old) (m.faults new) (blame_of e).cause))
   -- where the device failed, that is told
   pub later : m.faults old ≤ m.faults new
   pub told : m.faults old < m.faults new → IsSomeAnd turn.failed IsDeviceFault

@@ -1,14 +1,14 @@
 // The file of one shard, saved: it is written under another name, which then becomes the shard's.
 ghost use Rattle.std.specs.Prelude.{◌≢◌, ◌≡◌, ◌↔◌, IfErr, IfOk, OnOk, string_bytes};
-ghost use Rattle.lru_folder.specs.Blames.{failed_call};
+ghost use Rattle.lru_folder.specs.Blames.{failed_call, blame_of};
 ghost use Rattle.lru_folder.specs.Folder.{LeavesOnly};
 ghost use Rattle.lru_folder.specs.Places.{folder_of, is_there};
-ghost use Rattle.lru_saving.specs.Saving.{IsOldOrNew, IsSaved, IsStepOf, HasReason, source_of};
+ghost use Rattle.lru_saving.specs.Saving.{IsOldOrNew, IsSaved, IsStepOf, HasReason};
 ghost use Rattle.lru_saving.specs.Turns.{shard_path, temp_path, Ends, SavesOne, turn_of};
 
 use lru_folder::errors::{ShardFileError, ShardSaveFailure};
 use lru_folder::folder::Folder;
-use lru_folder::names::{path_of, shard_name, temp_name};
+use lru_folder::names::{path_of, shard_path, temp_name};
 use std::alloc::{AllocError, Global};
 
 /// Saves the bytes under the temporary path, which then becomes the file's. A fault leaves the temporary file as it is.
@@ -31,7 +31,7 @@ pub(crate) fn save_file<F: Folder>(
     ensures step { IfErr result (IsStepOf (string_bytes temp) (string_bytes path)) }
     ensures named { F.keeps folder.old → IfErr result (λ e. F.last_call folder.new ≡ failed_call e) }
     ensures reason { F.keeps folder.old → IfErr result (λ e. HasReason
-        (is_there (F.folders folder.old) (folder_of (string_bytes temp))) (F.faults folder.old) (F.faults folder.new) (source_of e)) }
+        (is_there (F.folders folder.old) (folder_of (string_bytes temp))) (F.faults folder.old) (F.faults folder.new) (blame_of e).cause) }
 
     ensures faults { F.keeps folder.old → OnOk result (F.faults folder.new ≡ F.faults folder.old) }
     ensures places { F.keeps folder.old → F.folders folder.new ≡ F.folders folder.old }
@@ -68,9 +68,8 @@ fn paths_of(
         × (string_bytes paths.1 ≡ shard_path dir_path.now file_name.now shard)) }
 {
     let temp = temp_name(alloc, file_name, shard, word)?;
-    let name = shard_name(alloc, file_name, shard)?;
     let temp = path_of(alloc, dir_path, temp.as_str())?;
-    let path = path_of(alloc, dir_path, name.as_str())?;
+    let path = shard_path(alloc, dir_path, file_name, shard)?;
     Ok((temp, path))
 }
 

@@ -19,7 +19,7 @@ use Rattle.lru_actors.proofs.Served.{mapped_same}
 use Rattle.lru_schedules.specs.Turns.{Turn, turn, rows_after, rows_left, refusals, brings, removes, evicts, times_done, weight_in, IsAllowed, AreAllowed, IsAnswered, AreAnswered}
 use Rattle.lru_schedules.specs.World.{Actor, PutsPair, IsSameQueue, itself, rows_of, accepted_by, Sends, Urges, Takes, Stops}
 use Rattle.lru_schedules.proofs.TurnLaws.{rows_more, refusals_more, once, done_more, allowed_more, answered_more}
-use Rattle.lru_schedules.proofs.MessageLaws.{weighed, one_if, follows, wants_same}
+use Rattle.lru_schedules.proofs.MessageLaws.{one_if, follows, wants_same}
 use Rattle.lru_schedules.proofs.PostLaws.{IsKnown, known_posted, known_urged, known_served}
 
 off : true ≡ false → ⊥
@@ -34,7 +34,7 @@ module _ {K : Type 0} (IsClone : K → K → Type 0) (cap : ℕ) where
     pub order : a.accepted ≡ messages a.turns ++ (a.hand ++ (a.behind ++ a.post.waiting))
     pub state : a.state ≡ state_of (shard (rows_left [] a.turns) cap) (refusals a.turns % 2 ^ 64)
     pub distinct : HasDistinctKeys (rows_of a)
-    pub map_is : (h : ℕ) → a.look h ≡ weighed (rows_of a) h
+    pub map_is : (h : ℕ) → a.look h ≡ weight_in (rows_of a) h
     pub known : IsKnown a.post
     pub open_behind : a.post.closed ≡ false → a.behind ≡ []
     pub closed_waits : a.post.closed ≡ true → a.post.waiting ≡ []
@@ -172,7 +172,7 @@ module _ {K : Type 0} (IsClone : K → K → Type 0) (cap : ℕ) where
   pub record Advances (a : Actor K) (msg : LruMsg K) (e : Effect K) (new : State K) (look : ℕ → Option ℕ) : Type 0 where
     pub state : new ≡ state_of (shard (rows_after (rows_of a) (turn msg e)) cap) (refusals (a.turns ++ turn msg e ∷ []) % 2 ^ 64)
     pub distinct : HasDistinctKeys (rows_after (rows_of a) (turn msg e))
-    pub map_is : (h : ℕ) → look h ≡ weighed (rows_after (rows_of a) (turn msg e)) h
+    pub map_is : (h : ℕ) → look h ≡ weight_in (rows_after (rows_of a) (turn msg e)) h
     pub allowed : IsAllowed cap (rows_of a) (turn msg e)
     pub answered : IsAnswered IsClone (rows_of a) (turn msg e)
     pub hashes : (h : ℕ) → once (brings h) (rows_of a) (turn msg e) + times h (rows_of a)
@@ -199,7 +199,7 @@ module _ {K : Type 0} (IsClone : K → K → Type 0) (cap : ℕ) where
               ∙ sym (λ i. state_of (shard (rows i) cap) (count i % 2 ^ 64));
           distinct = subst HasDistinctKeys (sym rows) f.distinct;
           map_is = λ h. s.map h ∙ ap (λ p. mapped p e.cleared a.look h) s.done.put ∙ ap (λ c. mapped (put_of (rows_of a) msg) c a.look h) s.done.cleared
-              ∙ mapped_same (put_of (rows_of a) msg) (cleared_of (rows_of a) msg) a.look (weighed (rows_of a)) g.map_is h ∙ sym (f.weighs h) ∙ ap (λ rs. weighed rs h) (sym rows);
+              ∙ mapped_same (put_of (rows_of a) msg) (cleared_of (rows_of a) msg) a.look (weight_in (rows_of a)) g.map_is h ∙ sym (f.weighs h) ∙ ap (λ rs. weight_in rs h) (sym rows);
           allowed = inl (no, ap (λ c. refusal_of (shard (rows_of a) c) msg) (sym cap_is) ∙ s.done.allowed);
           answered = inr (no, s.done.reply);
           hashes = λ h. omega (arith, f.counts h, did (brings h), did (removes h), did (evicts h), ap (times h) rows);
@@ -217,7 +217,7 @@ module _ {K : Type 0} (IsClone : K → K → Type 0) (cap : ℕ) where
               ∙ ap (λ n. state_of (shard (rows_of a) cap) n) (mod-add-mod (refusals a.turns) (2 ^ 64) 1)
               ∙ sym (λ i. state_of (shard (rows i) cap) (count i % 2 ^ 64));
           distinct = subst HasDistinctKeys (sym rows) g.distinct;
-          map_is = λ h. t.map h ∙ g.map_is h ∙ ap (λ rs. weighed rs h) (sym rows);
+          map_is = λ h. t.map h ∙ g.map_is h ∙ ap (λ rs. weight_in rs h) (sym rows);
           allowed = inr (
             yes,
             elim t.may [
@@ -251,7 +251,7 @@ module _ {K : Type 0} (IsClone : K → K → Type 0) (cap : ℕ) where
               ∙ ap (λ ms. ms ++ (rest ++ (a.behind ++ a.post.waiting))) (sym (map-append (λ (x : Turn K). x.msg) a.turns (t ∷ [])));
           state = v.state ∙ ap (λ rs. state_of (shard rs cap) (refusals (a.turns ++ t ∷ []) % 2 ^ 64)) all;
           distinct = subst HasDistinctKeys (sym rows) v.distinct;
-          map_is = λ h. v.map_is h ∙ ap (λ rs. weighed rs h) (sym rows);
+          map_is = λ h. v.map_is h ∙ ap (λ rs. weight_in rs h) (sym rows);
           known = g.known;
           open_behind = g.open_behind;
           closed_waits = g.closed_waits;

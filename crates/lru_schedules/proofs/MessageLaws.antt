@@ -3,17 +3,18 @@ use Rattle.std.proofs.Common.{◌≡◌, ◌≢◌, ℕ, ◌+◌, ◌&&◌, max,
 use Rattle.std.specs.Prelude.{Option, option_map, is_some}
 use Rattle.std.specs.Option.{option_map_or}
 use Rattle.std.proofs.lemmas.Bool.{eqb-true, eq-eqb, ne_eqb, cases_eq, cond-true, cond-false}
-use Rattle.lru_shard.specs.Row.{Row, row, row_of, is_held, times, HasDistinctKeys, first, last, without, without_last, last_row}
+use Rattle.lru_shard.specs.Row.{Row, row, row_of, is_held, times, HasDistinctKeys, with_first, with_last, without, without_last, last_row}
+use Rattle.lru_shard.specs.Unit.{grown}
 use Rattle.lru_shard.proofs.Rows.{times-append, times_yes, times_no, by_key, times-without_same, times-without_other, row_of_absent, row_of_there, distinct-first, distinct-front}
 use Rattle.lru_shard.proofs.Edits.{at_row, distinct-without}
 use Rattle.lru_shard.proofs.LastRows.{last_split}
 use Rattle.lru_shard.proofs.UnitCalls.{times_none}
 use Rattle.lru_actors.specs.declared.message.LruMsg.{LruMsg}
 use Rattle.lru_actors.specs.declared.message.LruMsg.TheVariants.{Admit, IncrementWeight, Promote, Remove, InsertTail, Evict, PeekLru, Snapshot, QueryWeight}
-use Rattle.lru_actors.specs.Messages.{consumed, kept, grown, put_of, cleared_of}
+use Rattle.lru_actors.specs.Messages.{consumed, kept, put_of, cleared_of}
 use Rattle.lru_actors.specs.Processing.{mapped, MayWantRoom}
 use Rattle.lru_actors.proofs.Rows.{no_last}
-use Rattle.lru_schedules.specs.Turns.{brings, removes, evicts}
+use Rattle.lru_schedules.specs.Turns.{weight_in, brings, removes, evicts}
 
 both_no : (b : Bool) → (b && false) ≡ false
 both_no true = refl
@@ -27,10 +28,6 @@ one_of true = refl
 one_of false = refl
 
 module _ {K : Type 0} where
-  -- the weight of a hash, if it has a row
-  abbrev pub weighed : List (Row K) → ℕ → Option ℕ
-  weighed rows h = option_map (λ (r : Row K). r.weight) (row_of rows h)
-
   row_of_other : (j k : ℕ) (rows : List (Row K)) → j ≢ k → row_of (without rows k) j ≡ row_of rows j
   row_of_other j k [] ne = refl
   row_of_other j k (r ∷ rows) ne =
@@ -49,7 +46,7 @@ module _ {K : Type 0} where
   -- what holds of the rows before and after a message that is not refused
   pub record Follows (rows after : List (Row K)) (put : Option (ℕ × ℕ)) (cleared : Option ℕ) (brought removed evicted : ℕ → Bool) : Type 0 where
     pub distinct : HasDistinctKeys after
-    pub weighs : (h : ℕ) → weighed after h ≡ mapped put cleared (weighed rows) h
+    pub weighs : (h : ℕ) → weight_in after h ≡ mapped put cleared (weight_in rows) h
     pub counts : (h : ℕ) → one_if (brought h) + times h rows ≡ times h after + one_if (removed h) + one_if (evicted h)
 
   -- a hash has one row exactly where it is held
@@ -67,23 +64,23 @@ module _ {K : Type 0} where
     same = record { distinct = d; weighs = λ h. refl; counts = λ h. omega arith }
 
     -- a row goes first, in place of its hash's
-    firsts : (r : Row K) → Follows rows (first rows r) (Some (r.key, r.weight)) None (λ h. eqb r.key h && not (is_held rows r.key)) (λ _. false) (λ _. false)
+    firsts : (r : Row K) → Follows rows (with_first rows r) (Some (r.key, r.weight)) None (λ h. eqb r.key h && not (is_held rows r.key)) (λ _. false) (λ _. false)
     firsts r = record { distinct = distinct-first rows r d; weighs = weighs; counts = counts }
       where
-        weighs : (h : ℕ) → weighed (first rows r) h ≡ mapped (Some (r.key, r.weight)) None (weighed rows) h
+        weighs : (h : ℕ) → weight_in (with_first rows r) h ≡ mapped (Some (r.key, r.weight)) None (weight_in rows) h
         weighs h = elim (cases_eq h r.key) [
-          | inl e ↦ ap (λ b. option_map (λ (x : Row K). x.weight) (cond b (Some r) (row_of (without rows r.key) h))) (eq-eqb r.key h (sym e)) ∙ sym (cond-true (eqb r.key h) (Some r.weight) (weighed rows h) (eq-eqb r.key h (sym e)))
+          | inl e ↦ ap (λ b. option_map (λ (x : Row K). x.weight) (cond b (Some r) (row_of (without rows r.key) h))) (eq-eqb r.key h (sym e)) ∙ sym (cond-true (eqb r.key h) (Some r.weight) (weight_in rows h) (eq-eqb r.key h (sym e)))
           | inr ne ↦ let off = ne_eqb r.key h (λ q. ne (sym q)) in
-              ap (λ b. option_map (λ (x : Row K). x.weight) (cond b (Some r) (row_of (without rows r.key) h))) off ∙ ap (option_map (λ (x : Row K). x.weight)) (row_of_other h r.key rows ne) ∙ sym (cond-false (eqb r.key h) (Some r.weight) (weighed rows h) off)
+              ap (λ b. option_map (λ (x : Row K). x.weight) (cond b (Some r) (row_of (without rows r.key) h))) off ∙ ap (option_map (λ (x : Row K). x.weight)) (row_of_other h r.key rows ne) ∙ sym (cond-false (eqb r.key h) (Some r.weight) (weight_in rows h) off)
         ]
 
-        counts : (h : ℕ) → one_if (eqb r.key h && not (is_held rows r.key)) + times h rows ≡ times h (first rows r) + 0 + 0
+        counts : (h : ℕ) → one_if (eqb r.key h && not (is_held rows r.key)) + times h rows ≡ times h (with_first rows r) + 0 + 0
         counts h = elim (cases_eq h r.key) [
           | inl e ↦
               let on = eq-eqb r.key h (sym e) in
               let new : one_if (eqb r.key h && not (is_held rows r.key)) ≡ one_if (not (is_held rows r.key)) = ap (λ b. one_if (b && not (is_held rows r.key))) on in
               let held : times h rows ≡ one_if (is_held rows r.key) = ap (λ k. times k rows) e ∙ one_held rows r.key d in
-              let all : times h (first rows r) ≡ 1 + times h (without rows r.key) = times_yes h r (without rows r.key) on in
+              let all : times h (with_first rows r) ≡ 1 + times h (without rows r.key) = times_yes h r (without rows r.key) on in
               let none : times h (without rows r.key) ≡ 0 = ap (λ k. times k (without rows r.key)) e ∙ times-without_same r.key rows in
               omega (arith, new, held, all, none, one_of (is_held rows r.key))
           | inr ne ↦
@@ -93,7 +90,7 @@ module _ {K : Type 0} where
         ]
 
     -- a row that is there goes first
-    moves : (h : ℕ) (o : Option (Row K)) → row_of rows h ≡ o → Follows rows (option_map_or (λ r. first rows r) o rows) None None (λ _. false) (λ _. false) (λ _. false)
+    moves : (h : ℕ) (o : Option (Row K)) → row_of rows h ≡ o → Follows rows (option_map_or (λ r. with_first rows r) o rows) None None (λ _. false) (λ _. false) (λ _. false)
     moves h None e = same
     moves h (Some r) e =
         let at = at_row rows h r d e in
@@ -103,8 +100,8 @@ module _ {K : Type 0} where
         record {
           distinct = f.distinct;
           weighs = λ k. f.weighs k ∙ elim (cases_eq k r.key) [
-            | inl q ↦ cond-true (eqb r.key k) (Some r.weight) (weighed rows k) (eq-eqb r.key k (sym q)) ∙ sym (ap (weighed rows) q ∙ ap (option_map (λ (x : Row K). x.weight)) held)
-            | inr ne ↦ cond-false (eqb r.key k) (Some r.weight) (weighed rows k) (ne_eqb r.key k (λ q. ne (sym q)))
+            | inl q ↦ cond-true (eqb r.key k) (Some r.weight) (weight_in rows k) (eq-eqb r.key k (sym q)) ∙ sym (ap (weight_in rows) q ∙ ap (option_map (λ (x : Row K). x.weight)) held)
+            | inr ne ↦ cond-false (eqb r.key k) (Some r.weight) (weight_in rows k) (ne_eqb r.key k (λ q. ne (sym q)))
           ];
           counts = λ k.
               let new : one_if (eqb r.key k && not (is_held rows r.key)) ≡ 0 = ap (λ o. one_if (eqb r.key k && not (is_some o))) held ∙ ap (λ b. one_if b) (both_no (eqb r.key k)) in
@@ -116,7 +113,7 @@ module _ {K : Type 0} where
     leaves h None e = record {
       distinct = distinct-without rows h d;
       weighs = λ k. elim (cases_eq k h) [
-        | inl q ↦ ap (weighed (without rows h)) q ∙ ap (option_map (λ (x : Row K). x.weight)) (row_of_absent h (without rows h) (times-without_same h rows) ∙ sym e) ∙ sym (ap (weighed rows) q)
+        | inl q ↦ ap (weight_in (without rows h)) q ∙ ap (option_map (λ (x : Row K). x.weight)) (row_of_absent h (without rows h) (times-without_same h rows) ∙ sym e) ∙ sym (ap (weight_in rows) q)
         | inr ne ↦ ap (option_map (λ (x : Row K). x.weight)) (row_of_other k h rows ne)
       ];
       counts = λ k. elim (cases_eq k h) [
@@ -130,8 +127,8 @@ module _ {K : Type 0} where
     leaves h (Some r) e = record {
       distinct = distinct-without rows h d;
       weighs = λ k. elim (cases_eq k h) [
-        | inl q ↦ ap (weighed (without rows h)) q ∙ ap (option_map (λ (x : Row K). x.weight)) (row_of_absent h (without rows h) (times-without_same h rows)) ∙ sym (cond-true (eqb h k) None (weighed rows k) (eq-eqb h k (sym q)))
-        | inr ne ↦ ap (option_map (λ (x : Row K). x.weight)) (row_of_other k h rows ne) ∙ sym (cond-false (eqb h k) None (weighed rows k) (ne_eqb h k (λ q. ne (sym q))))
+        | inl q ↦ ap (weight_in (without rows h)) q ∙ ap (option_map (λ (x : Row K). x.weight)) (row_of_absent h (without rows h) (times-without_same h rows)) ∙ sym (cond-true (eqb h k) None (weight_in rows k) (eq-eqb h k (sym q)))
+        | inr ne ↦ ap (option_map (λ (x : Row K). x.weight)) (row_of_other k h rows ne) ∙ sym (cond-false (eqb h k) None (weight_in rows k) (ne_eqb h k (λ q. ne (sym q))))
       ];
       counts = λ k. elim (cases_eq k h) [
         | inl q ↦
@@ -162,8 +159,8 @@ module _ {K : Type 0} where
     lasts = record {
       distinct = pushed;
       weighs = λ h. elim (cases_eq h r.key) [
-        | inl e ↦ ap (weighed (rows ++ r ∷ [])) e ∙ ap (option_map (λ (x : Row K). x.weight)) (row_of_there rows [] r pushed) ∙ sym (cond-true (eqb r.key h) (Some r.weight) (weighed rows h) (eq-eqb r.key h (sym e)))
-        | inr ne ↦ ap (option_map (λ (x : Row K). x.weight)) (row_of_before rows r h ne) ∙ sym (cond-false (eqb r.key h) (Some r.weight) (weighed rows h) (ne_eqb r.key h (λ q. ne (sym q))))
+        | inl e ↦ ap (weight_in (rows ++ r ∷ [])) e ∙ ap (option_map (λ (x : Row K). x.weight)) (row_of_there rows [] r pushed) ∙ sym (cond-true (eqb r.key h) (Some r.weight) (weight_in rows h) (eq-eqb r.key h (sym e)))
+        | inr ne ↦ ap (option_map (λ (x : Row K). x.weight)) (row_of_before rows r h ne) ∙ sym (cond-false (eqb r.key h) (Some r.weight) (weight_in rows h) (ne_eqb r.key h (λ q. ne (sym q))))
       ];
       counts = λ h. elim (cases_eq h r.key) [
         | inl e ↦
@@ -182,8 +179,8 @@ module _ {K : Type 0} where
     drops = record {
       distinct = d;
       weighs = λ h. elim (cases_eq h r.key) [
-        | inl e ↦ ap (weighed rows) e ∙ ap (option_map (λ (x : Row K). x.weight)) (row_of_absent r.key rows none) ∙ sym (cond-true (eqb r.key h) None (weighed (rows ++ r ∷ []) h) (eq-eqb r.key h (sym e)))
-        | inr ne ↦ sym (ap (option_map (λ (x : Row K). x.weight)) (row_of_before rows r h ne)) ∙ sym (cond-false (eqb r.key h) None (weighed (rows ++ r ∷ []) h) (ne_eqb r.key h (λ q. ne (sym q))))
+        | inl e ↦ ap (weight_in rows) e ∙ ap (option_map (λ (x : Row K). x.weight)) (row_of_absent r.key rows none) ∙ sym (cond-true (eqb r.key h) None (weight_in (rows ++ r ∷ []) h) (eq-eqb r.key h (sym e)))
+        | inr ne ↦ sym (ap (option_map (λ (x : Row K). x.weight)) (row_of_before rows r h ne)) ∙ sym (cond-false (eqb r.key h) None (weight_in (rows ++ r ∷ []) h) (ne_eqb r.key h (λ q. ne (sym q))))
       ];
       counts = λ h. elim (cases_eq h r.key) [
         | inl e ↦ let on = eq-eqb r.key h (sym e) in omega (arith, times-append h rows (r ∷ []), times_yes h r [] on, ap one_if on)
@@ -194,7 +191,7 @@ module _ {K : Type 0} where
   module _ (rows : List (Row K)) (d : HasDistinctKeys rows) where
     -- a row goes last where its hash has none
     tails : (h : ℕ) (key : K) (w : ℕ) (b : Bool) → is_held rows h ≡ b
-        → Follows rows (cond b rows (last rows (row h key w))) (cond b None (Some (h, w))) None (λ k. eqb h k && not b) (λ _. false) (λ _. false)
+        → Follows rows (cond b rows (with_last rows (row h key w))) (cond b None (Some (h, w))) None (λ k. eqb h k && not b) (λ _. false) (λ _. false)
     tails h key w true e = record { distinct = d; weighs = λ k. refl; counts = λ k. omega (arith, ap one_if (both_no (eqb h k))) }
     tails h key w false e =
         let f = lasts rows d (row h key w) (one_held rows h d ∙ ap one_if e) in
@@ -214,7 +211,7 @@ module _ {K : Type 0} where
     -- each message
     pub follows : (msg : LruMsg K) → Follows rows (consumed rows msg) (put_of rows msg) (cleared_of rows msg) (λ h. brings h rows msg) (λ h. removes h rows msg) (λ h. evicts h rows msg)
     follows (Admit h key w) = firsts rows d (row h (kept rows h key) (max w 1))
-    follows (IncrementWeight h key delta most) = firsts rows d (row h (kept rows h key) (grown rows h delta most))
+    follows (IncrementWeight h key delta most) = firsts rows d (row h (kept rows h key) (grown delta most (row_of rows h)))
     follows (Promote h) = moves rows d h (row_of rows h) refl
     follows (Remove h) = leaves rows d h (row_of rows h) refl
     follows (InsertTail h key w) = tails h key w (is_held rows h) refl

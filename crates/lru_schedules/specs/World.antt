@@ -5,12 +5,12 @@ use Rattle.lru_mailbox.specs.declared.mail_error.MailError.{MailError}
 use Rattle.lru_mailbox.specs.Mail.{Post, Mail, mail_of, empty, served, left, Pushes, PushesEvict}
 use Rattle.lru_dispatch.specs.Queue.{Queue, dispatched}
 use Rattle.lru_shard.specs.Row.{Row, weight_of, times}
-use Rattle.lru_shard.specs.Shard.{shard}
+use Rattle.lru_shard.specs.Shard.{shard, longer_of}
 use Rattle.lru_actors.specs.declared.message.LruMsg.{LruMsg}
 use Rattle.lru_actors.specs.declared.message.LruMsg.TheVariants.{Evict}
 use Rattle.lru_actors.specs.declared.effect.Effect.{Effect}
 use Rattle.lru_actors.specs.Messages.{State, state_of}
-use Rattle.lru_actors.specs.Processing.{Processes, ProcessesAll, victim_of}
+use Rattle.lru_actors.specs.Processing.{Processes, ProcessesAll}
 use Rattle.lru_schedules.specs.Turns.{Turn, turn, rows_left, refusals, leaving, evictions, brings, removes, evicts, times_done, weight_in, AreAllowed, AreAnswered}
 
 -- one shard with its mailbox and its actor. `accepted` are all messages that were ever put, `turns` those that were
@@ -141,7 +141,7 @@ module _ {K : Type 0} where
     Happens old (Send s msg) new = At old s (Sends msg) new
     Happens old (Take s n) new = At old s (Takes n) new
     Happens old (Consume s) new = Consumes s old new
-    Happens old (Look a b len_a len_b) new = (old.stopped ≡ false) × At old (victim_of a b len_a len_b) Urges new
+    Happens old (Look a b len_a len_b) new = (old.stopped ≡ false) × At old (longer_of a b len_a len_b) Urges new
     Happens old Call new = Calls old new
     Happens old Leave new = new ≡ left_alone old
     Happens old StopWorkers new = new ≡ record old { stopped = true }

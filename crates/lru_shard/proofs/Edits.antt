@@ -6,7 +6,7 @@ use Rattle.std.proofs.lemmas.Bool.{eqb-true, eq-eqb, cases_Bool, cond_both, cond
 use Rattle.std.proofs.lemmas.List.{map-append, length_push, get_or_push, take_at}
 use Rattle.std.proofs.lemmas.Option.{slice_get-get_or}
 use Rattle.std.proofs.lemmas.List.Elements.{filter-append}
-use Rattle.lru_shard.specs.Row.{Row, row, row_of, last_row, without_last, is_held, times, HasDistinctKeys, weight_of, without, first, last, with_weight, with_value}
+use Rattle.lru_shard.specs.Row.{Row, row, row_of, last_row, without_last, is_held, times, HasDistinctKeys, weight_of, without, with_first, with_last, with_weight, with_value}
 use Rattle.lru_shard.specs.Shard.{size_of, and_row}
 use Rattle.lru_shard.specs.Unit.{weight_at, accessed, tailed}
 use Rattle.lru_shard.proofs.Rows.{times-append, times-cons, times_yes, times_no, weight-cons, weight-append, without_absent, row_of_absent, by_key}
@@ -127,10 +127,10 @@ module _ {T : Type 0} where
     pub length-without : length (without rows k) + 1 ≡ length rows
     length-without = omega (arith, ap length a.whole, length-append a.before (r ∷ a.after), ap length without-at, length-append a.before a.after)
 
-    pub weight-first : (d : T) (w : ℕ) → weight_of (first rows (row k d w)) + r.weight ≡ weight_of rows + w
+    pub weight-first : (d : T) (w : ℕ) → weight_of (with_first rows (row k d w)) + r.weight ≡ weight_of rows + w
     weight-first d w = omega (arith, weight-without, weight-cons (row k d w) (without rows k))
 
-    pub length-first : (d : T) (w : ℕ) → length (first rows (row k d w)) ≡ length rows
+    pub length-first : (d : T) (w : ℕ) → length (with_first rows (row k d w)) ≡ length rows
     length-first d w = omega (arith, length-without)
 
     pub weight-with_weight : (w : ℕ) → weight_of (with_weight rows k w) + r.weight ≡ weight_of rows + w
@@ -146,7 +146,7 @@ module _ {T : Type 0} where
     held = ap is_some row_at_key
 
     pub tailed-there : (d : T) (w : ℕ) → tailed rows k d w ≡ rows
-    tailed-there d w = ap (λ b. cond b rows (last rows (row k d w))) held
+    tailed-there d w = ap (λ b. cond b rows (with_last rows (row k d w))) held
 
   pub last_row_push : (rows : List (Row T)) (r : Row T) → last_row (rows ++ r ∷ []) ≡ Some r
   last_row_push rows r =
@@ -157,8 +157,8 @@ module _ {T : Type 0} where
   without_last_push rows r = take_at rows (r ∷ []) (length (rows ++ r ∷ []) - 1) (omega (arith, length_push rows r))
 
   -- the rows after an access to a key that has this row
-  pub accessed_at : (rows : List (Row T)) (k : ℕ) (r : Row T) → row_of rows k ≡ Some r → accessed rows k ≡ first rows r
-  accessed_at rows k r h = ap (λ o. option_map_or (λ (x : Row T). first rows x) o rows) h
+  pub accessed_at : (rows : List (Row T)) (k : ℕ) (r : Row T) → row_of rows k ≡ Some r → accessed rows k ≡ with_first rows r
+  accessed_at rows k r h = ap (λ o. option_map_or (λ (x : Row T). with_first rows x) o rows) h
 
   module _ (rows : List (Row T)) (k : ℕ) (absent : times k rows ≡ 0) where
     pub no_row : row_of rows k ≡ None
@@ -167,21 +167,21 @@ module _ {T : Type 0} where
     pub not_held : is_held rows k ≡ false
     not_held = ap is_some no_row
 
-    pub first-new : (d : T) (w : ℕ) → first rows (row k d w) ≡ row k d w ∷ rows
+    pub first-new : (d : T) (w : ℕ) → with_first rows (row k d w) ≡ row k d w ∷ rows
     first-new d w = ap (λ rs. row k d w ∷ rs) (without_absent k rows absent)
 
     size_is : (rs : List (Row T)) (n w : ℕ) → length rs ≡ n → weight_of rs ≡ w → size_of rs ≡ record { len = n; weight = w }
     size_is rs n w p q = ap (λ m. record { len = m; weight = weight_of rs }) p ∙ ap (λ m. record { len = n; weight = m }) q
 
-    pub size-first_new : (d : T) (w : ℕ) → size_of (first rows (row k d w)) ≡ and_row (size_of rows) w
-    size-first_new d w = size_is (first rows (row k d w)) (length rows + 1) (weight_of rows + w)
+    pub size-first_new : (d : T) (w : ℕ) → size_of (with_first rows (row k d w)) ≡ and_row (size_of rows) w
+    size-first_new d w = size_is (with_first rows (row k d w)) (length rows + 1) (weight_of rows + w)
         (omega (arith, ap length (first-new d w))) (omega (arith, ap weight_of (first-new d w), weight-cons (row k d w) rows))
 
-    pub tailed-new : (d : T) (w : ℕ) → tailed rows k d w ≡ last rows (row k d w)
-    tailed-new d w = ap (λ b. cond b rows (last rows (row k d w))) not_held
+    pub tailed-new : (d : T) (w : ℕ) → tailed rows k d w ≡ with_last rows (row k d w)
+    tailed-new d w = ap (λ b. cond b rows (with_last rows (row k d w))) not_held
 
-    pub size-last : (d : T) (w : ℕ) → size_of (last rows (row k d w)) ≡ and_row (size_of rows) w
-    size-last d w = size_is (last rows (row k d w)) (length rows + 1) (weight_of rows + w)
+    pub size-last : (d : T) (w : ℕ) → size_of (with_last rows (row k d w)) ≡ and_row (size_of rows) w
+    size-last d w = size_is (with_last rows (row k d w)) (length rows + 1) (weight_of rows + w)
         (omega (arith, length-append rows (row k d w ∷ []))) (omega (arith, weight-append rows (row k d w ∷ []), weight-cons (row k d w) []))
 
     pub with_weight-absent : (w : ℕ) → with_weight rows k w ≡ rows
@@ -191,12 +191,12 @@ module _ {T : Type 0} where
     without-absent = without_absent k rows absent
 
     pub accessed-absent : accessed rows k ≡ rows
-    accessed-absent = ap (λ o. option_map_or (λ (x : Row T). first rows x) o rows) no_row
+    accessed-absent = ap (λ o. option_map_or (λ (x : Row T). with_first rows x) o rows) no_row
 
     pub weight_at-absent : weight_at rows k ≡ 0
     weight_at-absent = ap (λ o. option_map_or (λ (x : Row T). x.weight) o 0) no_row
 
-    pub distinct-last : (d : T) (w : ℕ) → HasDistinctKeys rows → HasDistinctKeys (last rows (row k d w))
+    pub distinct-last : (d : T) (w : ℕ) → HasDistinctKeys rows → HasDistinctKeys (with_last rows (row k d w))
     distinct-last d w h j =
         elim (cases_Bool (eqb k j)) [
           | inl e ↦ omega (arith, times-append j rows (row k d w ∷ []), times_yes j (row k d w) [] e, ap (λ q. times q rows) (eqb-true k j e))

@@ -6,7 +6,7 @@ use Rattle.std.proofs.lemmas.Bool.{cases_eq, cond_both}
 use Rattle.std.proofs.lemmas.List.Sums.{sum_by-take-le}
 use Rattle.lru_shard.specs.declared.unit.Refused.{Refused}
 use Rattle.lru_shard.specs.declared.unit.Cause.{Cause}
-use Rattle.lru_shard.specs.Row.{Row, row, row_of, is_held, times, first, last, without, without_last, with_weight, with_value, weight_of}
+use Rattle.lru_shard.specs.Row.{Row, row, row_of, is_held, times, with_first, with_last, without, without_last, with_weight, with_value, weight_of}
 use Rattle.lru_shard.specs.Shard.{Shard, shard, IsShard}
 use Rattle.lru_shard.specs.Unit.{Admits, InsertsTail, SetsWeight, IncrementsRow, IncrementsWeight, UpdatesRow, UpdatesOrAdmits, accessed, tailed, raised, started}
 use Rattle.lru_shard.proofs.Rows.{times-append, times_no, times-without_other}
@@ -26,29 +26,29 @@ module _ {T : Type 0} where
   to_rows : (key : ℕ) (x y : Shard T) (rows : List (Row T)) → ((k : ℕ) → 0 < times k rows → (0 < times k x.rows) ⊎ (k ≡ key)) → y ≡ shard rows x.cap → Edit key x y
   to_rows key x y rows h e = record { caps = ap (λ (s : Shard T). s.cap) e; fresh = λ k lt. h k (omega (arith, lt, ap (λ (s : Shard T). times k s.rows) e)) }
 
-  fresh_first : (rows : List (Row T)) (r : Row T) (k : ℕ) → 0 < times k (first rows r) → (0 < times k rows) ⊎ (k ≡ r.key)
+  fresh_first : (rows : List (Row T)) (r : Row T) (k : ℕ) → 0 < times k (with_first rows r) → (0 < times k rows) ⊎ (k ≡ r.key)
   fresh_first rows r k h =
       elim (cases_eq k r.key) [
         | inl e ↦ inr e
         | inr ne ↦ inl (omega (arith, h, times_no k r (without rows r.key) (ne_eqb r.key k (λ e. ne (sym e))), times-without_other k r.key rows ne))
       ]
 
-  fresh_last : (rows : List (Row T)) (r : Row T) (k : ℕ) → 0 < times k (last rows r) → (0 < times k rows) ⊎ (k ≡ r.key)
+  fresh_last : (rows : List (Row T)) (r : Row T) (k : ℕ) → 0 < times k (with_last rows r) → (0 < times k rows) ⊎ (k ≡ r.key)
   fresh_last rows r k h =
       elim (cases_eq k r.key) [
         | inl e ↦ inr e
         | inr ne ↦ inl (omega (arith, h, times-append k rows (r ∷ []), times_no k r [] (ne_eqb r.key k (λ e. ne (sym e)))))
       ]
 
-  put_first : (key : ℕ) (x y : Shard T) (r : Row T) → r.key ≡ key → y ≡ shard (first x.rows r) x.cap → Edit key x y
-  put_first key x y r same e = to_rows key x y (first x.rows r) (λ k h. elim (fresh_first x.rows r k h) [ inl old ↦ inl old | inr new ↦ inr (new ∙ same) ]) e
+  put_first : (key : ℕ) (x y : Shard T) (r : Row T) → r.key ≡ key → y ≡ shard (with_first x.rows r) x.cap → Edit key x y
+  put_first key x y r same e = to_rows key x y (with_first x.rows r) (λ k h. elim (fresh_first x.rows r k h) [ inl old ↦ inl old | inr new ↦ inr (new ∙ same) ]) e
 
   fresh_tailed : (rows : List (Row T)) (key : ℕ) (d : T) (w k : ℕ) → 0 < times k (tailed rows key d w) → (0 < times k rows) ⊎ (k ≡ key)
   fresh_tailed rows key d w k =
-      cond_both (is_held rows key) rows (last rows (row key d w)) (λ rs. 0 < times k rs → (0 < times k rows) ⊎ (k ≡ key)) (λ _ h. inl h) (λ _ h. fresh_last rows (row key d w) k h)
+      cond_both (is_held rows key) rows (with_last rows (row key d w)) (λ rs. 0 < times k rs → (0 < times k rows) ⊎ (k ≡ key)) (λ _ h. inl h) (λ _ h. fresh_last rows (row key d w) k h)
 
   pub edits_admit : (a : Shard T) (k : ℕ) (d : T) (w : ℕ) (answer : Result ℕ (Refused T)) (b : Shard T) → Admits a k d w answer b → Edit k a b
-  edits_admit a k d w (Ok was) b h = to_rows k a b (first a.rows (row k d w)) (fresh_first a.rows (row k d w)) h.1.left
+  edits_admit a k d w (Ok was) b h = to_rows k a b (with_first a.rows (row k d w)) (fresh_first a.rows (row k d w)) h.1.left
   edits_admit a k d w (Err r) b h = same_edit k a b h.declines.left
 
   pub edits_tail : (a : Shard T) (k : ℕ) (d : T) (w : ℕ) (answer : Result Bool (Refused T)) (b : Shard T) → InsertsTail a k d w answer b → Edit k a b
@@ -92,16 +92,16 @@ module _ {T : Type 0} where
 
   accessed_row : (a : Shard T) (k : ℕ) (b : Shard T) → IsShard a → b ≡ shard (accessed a.rows k) a.cap → (o : Option (Row T)) → row_of a.rows k ≡ o → Accessed k a b
   accessed_row a k b valid e None none =
-      let same : b ≡ a = e ∙ ap (λ rs. shard rs a.cap) (ap (λ o. option_map_or (λ (r : Row T). first a.rows r) o a.rows) none) in
+      let same : b ≡ a = e ∙ ap (λ rs. shard rs a.cap) (ap (λ o. option_map_or (λ (r : Row T). with_first a.rows r) o a.rows) none) in
       record { edit = same_edit k a b same; valid = subst IsShard (sym same) valid; same_weight = ap (λ (s : Shard T). weight_of s.rows) same; same_length = ap (λ (s : Shard T). length s.rows) same }
   accessed_row a k b valid e (Some r) found =
       let at = at_row a.rows k r valid.keys found in
-      let rows : accessed a.rows k ≡ first a.rows (row k r.value r.weight) = accessed_at a.rows k r found ∙ ap (λ j. row j r.value r.weight ∷ without a.rows j) at.same_key in
-      let new : b ≡ shard (first a.rows (row k r.value r.weight)) a.cap = e ∙ ap (λ rs. shard rs a.cap) rows in
+      let rows : accessed a.rows k ≡ with_first a.rows (row k r.value r.weight) = accessed_at a.rows k r found ∙ ap (λ j. row j r.value r.weight ∷ without a.rows j) at.same_key in
+      let new : b ≡ shard (with_first a.rows (row k r.value r.weight)) a.cap = e ∙ ap (λ rs. shard rs a.cap) rows in
       let w = weight-first a.rows k r at r.value r.weight in
       let l = length-first a.rows k r at r.value r.weight in
       record {
-        edit = to_rows k a b (first a.rows (row k r.value r.weight)) (fresh_first a.rows (row k r.value r.weight)) new;
+        edit = to_rows k a b (with_first a.rows (row k r.value r.weight)) (fresh_first a.rows (row k r.value r.weight)) new;
         valid = subst IsShard (sym new) (record { keys = distinct-first a.rows (row k r.value r.weight) valid.keys; light = omega (arith, w, valid.light); short = omega (arith, l, valid.short) });
         same_weight = ap (λ (s : Shard T). weight_of s.rows) new ∙ omega (arith, w);
         same_length = ap (λ (s : Shard T). length s.rows) new ∙ l;

@@ -1,7 +1,7 @@
 -- Laws of refusals: when there is one, and what a list that is not refused keeps to.
 use Rattle.std.proofs.Common.{◌≡◌, ℕ, ◌+◌, ◌<◌, ◌≤◌, Bool, true, false, cond, ltb, leb, ◌&&◌, List, length, ◌++◌, Some, None, refl, sym, ap, ◌∙◌, arith, ◌⊎◌, inl, inr, length-append}
 use Rattle.std.proofs.lemmas.Bool.{cases_Bool, cases_lt, lt-ltb, le-ltb, le-leb, lt-leb, and_from, and_left, and_right}
-use Rattle.lru_shard.specs.Row.{Row, HasDistinctKeys, first}
+use Rattle.lru_shard.specs.Row.{Row, HasDistinctKeys, with_first}
 use Rattle.lru_shard.specs.Shard.{shard, IsShard, Size, size_of, most_rows, refusal}
 use Rattle.lru_shard.specs.declared.unit.Cause.TheVariants.{Weight, Length}
 use Rattle.lru_shard.proofs.Rows.{weight-append, distinct-front, distinct-first, length-without-le}
@@ -52,9 +52,9 @@ module _ {T : Type 0} where
     short = allowed_short cap (size_of old) (size_of new) valid.short one allowed;
   }
 
-  pub IsShard-first : (cap : ℕ) (rows : List (Row T)) (r : Row T) → IsShard (shard rows cap) → refusal cap (size_of rows) (size_of (first rows r)) ≡ None → IsShard (shard (first rows r) cap)
+  pub IsShard-first : (cap : ℕ) (rows : List (Row T)) (r : Row T) → IsShard (shard rows cap) → refusal cap (size_of rows) (size_of (with_first rows r)) ≡ None → IsShard (shard (with_first rows r) cap)
   IsShard-first cap rows r h allowed =
-      IsShard-allowed cap rows (first rows r) h (distinct-first rows r h.keys) (omega (arith, length-without-le r.key rows)) allowed
+      IsShard-allowed cap rows (with_first rows r) h (distinct-first rows r h.keys) (omega (arith, length-without-le r.key rows)) allowed
 
   -- a shard without its last rows
   pub IsShard-front : (cap : ℕ) (xs ys : List (Row T)) → IsShard (shard (xs ++ ys) cap) → IsShard (shard xs cap)

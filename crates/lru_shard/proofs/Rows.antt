@@ -2,7 +2,7 @@
 use Rattle.std.proofs.Common.{◌≡◌, ℕ, ◌+◌, ◌≤◌, true, false, cond, not, eqb, List, [], ◌∷◌, ◌++◌, length, Some, None, refl, sym, ap, ◌∙◌, arith, ◌≢◌, inl, inr}
 use Rattle.std.proofs.lemmas.Bool.{eqb-true, eqb-false, eq-eqb, ne_eqb, cases_eq, cond_both, not-true, not-false}
 use Rattle.std.proofs.lemmas.List.Sums.{sum_by-cons, sum_by-append}
-use Rattle.lru_shard.specs.Row.{Row, times, HasDistinctKeys, weight_of, row_of, without, first}
+use Rattle.lru_shard.specs.Row.{Row, times, HasDistinctKeys, weight_of, row_of, without, with_first}
 
 module _ {T : Type 0} where
   pub times-cons : (k : ℕ) (r : Row T) (rows : List (Row T)) → times k (r ∷ rows) ≡ cond (eqb r.key k) 1 0 + times k rows
@@ -76,7 +76,7 @@ module _ {T : Type 0} where
       by_key k r rows (λ rs. length rs ≤ length (r ∷ rows)) (λ e. omega (arith, length-without-le k rows)) (λ e. omega (arith, length-without-le k rows))
 
   -- the new list of an `admit` has distinct keys
-  pub distinct-first : (rows : List (Row T)) (r : Row T) → HasDistinctKeys rows → HasDistinctKeys (first rows r)
+  pub distinct-first : (rows : List (Row T)) (r : Row T) → HasDistinctKeys rows → HasDistinctKeys (with_first rows r)
   distinct-first rows r h k =
       elim (cases_eq k r.key) [
         | inl e ↦ rw e (omega (arith, times_yes r.key r (without rows r.key) (eq-eqb _ _ refl), times-without_same r.key rows))

@@ -7,7 +7,7 @@ use Rattle.std.proofs.lemmas.Bool.{cond_both, eq-eqb, ne_eqb, cases_eq}
 use Rattle.std.proofs.lemmas.List.{map-append}
 use Rattle.std.proofs.lemmas.List.Elements.{filter-append, filter_map-append}
 use Rattle.lru_shard.specs.declared.unit.Node.{Node}
-use Rattle.lru_shard.specs.Row.{Row, row_of, is_held, pair_of, times, first, without, weight_of}
+use Rattle.lru_shard.specs.Row.{Row, row_of, is_held, pair_of, times, with_first, without, weight_of}
 use Rattle.lru_shard.specs.Shard.{shard, IsShard}
 use Rattle.lru_shard.specs.Representation.Table.{row_at, rows_of, Knows, KnowsAll, Stands, IsTied, IsUnit, pairs_of, FindsAll}
 use Rattle.lru_shard.proofs.Rows.{times-append, times_yes, times_no}
@@ -241,7 +241,7 @@ module _ {T : Type 0} where
           knows_it : Knows new (n.list_index, k)
           knows_it = record { node = n'; found = set; place = place }
 
-          pub put_first : Shows new ((n.list_index, k) ∷ here.before ++ here.after) (first (rows_of look order.live) (row_at k n'))
+          pub put_first : Shows new ((n.list_index, k) ∷ here.before ++ here.after) (with_first (rows_of look order.live) (row_at k n'))
           put_first = record {
             rows_are = rows-cons new (n.list_index, k) (here.before ++ here.after) n' set ∙ ap (λ rs. row_at k n' ∷ rs) others_same;
             tied = record {
@@ -254,8 +254,8 @@ module _ {T : Type 0} where
           }
 
           -- the same, as a call that promotes the key sees it
-          pub promotes : Shows new (promoted order n.list_index).live (first (rows_of look order.live) (row_at k n'))
-          promotes = subst (λ live. Shows new live (first (rows_of look order.live) (row_at k n'))) (sym live-promoted) put_first
+          pub promotes : Shows new (promoted order n.list_index).live (with_first (rows_of look order.live) (row_at k n'))
+          promotes = subst (λ live. Shows new live (with_first (rows_of look order.live) (row_at k n'))) (sym live-promoted) put_first
 
           pub stays : Shows new order.live (rows_of look here.before ++ row_at k n' ∷ rows_of look here.after)
           stays = record {

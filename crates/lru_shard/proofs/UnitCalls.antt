@@ -7,7 +7,7 @@ use Rattle.lru_shard.specs.declared.unit.Cause.{Cause}
 use Rattle.lru_shard.specs.declared.unit.Cause.TheVariants.{Memory, Weight, Length}
 use Rattle.lru_list.specs.declared.linked_list.PushError.{PushError}
 use Rattle.lru_list.specs.declared.linked_list.PushError.TheVariants.{Memory as NoMemory, Full}
-use Rattle.lru_shard.specs.Row.{Row, row, row_of, pair_of, last_row, without_last, times, first, last, without, with_weight, with_value, weight_of}
+use Rattle.lru_shard.specs.Row.{Row, row, row_of, pair_of, last_row, without_last, times, with_first, with_last, without, with_weight, with_value, weight_of}
 use Rattle.lru_shard.specs.Shard.{Shard, shard, IsShard, Size, size_of, and_row, most_rows, is_full, refusal, MayRefuse, Accepts}
 use Rattle.lru_shard.specs.Representation.Table.{row_at, rows_of, IsUnit}
 use Rattle.lru_shard.proofs.Refusals.{IsShard-front, refusal_none, refusal_weight, allowed_light, IsShard-allowed, IsShard-first}
@@ -36,7 +36,7 @@ refused_push old pushed x (Full y) new h = h.2
 
 module _ {T : Type 0} where
   pub tailed_same : (rows : List (Row T)) (k : ℕ) (r : Row T) → row_of rows k ≡ Some r → (d : T) (w : ℕ) → tailed rows k d w ≡ rows
-  tailed_same rows k r h d w = ap (λ o. cond (is_some o) rows (last rows (row k d w))) h
+  tailed_same rows k r h d w = ap (λ o. cond (is_some o) rows (with_last rows (row k d w))) h
 
   pub there_is : (o : Option (Node T)) → is_some o ≡ true → (n : Node T) × (o ≡ Some n)
   there_is None h = absurd (false≢true h)
@@ -86,17 +86,17 @@ module _ {T : Type 0} where
       part = omega (arith, weight-without (rows_of look order.live) k (row_at k n) at, u.used_is)
 
       -- the sizes with another weight
-      new_weight : (d : T) (w : ℕ) → weight_of (first (rows_of look order.live) (row k d w)) + n.weight ≡ used + w
+      new_weight : (d : T) (w : ℕ) → weight_of (with_first (rows_of look order.live) (row k d w)) + n.weight ≡ used + w
       new_weight d w = omega (arith, weight-first (rows_of look order.live) k (row_at k n) at d w, u.used_is)
 
-      as_long : (d : T) (w : ℕ) → length (first (rows_of look order.live) (row k d w)) ≡ length (rows_of look order.live)
+      as_long : (d : T) (w : ℕ) → length (with_first (rows_of look order.live) (row k d w)) ≡ length (rows_of look order.live)
       as_long d w = length-first (rows_of look order.live) k (row_at k n) at d w
 
-      pub heavy_first : (d : T) (w : ℕ) → cap - (used - n.weight) < w → refusal cap (size_of (rows_of look order.live)) (size_of (first (rows_of look order.live) (row k d w))) ≡ Some Weight
-      heavy_first d w h = refusal_weight cap (size_of (rows_of look order.live)) (size_of (first (rows_of look order.live) (row k d w))) (inl (omega (arith, as_long d w))) (omega (arith, new_weight d w, part))
+      pub heavy_first : (d : T) (w : ℕ) → cap - (used - n.weight) < w → refusal cap (size_of (rows_of look order.live)) (size_of (with_first (rows_of look order.live) (row k d w))) ≡ Some Weight
+      heavy_first d w h = refusal_weight cap (size_of (rows_of look order.live)) (size_of (with_first (rows_of look order.live) (row k d w))) (inl (omega (arith, as_long d w))) (omega (arith, new_weight d w, part))
 
-      pub fits_first : (d : T) (w : ℕ) → w ≤ cap - (used - n.weight) → refusal cap (size_of (rows_of look order.live)) (size_of (first (rows_of look order.live) (row k d w))) ≡ None
-      fits_first d w h = refusal_none cap (size_of (rows_of look order.live)) (size_of (first (rows_of look order.live) (row k d w))) (inl (omega (arith, as_long d w))) (omega (arith, new_weight d w, part, u.valid.light, u.used_is))
+      pub fits_first : (d : T) (w : ℕ) → w ≤ cap - (used - n.weight) → refusal cap (size_of (rows_of look order.live)) (size_of (with_first (rows_of look order.live) (row k d w))) ≡ None
+      fits_first d w h = refusal_none cap (size_of (rows_of look order.live)) (size_of (with_first (rows_of look order.live) (row k d w))) (inl (omega (arith, as_long d w))) (omega (arith, new_weight d w, part, u.valid.light, u.used_is))
 
       with_weight_is : (w : ℕ) → weight_of (with_weight (rows_of look order.live) k w) + n.weight ≡ used + w
       with_weight_is w = omega (arith, weight-with_weight (rows_of look order.live) k (row_at k n) at w, u.used_is)
@@ -123,12 +123,12 @@ module _ {T : Type 0} where
       module _ (new : ℕ → Option (Node T)) (n' : Node T) (puts : Puts k n' look new) (place : n'.list_index ≡ n.list_index) where
         -- and the key goes first
         module _ (order' : Linked ℕ) (is : order' ≡ promoted order n.list_index) where
-          pub shows_first : Shows new order'.live (first (rows_of look order.live) (row_at k n'))
-          shows_first = subst (λ (l : Linked ℕ). Shows new l.live (first (rows_of look order.live) (row_at k n'))) (sym is)
+          pub shows_first : Shows new order'.live (with_first (rows_of look order.live) (row_at k n'))
+          shows_first = subst (λ (l : Linked ℕ). Shows new l.live (with_first (rows_of look order.live) (row_at k n'))) (sym is)
               (promotes look order used cap u k n found new (puts_off k n' look new puts) n' (puts_set k n' look new puts) place)
 
           pub unit_first : IsNumbered order' → n'.weight ≤ cap - (used - n.weight) → IsUnit new order' (used - n.weight + n'.weight) cap
-          unit_first numbered fits = IsUnit-shown new order' (used - n.weight + n'.weight) cap (first (rows_of look order.live) (row_at k n')) shows_first numbered
+          unit_first numbered fits = IsUnit-shown new order' (used - n.weight + n'.weight) cap (with_first (rows_of look order.live) (row_at k n')) shows_first numbered
               (IsShard-first cap (rows_of look order.live) (row_at k n') u.valid (fits_first n'.«data» n'.weight fits))
               (omega (arith, new_weight n'.«data» n'.weight, part))
 
@@ -165,7 +165,7 @@ module _ {T : Type 0} where
             (omega (arith, u.used_is, weight-with_value (rows_of look order.live) k (row_at k n) at n'.«data»))
 
       -- the key's row goes first as it is
-      pub shows_accessed : (order' : Linked ℕ) → order' ≡ promoted order n.list_index → Shows look order'.live (first (rows_of look order.live) (row_at k n))
+      pub shows_accessed : (order' : Linked ℕ) → order' ≡ promoted order n.list_index → Shows look order'.live (with_first (rows_of look order.live) (row_at k n))
       shows_accessed order' is = shows_first look n (puts_same k n look found) refl order' is
 
       pub unit_accessed : (order' : Linked ℕ) → order' ≡ promoted order n.list_index → IsNumbered order' → IsUnit look order' used cap
@@ -235,18 +235,18 @@ module _ {T : Type 0} where
       pub no_row_there : row_of (rows_of look order.live) k ≡ None
       no_row_there = no_row (rows_of look order.live) k no_times
 
-      pub size_first : (d : T) (w : ℕ) → size_of (first (rows_of look order.live) (row k d w)) ≡ and_row (size_of (rows_of look order.live)) w
+      pub size_first : (d : T) (w : ℕ) → size_of (with_first (rows_of look order.live) (row k d w)) ≡ and_row (size_of (rows_of look order.live)) w
       size_first d w = size-first_new (rows_of look order.live) k no_times d w
 
-      pub size_last : (d : T) (w : ℕ) → size_of (last (rows_of look order.live) (row k d w)) ≡ and_row (size_of (rows_of look order.live)) w
+      pub size_last : (d : T) (w : ℕ) → size_of (with_last (rows_of look order.live) (row k d w)) ≡ and_row (size_of (rows_of look order.live)) w
       size_last d w = size-last (rows_of look order.live) k no_times d w
 
       pub allowed_first : (d : T) (w : ℕ) → refusal cap (size_of (rows_of look order.live)) (and_row (size_of (rows_of look order.live)) w) ≡ None →
-          refusal cap (size_of (rows_of look order.live)) (size_of (first (rows_of look order.live) (row k d w))) ≡ None
+          refusal cap (size_of (rows_of look order.live)) (size_of (with_first (rows_of look order.live) (row k d w))) ≡ None
       allowed_first d w h = ap (refusal cap (size_of (rows_of look order.live))) (size_first d w) ∙ h
 
       pub allowed_last : (d : T) (w : ℕ) → refusal cap (size_of (rows_of look order.live)) (and_row (size_of (rows_of look order.live)) w) ≡ None →
-          refusal cap (size_of (rows_of look order.live)) (size_of (last (rows_of look order.live) (row k d w))) ≡ None
+          refusal cap (size_of (rows_of look order.live)) (size_of (with_last (rows_of look order.live) (row k d w))) ≡ None
       allowed_last d w h = ap (refusal cap (size_of (rows_of look order.live))) (size_last d w) ∙ h
 
       pub used_fits : (w : ℕ) → refusal cap (size_of (rows_of look order.live)) (and_row (size_of (rows_of look order.live)) w) ≡ None → used + w ≤ cap
@@ -258,27 +258,27 @@ module _ {T : Type 0} where
         puts_here q = puts q ∙ ap (cond (eqb k q) (Some n')) (same q)
 
         module _ (order' : Linked ℕ) (index : n'.list_index ≡ next_slot order) where
-          pub shows_new : order' ≡ pushed_head order k → Shows new order'.live (first (rows_of look order.live) (row_at k n'))
+          pub shows_new : order' ≡ pushed_head order k → Shows new order'.live (with_first (rows_of look order.live) (row_at k n'))
           shows_new is =
-              subst (λ (l : Linked ℕ). Shows new l.live (first (rows_of look order.live) (row_at k n'))) (sym is)
-              (subst (λ i. Shows new ((i, k) ∷ order.live) (first (rows_of look order.live) (row_at k n'))) index
+              subst (λ (l : Linked ℕ). Shows new l.live (with_first (rows_of look order.live) (row_at k n'))) (sym is)
+              (subst (λ i. Shows new ((i, k) ∷ order.live) (with_first (rows_of look order.live) (row_at k n'))) index
               (subst (Shows new ((n'.list_index, k) ∷ order.live)) (sym (first-new (rows_of look order.live) k no_times n'.«data» n'.weight))
               (new_first look order used cap u k none new (puts_off k n' look new puts_here) n' (puts_set k n' look new puts_here))))
 
           pub unit_new : order' ≡ pushed_head order k → IsNumbered order' → refusal cap (size_of (rows_of look order.live)) (and_row (size_of (rows_of look order.live)) n'.weight) ≡ None → IsUnit new order' (used + n'.weight) cap
-          unit_new is numbered fits = IsUnit-shown new order' (used + n'.weight) cap (first (rows_of look order.live) (row_at k n')) (shows_new is) numbered
+          unit_new is numbered fits = IsUnit-shown new order' (used + n'.weight) cap (with_first (rows_of look order.live) (row_at k n')) (shows_new is) numbered
               (IsShard-first cap (rows_of look order.live) (row_at k n') u.valid (allowed_first n'.«data» n'.weight fits))
               (omega (arith, u.used_is, ap (λ (z : Size). z.weight) (size_first n'.«data» n'.weight)))
 
-          pub shows_tail : order' ≡ pushed_tail order k → Shows new order'.live (last (rows_of look order.live) (row_at k n'))
+          pub shows_tail : order' ≡ pushed_tail order k → Shows new order'.live (with_last (rows_of look order.live) (row_at k n'))
           shows_tail is =
-              subst (λ (l : Linked ℕ). Shows new l.live (last (rows_of look order.live) (row_at k n'))) (sym is)
-              (subst (λ i. Shows new (order.live ++ (i, k) ∷ []) (last (rows_of look order.live) (row_at k n'))) index
+              subst (λ (l : Linked ℕ). Shows new l.live (with_last (rows_of look order.live) (row_at k n'))) (sym is)
+              (subst (λ i. Shows new (order.live ++ (i, k) ∷ []) (with_last (rows_of look order.live) (row_at k n'))) index
               (new_last look order used cap u k none new (puts_off k n' look new puts_here) n' (puts_set k n' look new puts_here)))
 
           pub unit_tail : order' ≡ pushed_tail order k → IsNumbered order' → refusal cap (size_of (rows_of look order.live)) (and_row (size_of (rows_of look order.live)) n'.weight) ≡ None → IsUnit new order' (used + n'.weight) cap
-          unit_tail is numbered fits = IsUnit-shown new order' (used + n'.weight) cap (last (rows_of look order.live) (row_at k n')) (shows_tail is) numbered
-              (IsShard-allowed cap (rows_of look order.live) (last (rows_of look order.live) (row_at k n')) u.valid (distinct-last (rows_of look order.live) k no_times n'.«data» n'.weight u.valid.keys)
+          unit_tail is numbered fits = IsUnit-shown new order' (used + n'.weight) cap (with_last (rows_of look order.live) (row_at k n')) (shows_tail is) numbered
+              (IsShard-allowed cap (rows_of look order.live) (with_last (rows_of look order.live) (row_at k n')) u.valid (distinct-last (rows_of look order.live) k no_times n'.«data» n'.weight u.valid.keys)
               (omega (arith, ap (λ (z : Size). z.len) (size_last n'.«data» n'.weight))) (allowed_last n'.«data» n'.weight fits))
               (omega (arith, u.used_is, ap (λ (z : Size). z.weight) (size_last n'.«data» n'.weight)))
 
@@ -292,26 +292,26 @@ module _ {T : Type 0} where
       ]
 
   module _ (rows : List (Row T)) (k : ℕ) (none : row_of rows k ≡ None) (cap : ℕ) (d : T) (w : ℕ) where
-    to_first : (cause : Cause) → MayRefuse cap (size_of rows) (and_row (size_of rows) w) cause → MayRefuse cap (size_of rows) (size_of (first rows (row k d w))) cause
+    to_first : (cause : Cause) → MayRefuse cap (size_of rows) (and_row (size_of rows) w) cause → MayRefuse cap (size_of rows) (size_of (with_first rows (row k d w))) cause
     to_first cause = subst (λ s. MayRefuse cap (size_of rows) s cause) (sym (size-first_new rows k (times_none rows k none) d w))
 
     to_last : (cause : Cause) → MayRefuse cap (size_of rows) (and_row (size_of rows) w) cause → MayRefuse cap (size_of rows) (size_of (tailed rows k d w)) cause
     to_last cause = subst (λ s. MayRefuse cap (size_of rows) s cause)
         (sym (ap size_of (tailed-new rows k (times_none rows k none) d w) ∙ size-last rows k (times_none rows k none) d w))
 
-    pub refused_first : (cause : Cause) → refusal cap (size_of rows) (and_row (size_of rows) w) ≡ Some cause → MayRefuse cap (size_of rows) (size_of (first rows (row k d w))) cause
+    pub refused_first : (cause : Cause) → refusal cap (size_of rows) (and_row (size_of rows) w) ≡ Some cause → MayRefuse cap (size_of rows) (size_of (with_first rows (row k d w))) cause
     refused_first cause h = to_first cause (may_refuse cap (size_of rows) (and_row (size_of rows) w) cause h)
 
     pub refused_last : (cause : Cause) → refusal cap (size_of rows) (and_row (size_of rows) w) ≡ Some cause → MayRefuse cap (size_of rows) (size_of (tailed rows k d w)) cause
     refused_last cause h = to_last cause (may_refuse cap (size_of rows) (and_row (size_of rows) w) cause h)
 
-    pub wants_first : refusal cap (size_of rows) (and_row (size_of rows) w) ≡ None → MayRefuse cap (size_of rows) (size_of (first rows (row k d w))) Memory
+    pub wants_first : refusal cap (size_of rows) (and_row (size_of rows) w) ≡ None → MayRefuse cap (size_of rows) (size_of (with_first rows (row k d w))) Memory
     wants_first h = to_first Memory (h, omega arith)
 
     pub wants_last : refusal cap (size_of rows) (and_row (size_of rows) w) ≡ None → MayRefuse cap (size_of rows) (size_of (tailed rows k d w)) Memory
     wants_last h = to_last Memory (h, omega arith)
 
-    pub tailed_is : tailed rows k d w ≡ last rows (row k d w)
+    pub tailed_is : tailed rows k d w ≡ with_last rows (row k d w)
     tailed_is = tailed-new rows k (times_none rows k none) d w
 
     pub no_weight : 0 ≡ weight_at rows k
@@ -328,21 +328,21 @@ module _ {T : Type 0} where
         (subst (λ z. AdmitsMade Makes z k (started delta most) (Err cause) new) same (subst (λ v. AdmitsMade Makes s k v (Err cause) new) w_is h))
 
   module _ (Makes : T → Type 0) (s : Shard T) (k delta : ℕ) (most : Option ℕ) (r : Row T) (there_row : row_of s.rows k ≡ Some r) (w : ℕ) (w_is : w ≡ raised r.weight delta most) (new : Shard T) where
-    pub increments : Accepts s new (first s.rows (row k r.value w)) → IncrementsWeight Makes s k delta most (Ok (r.weight, w, false)) new
+    pub increments : Accepts s new (with_first s.rows (row k r.value w)) → IncrementsWeight Makes s k delta most (Ok (r.weight, w, false)) new
     increments h = subst (λ o. IncrementsRow Makes s k delta most o (Ok (r.weight, w, false)) new) (sym there_row)
-        ((refl, (w_is, refl)), subst (λ v. Accepts s new (first s.rows (row k r.value v))) w_is h)
+        ((refl, (w_is, refl)), subst (λ v. Accepts s new (with_first s.rows (row k r.value v))) w_is h)
 
-    pub increments_heavy : refusal s.cap (size_of s.rows) (size_of (first s.rows (row k r.value w))) ≡ Some Weight → new ≡ s → IncrementsWeight Makes s k delta most (Err Weight) new
+    pub increments_heavy : refusal s.cap (size_of s.rows) (size_of (with_first s.rows (row k r.value w))) ≡ Some Weight → new ≡ s → IncrementsWeight Makes s k delta most (Err Weight) new
     increments_heavy h left = subst (λ o. IncrementsRow Makes s k delta most o (Err Weight) new) (sym there_row)
-        (record { may = ap (λ v. refusal s.cap (size_of s.rows) (size_of (first s.rows (row k r.value v)))) (sym w_is) ∙ h; left = left })
+        (record { may = ap (λ v. refusal s.cap (size_of s.rows) (size_of (with_first s.rows (row k r.value v)))) (sym w_is) ∙ h; left = left })
 
   module _ (Changes : T → ℕ → ℕ → T → Type 0) (Makes : T × ℕ → Type 0) (s : Shard T) (k : ℕ) (r : Row T) (there_row : row_of s.rows k ≡ Some r) (d : T) (given : ℕ) (changes : Changes r.value r.weight given d) (new : Shard T) where
-    pub updates : (w : ℕ) → w ≡ max given 1 → Accepts s new (first s.rows (row k d w)) → UpdatesOrAdmits Changes Makes s k (Ok (Some r.weight, w)) new
+    pub updates : (w : ℕ) → w ≡ max given 1 → Accepts s new (with_first s.rows (row k d w)) → UpdatesOrAdmits Changes Makes s k (Ok (Some r.weight, w)) new
     updates w w_is h = subst (λ o. UpdatesRow Changes Makes s k o (Ok (Some r.weight, w)) new) (sym there_row)
-        (d, (given, (changes, ((refl, w_is), subst (λ v. Accepts s new (first s.rows (row k d v))) w_is h))))
+        (d, (given, (changes, ((refl, w_is), subst (λ v. Accepts s new (with_first s.rows (row k d v))) w_is h))))
 
     pub updates_heavy : (refused : Refused (Option (T × ℕ))) → refused.cause ≡ Weight → refused.held ≡ None → (w : ℕ) → w ≡ max given 1 →
-        refusal s.cap (size_of s.rows) (size_of (first s.rows (row k d w))) ≡ Some Weight → new ≡ shard (with_value s.rows k d) s.cap → UpdatesOrAdmits Changes Makes s k (Err refused) new
+        refusal s.cap (size_of s.rows) (size_of (with_first s.rows (row k d w))) ≡ Some Weight → new ≡ shard (with_value s.rows k d) s.cap → UpdatesOrAdmits Changes Makes s k (Err refused) new
     updates_heavy refused cause held w w_is h left = subst (λ o. UpdatesRow Changes Makes s k o (Err refused) new) (sym there_row) (
       d,
       (
@@ -350,8 +350,8 @@ module _ {T : Type 0} where
         (
           changes,
           (
-            subst (MayRefuse s.cap (size_of s.rows) (size_of (first s.rows (row k d (max given 1))))) (sym cause)
-                (ap (λ v. refusal s.cap (size_of s.rows) (size_of (first s.rows (row k d v)))) (sym w_is) ∙ h),
+            subst (MayRefuse s.cap (size_of s.rows) (size_of (with_first s.rows (row k d (max given 1))))) (sym cause)
+                (ap (λ v. refusal s.cap (size_of s.rows) (size_of (with_first s.rows (row k d v)))) (sym w_is) ∙ h),
             (held, left),
           ),
         ),
@@ -367,9 +367,9 @@ module _ {T : Type 0} where
       refusal s.cap (size_of s.rows) (and_row (size_of s.rows) (max made.1 1)) ≡ Some Weight → RefusesNew Makes s cause held
   given_heavy Makes s cause held made makes is_weight held_is h = subst (λ x. RefusesNew Makes s x held) (sym is_weight) (made, (makes, (held_is, h)))
 
-  pub given_fits : (Makes : T × ℕ → Type 0) (s : Shard T) (k : ℕ) (made : T × ℕ) (w : ℕ) (new : Shard T) → Makes made → w ≡ max made.1 1 → Accepts s new (first s.rows (row k made.0 w)) →
+  pub given_fits : (Makes : T × ℕ → Type 0) (s : Shard T) (k : ℕ) (made : T × ℕ) (w : ℕ) (new : Shard T) → Makes made → w ≡ max made.1 1 → Accepts s new (with_first s.rows (row k made.0 w)) →
       AdmitsGiven Makes s k (Ok (None, w)) new
-  given_fits Makes s k made w new makes w_is h = (made, (makes, ((refl, w_is), subst (λ v. Accepts s new (first s.rows (row k made.0 v))) w_is h)))
+  given_fits Makes s k made w new makes w_is h = (made, (makes, ((refl, w_is), subst (λ v. Accepts s new (with_first s.rows (row k made.0 v))) w_is h)))
 
 -- a row more, where the shard is not full
 pub light_row : (cap : ℕ) (s : Size) (w : ℕ) → is_full cap s ≡ false → s.weight + w ≤ cap → refusal cap s (and_row s w) ≡ None

@@ -46,12 +46,12 @@ module _ {T : Type 0} where
   without rows k = filter (λ r. not (r.key == k)) rows
 
   -- a row goes first, in place of its key's
-  abbrev pub first : List (Row T) → Row T → List (Row T)
-  first rows r = r ∷ without rows r.key
+  abbrev pub with_first : List (Row T) → Row T → List (Row T)
+  with_first rows r = r ∷ without rows r.key
 
   -- a row goes last
-  abbrev pub last : List (Row T) → Row T → List (Row T)
-  last rows r = rows ++ r ∷ []
+  abbrev pub with_last : List (Row T) → Row T → List (Row T)
+  with_last rows r = rows ++ r ∷ []
 
   -- the rows with another weight for that key, in the same order
   abbrev pub with_weight : List (Row T) → ℕ → ℕ → List (Row T)

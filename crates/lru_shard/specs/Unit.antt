@@ -6,7 +6,7 @@ use Rattle.std.specs.Borrow.{Bor, MutBor}
 use Rattle.lru_shard.specs.declared.unit.Refused.{Refused}
 use Rattle.lru_shard.specs.declared.unit.Cause.{Cause}
 use Rattle.lru_shard.specs.declared.unit.Cause.TheVariants.{Memory, Weight, Length}
-use Rattle.lru_shard.specs.Row.{Row, row, row_of, pair_of, is_held, first, last, with_weight, with_value}
+use Rattle.lru_shard.specs.Row.{Row, row, row_of, pair_of, is_held, with_first, with_last, with_weight, with_value}
 use Rattle.lru_shard.specs.Shard.{Shard, shard, size_of, and_row, is_full, refusal, MayRefuse, Accepts, Declines, Refuses}
 
 -- a present row grows by delta, up to the most but never down to it; no weight is above the greatest number
@@ -28,6 +28,10 @@ pub record Updates {T : Type 0} (post : MutBor T → ℕ → ℕ → MutBor T �
   pub leaves : left.now ≡ new
 
 module _ {T : Type 0} where
+  -- what a row weighs once it is raised, or started where there is none
+  abbrev pub grown : ℕ → Option ℕ → Option (Row T) → ℕ
+  grown delta most was = option_map_or (λ r. raised r.weight delta most) was (started delta most)
+
   -- what an item of an iterator over rows shows
   abbrev pub shown : Bor T × ℕ → T × ℕ
   shown item = (item.0.now, item.1)
@@ -43,12 +47,12 @@ module _ {T : Type 0} where
 
   -- `admit`: the row is put first, in place of its key's; the answer is the weight that the key had
   abbrev pub Admits : Shard T → ℕ → T → ℕ → Result ℕ (Refused T) → Shard T → Type 0
-  Admits old k d w (Ok was) new = (was ≡ weight_at old.rows k) × Accepts old new (first old.rows (row k d w))
-  Admits old k d w (Err r) new = Refuses old new (first old.rows (row k d w)) d r
+  Admits old k d w (Ok was) new = (was ≡ weight_at old.rows k) × Accepts old new (with_first old.rows (row k d w))
+  Admits old k d w (Err r) new = Refuses old new (with_first old.rows (row k d w)) d r
 
   -- the rows after `insert_tail`: the row is put last where its key has none
   abbrev pub tailed : List (Row T) → ℕ → T → ℕ → List (Row T)
-  tailed rows k d w = if is_held rows k then rows else last rows (row k d w)
+  tailed rows k d w = if is_held rows k then rows else with_last rows (row k d w)
 
   abbrev pub InsertsTail : Shard T → ℕ → T → ℕ → Result Bool (Refused T) → Shard T → Type 0
   InsertsTail old k d w (Ok added) new = (added ≡ not (is_held old.rows k)) × Accepts old new (tailed old.rows k d w)
@@ -61,7 +65,7 @@ module _ {T : Type 0} where
 
   -- the rows after `access`: the key's row is put first, if there is one
   abbrev pub accessed : List (Row T) → ℕ → List (Row T)
-  accessed rows k = option_map_or (λ r. first rows r) (row_of rows k) rows
+  accessed rows k = option_map_or (λ r. with_first rows r) (row_of rows k) rows
 
   -- the key is not among the first so many
   abbrev pub needs_promote : List (Row T) → ℕ → ℕ → Bool
@@ -69,7 +73,7 @@ module _ {T : Type 0} where
 
   -- a new row of this weight goes first, with data that may be made; or it is refused, before any are made
   abbrev pub AdmitsMade : (T → Type 0) → Shard T → ℕ → ℕ → Result (Unit {0}) Cause → Shard T → Type 0
-  AdmitsMade Makes old k w (Ok _) new = (made : T) × (Makes made × Accepts old new (first old.rows (row k made w)))
+  AdmitsMade Makes old k w (Ok _) new = (made : T) × (Makes made × Accepts old new (with_first old.rows (row k made w)))
   AdmitsMade Makes old k w (Err cause) new = MayRefuse old.cap (size_of old.rows) (and_row (size_of old.rows) w) cause × (new ≡ old)
 
   -- `increment_weight` of a row that is there, and where there is none; `Makes` says what the closure may make.
@@ -77,9 +81,9 @@ module _ {T : Type 0} where
   abbrev pub IncrementsRow : (T → Type 0) → Shard T → ℕ → ℕ → Option ℕ → Option (Row T) → Result (ℕ × ℕ × Bool) Cause → Shard T → Type 0
   IncrementsRow Makes old k delta most (Some r) (Ok answer) new =
       ((answer.0 ≡ r.weight) × ((answer.1 ≡ raised r.weight delta most) × (answer.2 ≡ false)))
-      × Accepts old new (first old.rows (row k r.value (raised r.weight delta most)))
+      × Accepts old new (with_first old.rows (row k r.value (raised r.weight delta most)))
   IncrementsRow Makes old k delta most (Some r) (Err cause) new =
-      Declines old new (first old.rows (row k r.value (raised r.weight delta most))) cause
+      Declines old new (with_first old.rows (row k r.value (raised r.weight delta most))) cause
   IncrementsRow Makes old k delta most None (Ok answer) new =
       ((answer.0 ≡ 0) × ((answer.1 ≡ started delta most) × (answer.2 ≡ true)))
       × AdmitsMade Makes old k (started delta most) (Ok tt) new
@@ -101,7 +105,7 @@ module _ {T : Type 0} where
   abbrev pub AdmitsGiven : (T × ℕ → Type 0) → Shard T → ℕ → Result (Option ℕ × ℕ) (Refused (Option (T × ℕ))) → Shard T → Type 0
   AdmitsGiven Makes old k (Ok answer) new =
       (made : T × ℕ) × (Makes made
-      × (((answer.0 ≡ None) × (answer.1 ≡ max made.1 1)) × Accepts old new (first old.rows (row k made.0 (max made.1 1)))))
+      × (((answer.0 ≡ None) × (answer.1 ≡ max made.1 1)) × Accepts old new (with_first old.rows (row k made.0 (max made.1 1)))))
   AdmitsGiven Makes old k (Err refused) new = RefusesNew Makes old refused.cause refused.held × (new ≡ old)
 
   -- `update_or_admit` of a row that is there, and where there is none. `Changes` says what `update` may make of the data
@@ -109,10 +113,10 @@ module _ {T : Type 0} where
   abbrev pub UpdatesRow : (T → ℕ → ℕ → T → Type 0) → (T × ℕ → Type 0) → Shard T → ℕ → Option (Row T) → Result (Option ℕ × ℕ) (Refused (Option (T × ℕ))) → Shard T → Type 0
   UpdatesRow Changes Makes old k (Some r) (Ok answer) new =
       (d : T) × ((given : ℕ) × (Changes r.value r.weight given d
-      × (((answer.0 ≡ Some r.weight) × (answer.1 ≡ max given 1)) × Accepts old new (first old.rows (row k d (max given 1))))))
+      × (((answer.0 ≡ Some r.weight) × (answer.1 ≡ max given 1)) × Accepts old new (with_first old.rows (row k d (max given 1))))))
   UpdatesRow Changes Makes old k (Some r) (Err refused) new =
       (d : T) × ((given : ℕ) × (Changes r.value r.weight given d
-      × (MayRefuse old.cap (size_of old.rows) (size_of (first old.rows (row k d (max given 1)))) refused.cause
+      × (MayRefuse old.cap (size_of old.rows) (size_of (with_first old.rows (row k d (max given 1)))) refused.cause
       × ((refused.held ≡ None) × (new ≡ shard (with_value old.rows k d) old.cap)))))
   UpdatesRow Changes Makes old k None answer new = AdmitsGiven Makes old k answer new
 

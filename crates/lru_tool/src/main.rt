@@ -4,20 +4,29 @@
 use log::sink::Console;
 use lru_engine::{arguments, engine};
 use pingora_lru_files::persistence::HostFolder;
+use std::io::BufWriter;
 use std::process::ExitCode;
 
 fn main(rt: HostRuntime) -> ExitCode {
     let Ok(words) = arguments::words(&rt) else {
-        let _ = println!(rt; "error memory");
-        return ExitCode::from(1);
+        return no_memory(rt);
+    };
+    let Ok(writer) = BufWriter::new(rt.alloc(), rt.stdout()) else {
+        return no_memory(rt);
     };
     let mut folder = HostFolder::new(rt);
-    ExitCode::from(engine::run(
+    let (status, _) = engine::run_buffered(
         rt.alloc(),
         &mut folder,
         &Console(rt),
         &words,
         &mut rt.stdin(),
-        &mut rt.stdout(),
-    ))
+        writer,
+    );
+    ExitCode::from(status)
+}
+
+fn no_memory(rt: HostRuntime) -> ExitCode {
+    let _ = println!(rt; "error memory");
+    ExitCode::from(1)
 }

@@ -8,7 +8,7 @@ use Rattle.lru_runs.specs.declared.calls.Call.{Call}
 use Rattle.lru_runs.specs.declared.calls.Call.TheVariants.{Admit, SetWeight, Remove, EvictToLimit}
 use Rattle.lru_runs.specs.declared.calls.Reply.{Reply}
 use Rattle.lru_runs.specs.declared.calls.Reply.TheVariants.{Shard, Was, Left, Evicted}
-use Rattle.lru_shard.specs.Row.{Row, row, weight_of, first, without, with_weight}
+use Rattle.lru_shard.specs.Row.{Row, row, weight_of, with_first, without, with_weight}
 use Rattle.lru_cores.specs.Core.{Core, list_at, with_list, home}
 use Rattle.rand_core.specs.Stream.{Stream}
 use Rattle.lru_rules.specs.Limits.{is_above}
@@ -76,7 +76,7 @@ module _ {T : Type 0} where
 
   -- what a call does to the rows of the one shard
   abbrev Moves : Call T → Core T → Core T → Type 0
-  Moves (Admit k d w) old new = list_at new 0 ≡ first (list_at old 0) (row k d (max w 1))
+  Moves (Admit k d w) old new = list_at new 0 ≡ with_first (list_at old 0) (row k d (max w 1))
   Moves (SetWeight k w) old new = list_at new 0 ≡ with_weight (list_at old 0) k (max w 1)
   Moves (Remove k) old new = list_at new 0 ≡ without (list_at old 0) k
   Moves EvictToLimit old new = KeepsLongestFront old new × IsFalse (is_over new)
@@ -111,7 +111,7 @@ module _ {T : Type 0} where
   moves : (old : Core T) (words : Stream) (call : Call T) (reply : Reply T) (new : Core T) (rest : Stream) → length old.lists ≡ 1 → IsInclusionCall call → IsGranted reply → Gives old words call reply new rest → Keeps old new × Moves call old new
   moves old words (Admit k d w) (Shard (Ok s)) new rest one is granted h =
       let acts = h.0.1.1 in
-      keyed old k new (λ rows. first rows (row k d (max w 1))) one (acts.left ∙ ap (λ z. with_list old (home old k) z.rows) acts.acts.1.left)
+      keyed old k new (λ rows. with_first rows (row k d (max w 1))) one (acts.left ∙ ap (λ z. with_list old (home old k) z.rows) acts.acts.1.left)
   moves old words (Admit k d w) (Shard (Err r)) new rest one is granted h = absurd (false≢true granted)
   moves old words (Admit k d w) _ new rest one is granted h = absurd h.0
   moves old words (SetWeight k w) (Was (Ok was)) new rest one is granted h =
@@ -153,7 +153,7 @@ module _ {T : Type 0} where
 
   moved_front : (call : Call T) (a b c d : Core T) → IsInclusionCall call → Includes a b → Keeps a c → Moves call a c → Moves call b d → IsFrontOf (list_at c 0) (list_at d 0)
   moved_front (Admit k v w) a b c d is i keeps m n =
-      subst (λ xs. IsFrontOf xs (list_at d 0)) (sym m) (subst (λ ys. IsFrontOf (first (list_at a 0) (row k v (max w 1))) ys) (sym n)
+      subst (λ xs. IsFrontOf xs (list_at d 0)) (sym m) (subst (λ ys. IsFrontOf (with_first (list_at a 0) (row k v (max w 1))) ys) (sym n)
       (front-cons _ _ _ (front-filter _ _ _ i.front)))
   moved_front (SetWeight k w) a b c d is i keeps m n =
       subst (λ xs. IsFrontOf xs (list_at d 0)) (sym m) (subst (λ ys. IsFrontOf (with_weight (list_at a 0) k (max w 1)) ys) (sym n) (front-map _ _ _ i.front))

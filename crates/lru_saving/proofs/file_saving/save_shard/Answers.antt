@@ -3,7 +3,8 @@ use Rattle.lru_folder.specs.declared.errors.ShardSaveFailure.TheVariants.{Io}
 use Rattle.lru_folder.specs.Meaning.{Meaning}
 use Rattle.lru_folder.specs.Names.{shard_path, temp_path}
 use Rattle.lru_folder.specs.Places.{folder_of, is_there}
-use Rattle.lru_saving.specs.Saving.{IsSaved, HasReason, source_of}
+use Rattle.lru_folder.specs.Blames.{blame_of}
+use Rattle.lru_saving.specs.Saving.{IsSaved, HasReason}
 use Rattle.lru_saving.specs.Turns.{SavesOne}
 use Rattle.lru_saving.proofs.ShardTurns.{Leaves, at_paths, ends_well, ends_badly}
 use Rattle.lru_folder.proofs.NamesLemmas.{temp-apart-shard}
@@ -50,5 +51,5 @@ returns-in-Ok-given-clause-saves g c k =
     (ends_badly m dir name c.args.shard c.args.word bytes start end source
     (at_paths (λ t p b. Leaves m b start end t p) (string_bytes c.in-Ok.temp) temp (string_bytes c.in-Ok.path) path c.deref.result.now bytes.items c.in-Ok.ensures.0 c.in-Ok.ensures.1 c.deref.ensures.value (c.save_file.ensures.any_moment k))
     (c.in-Err-save_file.ensures.named k)
-    (subst (λ t. HasReason (is_there (F.folders start) (folder_of t)) (F.faults start) (F.faults end) (source_of source)) c.in-Ok.ensures.0 (c.in-Err-save_file.ensures.reason k))
+    (subst (λ t. HasReason (is_there (F.folders start) (folder_of t)) (F.faults start) (F.faults end) (blame_of source).cause) c.in-Ok.ensures.0 (c.in-Err-save_file.ensures.reason k))
     (c.save_file.ensures.places k))

@@ -1,6 +1,6 @@
 use Rattle.std.proofs.Common.{◌≡◌, ◌∙◌, ℕ, [], ◌∷◌, ◌++◌, length, max, refl, ap, sym, subst}
 use Rattle.std.specs.Prelude.{Some, None, Ok, Err}
-use Rattle.lru_shard.specs.Row.{row, first}
+use Rattle.lru_shard.specs.Row.{row, with_first}
 use Rattle.lru_shard.specs.Shard.{size_of, refusal}
 use Rattle.lru_journals.specs.Stamps.{receipt, and_receipt}
 use Rattle.lru_recordings.specs.Plain.{forget}
@@ -37,7 +37,7 @@ invariant_of-self-2 g c =
     let cause = c.in-Some.cause in
     let caps = (edits_update _ _ old.unit c.args.key (Err c.in-Err.refusal) new c.in-Err.ensures).caps in
     let same = refused_update _ _ old.unit new c.args.key c.in-Err.refusal c.in-Err.ensures in
-    let why = subst (λ (x : ℕ). refusal x (size_of (forget new.rows)) (size_of (first (forget new.rows) (row c.args.key tt w))) ≡ Some cause) caps c.in-Some.ensures.why in
+    let why = subst (λ (x : ℕ). refusal x (size_of (forget new.rows)) (size_of (with_first (forget new.rows) (row c.args.key tt w))) ≡ Some cause) caps c.in-Some.ensures.why in
     let kept = keeps g.row.N old.journal.number c.note-2.new.self.number _ _ old.unit new old.journal.history.items c.reserve.new.self.history.items c.note-2.new.self.history.items (UpdateOrAdmit c.args.key w) _ (Some (Refused cause)) old.below old.capped old.ends old.right old.homes
     c.requires.home caps (stands_refused old.unit new c.args.key w cause why same)
     refl c.reserve.ensures.history.1 c.note-2.ensures.history.1 (c.note-2.ensures.history.0 ∙ c.reserve.ensures.history.0) in
@@ -69,7 +69,7 @@ returns-clause-err g c =
     let call = UpdateOrAdmit c.args.key w in
     let cause = c.in-Some.cause in
     let caps = (edits_update _ _ old.unit c.args.key (Err c.in-Err.refusal) new c.in-Err.ensures).caps in
-    let why = subst (λ (x : ℕ). refusal x (size_of (forget new.rows)) (size_of (first (forget new.rows) (row c.args.key tt w))) ≡ Some cause) caps c.in-Some.ensures.why in (
+    let why = subst (λ (x : ℕ). refusal x (size_of (forget new.rows)) (size_of (with_first (forget new.rows) (row c.args.key tt w))) ≡ Some cause) caps c.in-Some.ensures.why in (
       w,
       (
         made_of _ _ old.unit new c.args.key w c.in-Err.refusal cause c.in-Err.ensures c.noted_weight-weight.ensures why,
@@ -88,5 +88,5 @@ returns-in_default-clause-err g c =
     let new = c.update_or_admit-answer.new.self in
     let w = c.noted_weight-weight.result in
     let caps = (edits_update _ _ old.unit c.args.key (Err c.in-Err.refusal) new c.in-Err.ensures).caps in
-    let why = subst (λ (x : ℕ). refusal x (size_of (forget new.rows)) (size_of (first (forget new.rows) (row c.args.key tt w))) ≡ None) caps c.in_default.ensures.why in
+    let why = subst (λ (x : ℕ). refusal x (size_of (forget new.rows)) (size_of (with_first (forget new.rows) (row c.args.key tt w))) ≡ None) caps c.in_default.ensures.why in
     (w, (none_held _ _ old.unit new c.args.key w c.in-Err.refusal c.in-Err.ensures c.noted_weight-weight.ensures why, (0, c.reserve.ensures.receipts.1)))

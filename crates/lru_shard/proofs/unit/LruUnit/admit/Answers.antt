@@ -3,7 +3,7 @@ use Rattle.std.specs.Prelude.{nat_eq, is_some}
 use Rattle.std.specs.Option.{option_map_or}
 use Rattle.std.specs.HashMap as hash
 use Rattle.lru_shard.specs.declared.unit.Node.{Node}
-use Rattle.lru_shard.specs.Row.{Row, row, row_of, first}
+use Rattle.lru_shard.specs.Row.{Row, row, row_of, with_first}
 use Rattle.lru_shard.specs.Shard.{shard, size_of, MayRefuse}
 use Rattle.lru_shard.specs.Representation.Table.{rows_of}
 use Rattle.lru_shard.proofs.Tables.{is_live}
@@ -47,7 +47,7 @@ returns-then-weight-self g c =
     let same = written_same look i.order i.used_weight i.cap c.self.invariant c.args.key node found (hash.get nat_eq table) puts in
     rw (← c.self.view_is) (record {
       declines = record {
-        may = subst (MayRefuse i.cap (size_of (rows_of look i.order.live)) (size_of (first (rows_of look i.order.live) (row c.args.key c.args.«data» c.args.weight)))) (sym c.new.ensures.cause) (heavy_first look i.order i.used_weight i.cap c.self.invariant c.args.key node found c.args.«data» c.args.weight c.if-weight-self.true);
+        may = subst (MayRefuse i.cap (size_of (rows_of look i.order.live)) (size_of (with_first (rows_of look i.order.live) (row c.args.key c.args.«data» c.args.weight)))) (sym c.new.ensures.cause) (heavy_first look i.order i.used_weight i.cap c.self.invariant c.args.key node found c.args.«data» c.args.weight c.if-weight-self.true);
         left = ap (λ rows. shard rows i.cap) (rows_same look i.order i.used_weight i.cap c.self.invariant (hash.get nat_eq table) same);
       };
       held = c.new.ensures.held;

@@ -2,7 +2,7 @@ use Rattle.std.proofs.Common.{ℕ, refl, sym, ap, ◌∙◌, subst}
 use Rattle.std.specs.Prelude.{nat_eq}
 use Rattle.std.specs.HashMap as hash
 use Rattle.lru_shard.specs.declared.unit.Node.{Node}
-use Rattle.lru_shard.specs.Row.{row, row_of, first}
+use Rattle.lru_shard.specs.Row.{row, row_of, with_first}
 use Rattle.lru_shard.specs.Shard.{shard, size_of, and_row, refusal, MayRefuse}
 use Rattle.lru_shard.specs.Representation.Table.{rows_of, IsUnit}
 use Rattle.lru_list.specs.Linked.{Linked, pushed_head}
@@ -14,7 +14,7 @@ pub returns-in-Some : goal.returns-in-Some
 returns-in-Some g c =
     record {
       declines = record {
-        may = subst (MayRefuse c.args.self.now.cap (size_of c.args.self.now.rows) (size_of (first c.args.self.now.rows (row c.args.key c.args.«data» c.args.weight)))) (sym c.new.ensures.cause)
+        may = subst (MayRefuse c.args.self.now.cap (size_of c.args.self.now.rows) (size_of (with_first c.args.self.now.rows (row c.args.key c.args.«data» c.args.weight)))) (sym c.new.ensures.cause)
             (refused_first c.args.self.now.rows c.args.key c.requires c.args.self.now.cap c.args.«data» c.args.weight c.in-Some.cause (sym c.in-Some.ensures));
         left = refl;
       };
@@ -35,7 +35,7 @@ returns-then-not-make_room g c =
     let allowed = ap (λ s. refusal s.cap (size_of s.rows) (and_row (size_of s.rows) c.args.weight)) c.self.view_is ∙ sym c.refusal_of_new.ensures ∙ c.in_default.is in
     rw (← c.self.view_is) (record {
       declines = record {
-        may = subst (MayRefuse i.cap (size_of (rows_of look i.order.live)) (size_of (first (rows_of look i.order.live) (row c.args.key c.args.«data» c.args.weight)))) (sym c.new-then-not-make_room.ensures.cause)
+        may = subst (MayRefuse i.cap (size_of (rows_of look i.order.live)) (size_of (with_first (rows_of look i.order.live) (row c.args.key c.args.«data» c.args.weight)))) (sym c.new-then-not-make_room.ensures.cause)
             (wants_first (rows_of look i.order.live) c.args.key (no_row_there look i.order i.used_weight i.cap c.self.invariant c.args.key none) i.cap c.args.«data» c.args.weight allowed);
         left = ap (λ rows. shard rows i.cap) (rows_same look i.order i.used_weight i.cap c.self.invariant (hash.get nat_eq c.make_room.new.table) c.if-not-make_room.ensures.same);
       };
@@ -58,7 +58,7 @@ returns-in_default-push_head g c =
     let is = refused_push i.order (pushed_head i.order c.args.key) c.args.key c.in_default-push_head.field-0 c.push_head.new.self c.in_default-push_head.ensures.pushes in
     rw (← c.self.view_is) (record {
       declines = record {
-        may = subst (MayRefuse i.cap (size_of (rows_of look i.order.live)) (size_of (first (rows_of look i.order.live) (row c.args.key c.args.«data» c.args.weight)))) (sym c.new-in_default-push_head.ensures.cause)
+        may = subst (MayRefuse i.cap (size_of (rows_of look i.order.live)) (size_of (with_first (rows_of look i.order.live) (row c.args.key c.args.«data» c.args.weight)))) (sym c.new-in_default-push_head.ensures.cause)
             (wants_first (rows_of look i.order.live) c.args.key (no_row_there look i.order i.used_weight i.cap c.self.invariant c.args.key none) i.cap c.args.«data» c.args.weight allowed);
         left = ap (λ rows. shard rows i.cap) (ap (λ (o : Linked ℕ). rows_of (hash.get nat_eq c.make_room.new.table) o.live) is ∙ rows_same look i.order i.used_weight i.cap c.self.invariant (hash.get nat_eq c.make_room.new.table) c.if-not-make_room.ensures.same);
       };
