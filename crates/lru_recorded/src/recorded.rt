@@ -300,7 +300,7 @@ impl<T: Drop, B: Registry, const N: usize> RecordedLru<T, B, N> {
         requires update { U.IsAlwaysCallable update }
         requires admit_data { A.IsAlwaysCallable admit_data }
         ensures ok { IfOk result (λ was. (w : _) × (IsGiven (Updates (U.post update)) (A.post admit_data) was w × GetsReceipt seat.old.receipts.items (key % N) (Call.UpdateOrAdmit key w) (Some (weighed was)) seat.new.receipts.items)) }
-        ensures err { IfErr result (λ r. (w : _) × (IsMade (A.post admit_data) r.cause r.held w × GetsReceipt seat.old.receipts.items (key % N) (Call.UpdateOrAdmit key w) (refused r.cause) seat.new.receipts.items)) }
+        ensures err { IfErr result (λ r. (w : _) × (IsMade (Updates (U.post update)) (A.post admit_data) r.cause r.held w × GetsReceipt seat.old.receipts.items (key % N) (Call.UpdateOrAdmit key w) (refused r.cause) seat.new.receipts.items)) }
         ensures seat { seat.new.number ≡ seat.old.number }
     {
         let shard = self.shard_of(key);

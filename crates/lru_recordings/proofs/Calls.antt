@@ -1,25 +1,26 @@
 -- Each call of a shard is the plain list's call, data forgotten.
 use Rattle.std.proofs.Common.{◌≡◌, ℕ, suc, ◌+◌, ◌≤◌, ◌<◌, ◌%◌, max, not, eqb, cond, Bool, true, false, List, [], ◌∷◌, length, Option, Some, None, refl, sym, ap, ◌∙◌, subst, arith, inl, inr}
-use Rattle.std.specs.Prelude.{Result, Ok, Err, IfSome, option_map}
-use Rattle.std.specs.Borrow.{MutBor}
+use Rattle.std.specs.Prelude.{Result, Ok, Err, option_map}
 use Rattle.std.specs.Option.{option_map_or}
 use Rattle.lru_shard.specs.declared.unit.Refused.{Refused as Handed}
 use Rattle.lru_shard.specs.declared.unit.Cause.{Cause}
 use Rattle.lru_shard.specs.declared.unit.Cause.TheVariants.{Memory, Weight as Heavy, Length}
-use Rattle.lru_shard.specs.Row.{Row, row, row_of, pair_of, is_held, with_first, without, with_weight, with_value, last_row, without_last, weight_of}
-use Rattle.lru_shard.specs.Shard.{Shard, shard, Size, size_of, and_row, refusal, MayRefuse, most_rows, IsShard, Accepts, Declines}
-use Rattle.lru_shard.specs.Unit.{Updates, Admits, InsertsTail, SetsWeight, IncrementsWeight, IncrementsRow, UpdatesOrAdmits, UpdatesRow, RefusesNew, weight_at, tailed, grown, raised, started, accessed}
+use Rattle.lru_shard.specs.Row.{Row, row, row_of, pair_of, is_held, with_first, without, with_weight, last_row, without_last, weight_of}
+use Rattle.lru_shard.specs.Shard.{Shard, shard, Size, size_of, and_row, refusal, MayRefuse, most_rows, is_full, IsShard, Accepts, Declines}
+use Rattle.lru_shard.specs.Unit.{Admits, InsertsTail, SetsWeight, IncrementsWeight, IncrementsRow, UpdatesOrAdmits, UpdatesRow, RefusesNew, weight_at, tailed, grown, raised, started, accessed}
 use Rattle.lru_rules.specs.ShardCalls.{promoted_past}
 use Rattle.lru_journals.specs.declared.entry.Call.{Call}
 use Rattle.lru_journals.specs.declared.entry.Call.TheVariants.{Admit, InsertTail, IncrementWeight, IncrementWeightUpTo, UpdateOrAdmit, SetWeight, Promote, PromoteTopN, EvictShard, EvictToLimit, Remove, Peek, PeekWeight, PeekLru}
 use Rattle.lru_journals.specs.declared.entry.Reply.{Reply}
 use Rattle.lru_journals.specs.declared.entry.Reply.TheVariants.{Flag, Weight, Refused}
-use Rattle.lru_shard.proofs.Rows.{weight-cons}
+use Rattle.std.proofs.lemmas.Bool.{cond_both, cases_lt, leb-true}
+use Rattle.lru_shard.proofs.Rows.{weight-cons, length-without-le}
 use Rattle.lru_shard.proofs.Edits.{at_row, weight-without, weight-first, length-first}
 use Rattle.lru_shard.proofs.Refusals.{refusal_none, refusal_weight, refusal_length}
-use Rattle.lru_recordings.specs.Plain.{Plain, plain, forget, Step, step, found, unless_refused, increment, called}
+use Rattle.lru_recordings.specs.Plain.{Plain, plain, forget, step, found, unless_refused, increment, called}
 use Rattle.lru_recordings.specs.Histories.{home, IsEviction}
-use Rattle.lru_recordings.specs.Replies.{refused, weighed, paired, admitted, inserted, new_weight, incremented, increments, set, IsGiven, IsMade}
+use Rattle.lru_recordings.specs.Replies.{refused, weighed, paired, admitted, inserted, new_weight, incremented, increments, set, IsUpdated, IsGiven, IsMade}
+use Rattle.lru_recordings.specs.Given.{IsNoted}
 use Rattle.lru_recordings.proofs.Forgets.{length-forget, weight-forget, size-forget, row_of-forget, is_held-forget, without-forget, first-forget, tailed-forget, with_weight-forget, weight_at-forget, accessed-forget, promoted-forget, last_row-forget, without_last-forget, forget-with_value}
 use Rattle.lru_recordings.proofs.Noted.{Stands}
 
@@ -75,6 +76,14 @@ called_increment most_weight rows k delta (Some most) = refl
 pub increments_home : (n s k delta : ℕ) (most : Option ℕ) → k % n ≡ s → home n s (increments k delta most) ≡ s
 increments_home n s k delta None h = h
 increments_home n s k delta (Some most) h = h
+
+-- a list that is no longer is not refused for its length
+not_long : (cap : ℕ) (was is : Size) → is.len ≤ was.len → refusal cap was is ≡ Some Length → ⊥
+not_long cap was is short h =
+    elim (cases_lt cap is.weight) [
+      | inl heavy ↦ let e : Some Heavy ≡ Some Length = sym (refusal_weight cap was is (inl short) heavy) ∙ h in cc
+      | inr light ↦ let e : None ≡ Some Length = sym (refusal_none cap was is (inl short) light) ∙ h in cc
+    ]
 
 module _ {T : Type 0} where
   -- the same refusal, data forgotten
@@ -228,18 +237,6 @@ module _ {T : Type 0} where
     pub given_of : (was : Option ℕ) (w : ℕ) → UpdatesOrAdmits Changes Makes old k (Ok (was, w)) new → IsGiven Changes Makes was w
     given_of was w h = given_row (row_of old.rows k) was w h
 
-    none_made : (held : Option (T × ℕ)) → held ≡ None → IfSome held Makes
-    none_made held e = subst (λ (x : Option (T × ℕ)). IfSome x Makes) (sym e) tt
-
-    new_made : (cause : Cause) (held : Option (T × ℕ)) → RefusesNew Makes old cause held → IfSome held Makes
-    new_made Length held h = none_made held h.1
-    new_made Memory held h = none_made held h.1
-    new_made Heavy held h = subst (λ (x : Option (T × ℕ)). IfSome x Makes) (sym h.1.1.0) h.1.0
-
-    made_row : (o : Option (Row T)) (r : Handed (Option (T × ℕ))) → UpdatesRow Changes Makes old k o (Err r) new → IfSome r.held Makes
-    made_row (Some x) r h = none_made r.held h.1.1.1.1.0
-    made_row None r h = new_made r.cause r.held h.0
-
     refused_row : (o : Option (Row T)) (r : Handed (Option (T × ℕ))) → UpdatesRow Changes Makes old k o (Err r) new → forget new.rows ≡ forget old.rows
     refused_row (Some x) r h = ap (λ (s : Shard T). forget s.rows) h.1.1.1.1.1 ∙ forget-with_value old.rows k h.0
     refused_row None r h = ap (λ (s : Shard T). forget s.rows) h.1
@@ -301,58 +298,97 @@ module _ {T : Type 0} where
       same_refusal u.cap u.rows (with_first u.rows (row k r.0.value w)) (with_first (forget u.rows) (row k tt w)) (first-forget u.rows (row k r.0.value w))
       ∙ refusal_none u.cap (size_of u.rows) (size_of (with_first u.rows (row k r.0.value w))) (inl (omega (arith, length-first u.rows k r.0 at r.0.value w))) (omega (arith, weight-first u.rows k r.0 at r.0.value w, r.1.1, light))
 
+  -- a key that has a row: no list that its new row leads is longer
+  shorter : (rows : List (Row T)) (k : ℕ) (x : Row T) → row_of rows k ≡ Some x → suc (length (without rows k)) ≤ length rows
+  shorter [] k x e = absurd (cc)
+  shorter (r ∷ rows) k x e =
+      cond_both (eqb r.key k) (Some r) (row_of rows k) (λ o. o ≡ Some x → suc (length (without (r ∷ rows) k)) ≤ length (r ∷ rows))
+      (λ here _. let n : length (without (r ∷ rows) k) ≡ length (without rows k) = ap (λ b. length (cond (not b) (r ∷ without rows k) (without rows k))) here in omega (arith, n, length-without-le k rows))
+      (λ there h. let n : length (without (r ∷ rows) k) ≡ suc (length (without rows k)) = ap (λ b. length (cond (not b) (r ∷ without rows k) (without rows k))) there in omega (arith, n, shorter rows k x h)) e
+
   -- a refused `update_or_admit`, looked up by the weight that is noted
   module _ (Changes : T → ℕ → ℕ → T → Type 0) (Makes : T × ℕ → Type 0) (old new : Shard T) (k w : ℕ) where
     abbrev pub looked_up : Option Cause
     looked_up = refusal old.cap (size_of (forget new.rows)) (size_of (with_first (forget new.rows) (row k tt w)))
 
-    abbrev IsHeavy : Option (T × ℕ) → Type 0
-    IsHeavy held = IfSome held (λ _. looked_up ≡ Some Heavy)
+    abbrev Gives : ℕ → Type 0
+    Gives w = (was : ℕ) × IsUpdated Changes was w
 
-    none_heavy : (held : Option (T × ℕ)) → held ≡ None → IsHeavy held
-    none_heavy held e = subst (λ (x : Option (T × ℕ)). IsHeavy x) (sym e) tt
+    as_new : row_of old.rows k ≡ None → new ≡ old → looked_up ≡ refusal old.cap (size_of old.rows) (and_row (size_of old.rows) w)
+    as_new none same = (λ i. refusal old.cap (size_of (forget (same i).rows)) (size_of (with_first (forget (same i).rows) (row k tt w))))
+        ∙ (λ i. refusal old.cap (size-forget old.rows i) (size-new old.rows k w (plain_none old.rows k none) i))
 
-    new_heavy : (cause : Cause) (held : Option (T × ℕ)) → row_of old.rows k ≡ None → new ≡ old → RefusesNew Makes old cause held → IfSome held (λ made. w ≡ max made.1 1) → IsHeavy held
-    new_heavy Length held n same h e = none_heavy held h.1
-    new_heavy Memory held n same h e = none_heavy held h.1
-    new_heavy Heavy held n same h e =
-        let is : w ≡ max h.0.1 1 = subst (λ (x : Option (T × ℕ)). IfSome x (λ made. w ≡ max made.1 1)) h.1.1.0 e in
-        let none : row_of (forget old.rows) k ≡ None = plain_none old.rows k n in
-        let found : looked_up ≡ Some Heavy = (λ i. refusal old.cap (size_of (forget (same i).rows)) (size_of (with_first (forget (same i).rows) (row k tt w))))
-        ∙ (λ i. refusal old.cap (size-forget old.rows i) (size-new old.rows k w none i))
-        ∙ (λ i. refusal old.cap (size_of old.rows) (and_row (size_of old.rows) (is i)))
-        ∙ h.1.1.1 in
-        subst (λ (x : Option (T × ℕ)). IsHeavy x) (sym h.1.1.0) found
+    found_full : row_of old.rows k ≡ None → new ≡ old → is_full old.cap (size_of old.rows) ≡ true → looked_up ≡ Some Length
+    found_full none same full = as_new none same ∙ refusal_length old.cap (size_of old.rows) (and_row (size_of old.rows) w) (omega arith) (leb-true (most_rows old.cap) (length old.rows) full)
 
-    heavy_row : (o : Option (Row T)) (r : Handed (Option (T × ℕ))) → row_of old.rows k ≡ o → UpdatesRow Changes Makes old k o (Err r) new → IfSome r.held (λ made. w ≡ max made.1 1) → IsHeavy r.held
-    heavy_row (Some x) r n h e = none_heavy r.held h.1.1.1.1.0
-    heavy_row None r n h e = new_heavy r.cause r.held n h.1 h.0 e
+    found_heavy : (made : T × ℕ) → row_of old.rows k ≡ None → new ≡ old → w ≡ max made.1 1 → refusal old.cap (size_of old.rows) (and_row (size_of old.rows) (max made.1 1)) ≡ Some Heavy → looked_up ≡ Some Heavy
+    found_heavy made none same is h = as_new none same ∙ (λ i. refusal old.cap (size_of old.rows) (and_row (size_of old.rows) (is i))) ∙ h
 
-    by_held : (held : Option (T × ℕ)) (cause : Cause) → looked_up ≡ Some cause → IsHeavy held → IfSome held Makes → IfSome held (λ made. w ≡ max made.1 1) → IsMade Makes cause held w
-    by_held None Memory f v m e = refl
-    by_held None Length f v m e = refl
-    by_held None Heavy f v m e = tt
-    by_held (Some made) Memory f v m e = absurd (cc)
-    by_held (Some made) Length f v m e = absurd (cc)
-    by_held (Some made) Heavy f v m e = (m, e)
+    noted_made : (held : Option (T × ℕ)) (made : T × ℕ) → held ≡ Some made → IsNoted Gives Heavy held (Some w) → w ≡ max made.1 1
+    noted_made held made e noted = let n : Some w ≡ Some (max made.1 1) = subst (λ (x : Option (T × ℕ)). IsNoted Gives Heavy x (Some w)) e noted in cc
+
+    same_cause : (one other : Cause) → looked_up ≡ Some one → looked_up ≡ Some other → other ≡ one
+    same_cause one other f g = let e : Some one ≡ Some other = sym f ∙ g in cc
+
+    told_as : (cause cause' : Cause) (held held' : Option (T × ℕ)) → cause ≡ cause' → held ≡ held' → IsMade Changes Makes cause' held' w → IsMade Changes Makes cause held w
+    told_as cause cause' held held' c h m = subst (λ (x : Cause). IsMade Changes Makes x held w) (sym c) (subst (λ (x : Option (T × ℕ)). IsMade Changes Makes cause' x w) (sym h) m)
+
+    new_made : (why cause : Cause) (held : Option (T × ℕ)) → row_of old.rows k ≡ None → new ≡ old → RefusesNew Makes old why held → IsNoted Gives why held (Some w) → looked_up ≡ Some cause → IsMade Changes Makes cause held w
+    new_made Memory cause held none same h noted f = absurd (cc)
+    new_made Length cause held none same h noted f = told_as cause Length held held (same_cause Length cause (found_full none same h.0) f) refl (h.1, cc)
+    new_made Heavy cause held none same h noted f =
+        let is = noted_made held h.0 h.1.1.0 noted in
+        told_as cause Heavy held (Some h.0) (same_cause Heavy cause (found_heavy h.0 none same is h.1.1.1) f) h.1.1.0 (h.1.0, is)
+
+    row_made : (why cause : Cause) (held : Option (T × ℕ)) (x : Row T) (d : T) (v : ℕ) → row_of old.rows k ≡ Some x → forget new.rows ≡ forget old.rows → held ≡ None →
+        MayRefuse old.cap (size_of old.rows) (size_of (with_first old.rows (row k d v))) why → IsNoted Gives why held (Some w) → looked_up ≡ Some cause → IsMade Changes Makes cause held w
+    row_made Memory cause held x d v some same e may noted f = absurd (cc)
+    row_made Length cause held x d v some same e may noted f = absurd (not_long old.cap (size_of old.rows) (size_of (with_first old.rows (row k d v))) (shorter old.rows k x some) may)
+    row_made Heavy cause held x d v some same e may noted f = told_as cause cause held None refl e (by_cause cause f)
+      where
+        given : ∥ Gives w ∥₁
+        given = subst (λ (x : Option (T × ℕ)). IsNoted Gives Heavy x (Some w)) e noted
+
+        by_cause : (cause : Cause) → looked_up ≡ Some cause → IsMade Changes Makes cause None w
+        by_cause Memory f = refl
+        by_cause Length f = absurd (not_long old.cap (size_of (forget new.rows)) (size_of (with_first (forget new.rows) (row k tt w)))
+            (subst (λ (l : List Plain). length (with_first l (row k tt w)) ≤ length l) (sym same) (let n = length-forget old.rows in let m = length-forget (without old.rows k) in let q = ap length (without-forget old.rows k) in omega (arith, n, m, q, shorter old.rows k x some))) f)
+        by_cause Heavy f = given
+
+    made_row : (o : Option (Row T)) (r : Handed (Option (T × ℕ))) (cause : Cause) → row_of old.rows k ≡ o → forget new.rows ≡ forget old.rows → UpdatesRow Changes Makes old k o (Err r) new → IsNoted Gives r.cause r.held (Some w) → looked_up ≡ Some cause → IsMade Changes Makes cause r.held w
+    made_row (Some x) r cause n same h noted f = row_made r.cause cause r.held x h.0 (max h.1.0 1) n same h.1.1.1.1.0 h.1.1.1.0 noted f
+    made_row None r cause n same h noted f = new_made r.cause cause r.held n h.1 h.0 noted f
 
     -- what was handed back, where the refusal was found
-    pub made_of : (r : Handed (Option (T × ℕ))) (cause : Cause) → UpdatesOrAdmits Changes Makes old k (Err r) new → IfSome r.held (λ made. w ≡ max made.1 1) → looked_up ≡ Some cause → IsMade Makes cause r.held w
-    made_of r cause h e f = by_held r.held cause f (heavy_row (row_of old.rows k) r refl h e) (made_row Changes Makes old new k (row_of old.rows k) r h) e
+    pub made_of : (r : Handed (Option (T × ℕ))) (cause : Cause) → UpdatesOrAdmits Changes Makes old k (Err r) new → IsNoted Gives r.cause r.held (Some w) → looked_up ≡ Some cause → IsMade Changes Makes cause r.held w
+    made_of r cause h noted f = made_row (row_of old.rows k) r cause refl (refused_update Changes Makes old new k r h) h noted f
 
-    not_held : (held : Option (T × ℕ)) → looked_up ≡ None → IsHeavy held → held ≡ None
-    not_held None f v = refl
-    not_held (Some made) f v = absurd (cc)
+    new_none : (why : Cause) (held : Option (T × ℕ)) → row_of old.rows k ≡ None → new ≡ old → RefusesNew Makes old why held → IsNoted Gives why held (Some w) → looked_up ≡ None → held ≡ None
+    new_none Memory held none same h noted f = h.1
+    new_none Length held none same h noted f = h.1
+    new_none Heavy held none same h noted f = absurd (let e : None ≡ Some Heavy = sym f ∙ found_heavy h.0 none same (noted_made held h.0 h.1.1.0 noted) h.1.1.1 in cc)
+
+    none_row : (o : Option (Row T)) (r : Handed (Option (T × ℕ))) → row_of old.rows k ≡ o → UpdatesRow Changes Makes old k o (Err r) new → IsNoted Gives r.cause r.held (Some w) → looked_up ≡ None → r.held ≡ None
+    none_row (Some x) r n h noted f = h.1.1.1.1.0
+    none_row None r n h noted f = new_none r.cause r.held n h.1 h.0 noted f
 
     -- and where it was not
-    pub none_held : (r : Handed (Option (T × ℕ))) → UpdatesOrAdmits Changes Makes old k (Err r) new → IfSome r.held (λ made. w ≡ max made.1 1) → looked_up ≡ None → r.held ≡ None
-    none_held r h e f = not_held r.held f (heavy_row (row_of old.rows k) r refl h e)
+    pub none_held : (r : Handed (Option (T × ℕ))) → UpdatesOrAdmits Changes Makes old k (Err r) new → IsNoted Gives r.cause r.held (Some w) → looked_up ≡ None → r.held ≡ None
+    none_held r h noted f = none_row (row_of old.rows k) r refl h noted f
 
--- a closure that does no more than another gives a weight that the other may give
-pub given_by : {T : Type 0} (Changes Changes' : T → ℕ → ℕ → T → Type 0) (Makes : T × ℕ → Type 0) (was : Option ℕ) (w : ℕ) → ((o : T) (v x : ℕ) (n : T) → Changes o v x n → Changes' o v x n) → IsGiven Changes Makes was w → IsGiven Changes' Makes was w
-given_by Changes Changes' Makes None w to h = h
-given_by Changes Changes' Makes (Some v) w to h = (h.0, (h.1.0, (h.1.1.0, (to h.0 v h.1.1.0 h.1.0 h.1.1.1.0, h.1.1.1.1))))
+  pub noted_as : (Gives : ℕ → Type 0) (cause : Cause) (held : Option (T × ℕ)) (n m : Option ℕ) → n ≡ m → IsNoted Gives cause held n → IsNoted Gives cause held m
+  noted_as Gives cause held n m e h = subst (λ (x : Option ℕ). IsNoted Gives cause held x) e h
 
--- what was lent and left to a closure that hands its data on
-pub updates_through : {T : Type 0} (P : MutBor T → ℕ → ℕ → MutBor T → Type 0) (lent left : MutBor T) (o n : T) (v x : ℕ) → Updates P lent.now v x left.now → lent.now ≡ o → left.now ≡ n → Updates P o v x n
-updates_through P lent left o n v x u shows leaves = subst (λ m. Updates P m v x n) shows (subst (λ m. Updates P lent.now v x m) leaves u)
+  -- and where no weight is noted
+  module _ (Changes : T → ℕ → ℕ → T → Type 0) (Makes : T × ℕ → Type 0) (Gives : ℕ → Type 0) (old new : Shard T) (k : ℕ) where
+    new_unnoted : (why : Cause) (held : Option (T × ℕ)) → RefusesNew Makes old why held → IsNoted Gives why held None → held ≡ None
+    new_unnoted Memory held h noted = h.1
+    new_unnoted Length held h noted = h.1
+    new_unnoted Heavy held h noted = absurd (let e : None ≡ Some (max h.0.1 1) = subst (λ (x : Option (T × ℕ)). IsNoted Gives Heavy x None) h.1.1.0 noted in cc)
+
+    unnoted_row : (o : Option (Row T)) (r : Handed (Option (T × ℕ))) → UpdatesRow Changes Makes old k o (Err r) new → IsNoted Gives r.cause r.held None → r.held ≡ None
+    unnoted_row (Some x) r h noted = h.1.1.1.1.0
+    unnoted_row None r h noted = new_unnoted r.cause r.held h.0 noted
+
+    pub unnoted_held : (r : Handed (Option (T × ℕ))) → UpdatesOrAdmits Changes Makes old k (Err r) new → IsNoted Gives r.cause r.held None → r.held ≡ None
+    unnoted_held r h noted = unnoted_row (row_of old.rows k) r h noted

@@ -2,3 +2,4 @@ pub mod Plain
 pub mod Histories
 pub mod Replies
 pub mod Gathered
+pub mod Given

@@ -1,5 +1,5 @@
 -- What is noted of an answer: the reply, data aside; nothing where memory was wanting.
-use Rattle.std.specs.Prelude.{◌≡◌, ℕ, Bool, max, Option, Some, None, IfSome, Result, Ok, Err, option_map}
+use Rattle.std.specs.Prelude.{◌≡◌, ℕ, Bool, max, Option, Some, None, Result, Ok, Err, option_map}
 use Rattle.lru_shard.specs.declared.unit.Refused.{Refused as Handed}
 use Rattle.lru_shard.specs.declared.unit.Cause.{Cause}
 use Rattle.lru_shard.specs.declared.unit.Cause.TheVariants.{Memory, Weight as Heavy, Length}
@@ -49,15 +49,20 @@ abbrev pub set : Result (Option ℕ) Cause → Option Reply
 set (Ok was) = Some (weighed was)
 set (Err cause) = refused cause
 
+-- a weight that an `update` gave for a row of this weight, raised to 1. `Changes` says what the closure may do
+abbrev pub IsUpdated : {T : Type 0} → (T → ℕ → ℕ → T → Type 0) → ℕ → ℕ → Type 0
+IsUpdated {T} Changes was w = (old : T) × ((new : T) × ((given : ℕ) × (Changes old was given new × (w ≡ max given 1))))
+
 -- the weight that is noted of an `update_or_admit` that was not refused: the one that the called closure gave, at least
 -- 1. `Changes` and `Makes` say what the closures may do
 abbrev pub IsGiven : {T : Type 0} → (T → ℕ → ℕ → T → Type 0) → (T × ℕ → Type 0) → Option ℕ → ℕ → Type 0
 IsGiven {T} Changes Makes None w = (made : T × ℕ) × (Makes made × (w ≡ max made.1 1))
-IsGiven {T} Changes Makes (Some was) w = (old : T) × ((new : T) × ((given : ℕ) × (Changes old was given new × (w ≡ max given 1))))
+IsGiven Changes Makes (Some was) w = IsUpdated Changes was w
 
--- the same of one that was refused for this cause, with what it handed back: want of memory and Length come before
--- anything is made
-abbrev pub IsMade : {T : Type 0} → (T × ℕ → Type 0) → Cause → Option (T × ℕ) → ℕ → Type 0
-IsMade Makes Memory held w = held ≡ None
-IsMade Makes Length held w = held ≡ None
-IsMade Makes Heavy held w = IfSome held (λ made. Makes made × (w ≡ max made.1 1))
+-- the same of one that was refused for this cause, with what it handed back. Want of memory and Length come before a
+-- closure is called; Weight hands back what was made, and nothing where a row was updated
+abbrev pub IsMade : {T : Type 0} → (T → ℕ → ℕ → T → Type 0) → (T × ℕ → Type 0) → Cause → Option (T × ℕ) → ℕ → Type 0
+IsMade Changes Makes Memory held w = held ≡ None
+IsMade Changes Makes Length held w = (held ≡ None) × (w ≡ 0)
+IsMade Changes Makes Heavy (Some made) w = Makes made × (w ≡ max made.1 1)
+IsMade Changes Makes Heavy None w = ∥ ((was : ℕ) × IsUpdated Changes was w) ∥₁

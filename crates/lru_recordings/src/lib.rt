@@ -3,5 +3,6 @@
 #![tactic(auto)]
 
 pub mod gathered;
+mod given;
 pub mod recording;
 mod replies;

@@ -11,12 +11,14 @@ ghost use Rattle.lru_recordings.specs.Plain.{forget};
 ghost use Rattle.lru_recordings.specs.Histories.{left_by, answers, replies, home, IsEviction};
 ghost use Rattle.lru_recordings.specs.Replies.{refused, weighed, paired, increments, IsGiven, IsMade};
 
+use crate::given::update_or_admit;
 use crate::replies::{admitted, incremented, inserted, new_weight, paired, set, weighed};
 use lru_journals::entry::{Call, Reply};
 use lru_journals::journal::{Journal, Seat};
 use lru_journals::tie::{Registry, Tie, Token};
 use lru_shard::unit::{Cause, LruUnit, Refused};
 use std::alloc::{AllocError, Global};
+use std::marker::Brand;
 
 // The most rows that any shard has.
 const MOST_ROWS: usize = 4294967293;
@@ -46,22 +48,6 @@ fn increments(key: u64, delta: usize, max_weight: Option<usize>) -> Call
             max_weight,
         },
     }
-}
-
-// Updates data, and keeps the weight that comes of it, at least 1.
-fn applied<T, U: FnOnce(&mut T, usize) -> usize>(
-    update: U,
-    data: &mut T,
-    old: usize,
-    given: &mut usize,
-) -> usize
-    requires { U.IsAlwaysCallable update }
-    ensures given { given.new ≡ max result 1 }
-    ensures weight { Updates (U.post update) data.old old result data.new }
-{
-    let weight = update(data, old);
-    *given = weight.max(1);
-    weight
 }
 
 // Puts a key's row first unless it is among the first `top`, and answers whether there is one.
@@ -113,17 +99,6 @@ fn refusal_of<T>(unit: &LruUnit<T>, cap: usize, key: u64, weight: usize) -> Opti
         Some(Cause::Weight)
     } else {
         None
-    }
-}
-
-// The weight that is noted of a refused update or admission: that of what was made, where it was made, at least 1; else
-// the one that is given.
-fn noted_weight<T>(held: &Option<(T, usize)>, given: usize) -> usize
-    ensures { IfSome held.now (λ made. result ≡ max made.1 1) }
-{
-    match held {
-        None => given,
-        Some((_, made)) => (*made).max(1),
     }
 }
 
@@ -418,7 +393,7 @@ impl<T: Drop, B: Registry, const N: usize> Recording<T, B, N> {
         requires update { U.IsAlwaysCallable update }
         requires admit_data { A.IsAlwaysCallable admit_data }
         ensures ok { IfOk result (λ was. (w : _) × (IsGiven (Updates (U.post update)) (A.post admit_data) was w × GetsReceipt seat.old.receipts.items self.old.journal.number (Call.UpdateOrAdmit key w) (Some (weighed was)) seat.new.receipts.items)) }
-        ensures err { IfErr result (λ r. (w : _) × (IsMade (A.post admit_data) r.cause r.held w × GetsReceipt seat.old.receipts.items self.old.journal.number (Call.UpdateOrAdmit key w) (refused r.cause) seat.new.receipts.items)) }
+        ensures err { IfErr result (λ r. (w : _) × (IsMade (Updates (U.post update)) (A.post admit_data) r.cause r.held w × GetsReceipt seat.old.receipts.items self.old.journal.number (Call.UpdateOrAdmit key w) (refused r.cause) seat.new.receipts.items)) }
         ensures same { (self.new.journal.number ≡ self.old.journal.number) × (seat.new.number ≡ seat.old.number) }
     {
         let Recording { unit, journal } = self;
@@ -428,25 +403,21 @@ impl<T: Drop, B: Registry, const N: usize> Recording<T, B, N> {
                 held: None,
             });
         }
-        let mut given = 0;
-        let answer = unit.update_or_admit(
-            key,
-            |data: &mut T, old: usize| -> usize
-                requires { U.IsAlwaysCallable update }
-                ensures { Updates (U.post update) data.old old result data.new }
-            { applied(update, data, old, &mut given) },
-            admit_data,
-        );
-        let refusal = match answer {
+        let answer = update_or_admit::<Brand, T, U, A>(unit, key, update, admit_data);
+        let (Refused { held, .. }, weight) = match answer {
             Ok((was, weight)) => {
                 journal.note(tie, seat, Call::UpdateOrAdmit { key, weight }, weighed(was));
                 return Ok(was);
             }
             Err(refusal) => refusal,
         };
-        let weight = noted_weight(&refusal.held, given);
-        // No proof knows what a closure wrote to what it had captured, so the refusal is looked up again.
-        let held = refusal.held;
+        let Some(weight) = weight else {
+            return Err(Refused {
+                cause: Cause::Memory,
+                held,
+            });
+        };
+        // No proof knows which weight of those that the closure may give it gave, so the refusal is looked up again.
         let Some(cause) = refusal_of(unit, usize::MAX / N, key, weight) else {
             return Err(Refused {
                 cause: Cause::Memory,
