@@ -27,10 +27,10 @@ abbrev pub status_of : List (Option Asked) → ℕ
 status_of lines = if list_all is_some lines then 0 else 2
 
 -- The lines are served, from line 1 on: a text for them was written, and this folder is left.
-abbrev pub WritesFor : {F : Type 0} → Meaning F → State F → List (Option Asked) → List ℕ → List ℕ → F → Type 0
+abbrev pub WritesFor : {F : Type 0} → Meaning F → State F → List (Option Asked) → Option (List ℕ) → Option (List ℕ) → F → Type 0
 WritesFor m state lines old new last = (text : List ℕ) × (Serves m state lines 1 text last × Appends old new text)
 
 -- A run with these settings over these lines ends with their status, and they were served.
-abbrev pub Runs : {F : Type 0} → Meaning F → Settings → F → List (Option Asked) → ℕ → List ℕ → List ℕ → F → Type 0
+abbrev pub Runs : {F : Type 0} → Meaning F → Settings → F → List (Option Asked) → ℕ → Option (List ℕ) → Option (List ℕ) → F → Type 0
 Runs m settings folder lines status old new last =
     (status ≡ status_of lines) × WritesFor m (record { core = fresh settings; folder = folder; words = words_of settings.seed }) lines old new last

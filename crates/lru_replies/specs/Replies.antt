@@ -119,7 +119,7 @@ Answers m old (Load dir file) text new =
     × ((text ≡ load_text result) × (new.words ≡ old.words)))
 
 -- a command's reply was written
-abbrev pub WritesReply : {F : Type 0} → Meaning F → State F → Asked → List ℕ → List ℕ → State F → Type 0
+abbrev pub WritesReply : {F : Type 0} → Meaning F → State F → Asked → Option (List ℕ) → Option (List ℕ) → State F → Type 0
 WritesReply m old command before after new = (text : List ℕ) × (Answers m old command text new × Appends before after text)
 
 -- the lines, from number n on, may write this text, and leave this folder: each command's reply in turn, up to and with the first bad line
