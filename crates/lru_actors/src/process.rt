@@ -1,6 +1,7 @@
 //! Messages processed with the map of weights and the queue of evicted pairs.
 ghost use Rattle.std.specs.Prelude.{◌≡◌, ℕ, ◌<◌, Some, None, IsTrue, IsFalse, IsSome, nat_eq, ◌≤◌, [], vec_len, vec_capacity};
 ghost use Rattle.std.specs.HashMap as hash;
+ghost use Rattle.lru_shard.specs.Shard.{longer_of};
 ghost use Rattle.lru_actors.specs.Messages.{looks};
 ghost use Rattle.lru_actors.specs.Processing.{mapped, queued, MapHasRoom, HasPlace, MayWantRoom, IsKept, HandsOver, Processes, ProcessesAll};
 
