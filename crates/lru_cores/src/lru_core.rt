@@ -496,7 +496,8 @@ impl<T: Drop, const N: usize> LruCore<T, N> {
         requires { row_of (list_at self.old (home self.old key)) key ≡ None }
         ensures { CorePulls self.old from.old key result self.new from.new }
     {
-        let _units = (&self.units, &from.units);
+        let _units = &self.units;
+        let _others = &from.units;
         let shard = (key % N as u64) as usize;
         let unit = &mut self.units[shard];
         let other = &mut from.units[shard];
