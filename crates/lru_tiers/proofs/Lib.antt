@@ -1,0 +1,4 @@
+pub mod Times
+pub mod Moving
+pub mod Keeping
+pub mod Spilling
