@@ -1,5 +1,5 @@
 -- The calls keep the tiers apart.
-use Rattle.std.proofs.Common.{◌≡◌, ◌≢◌, ℕ, ◌+◌, ◌-◌, ◌<◌, ◌≤◌, List, [], ◌∷◌, length, take, Some, None, Ok, Err, refl, sym, ap, ◌∙◌, arith, subst, inl, inr, cond, eqb, false}
+use Rattle.std.proofs.Common.{◌≡◌, ◌≢◌, ℕ, ◌-◌, ◌<◌, ◌≤◌, List, [], ◌∷◌, length, Some, None, Ok, Err, refl, sym, ap, ◌∙◌, arith, subst, inl, inr, cond, eqb, false}
 use Rattle.std.specs.Prelude.{Option, Result, max, option_map, is_some}
 use Rattle.std.specs.Option.{option_map_or}
 use Rattle.std.proofs.lemmas.Bool.{cases_eq, true≢false}
@@ -7,8 +7,8 @@ use Rattle.std.proofs.lemmas.List.{length-set}
 use Rattle.std.proofs.lemmas.List.Sums.{sum_by-take-le}
 use Rattle.lru_shard.specs.declared.unit.Cause.{Cause}
 use Rattle.lru_shard.specs.declared.unit.Refused.{Refused}
-use Rattle.lru_shard.specs.Row.{Row, row, row_of, is_held, pair_of, times, first, without, without_last}
-use Rattle.lru_shard.specs.Shard.{Shard, shard}
+use Rattle.lru_shard.specs.Row.{Row, row, is_held, pair_of, times, first, without, without_last}
+use Rattle.lru_shard.specs.Shard.{Shard}
 use Rattle.lru_shard.specs.Unit.{accessed}
 use Rattle.lru_shard.proofs.Rows.{times-without_same, times-without_other}
 use Rattle.lru_shard.proofs.Edits.{accessed_at}
@@ -19,7 +19,7 @@ use Rattle.lru_cores.specs.CoreCalls.{CoreAdmits, CorePulls}
 use Rattle.lru_cores.specs.Eviction.{Evicts, EvictionRun}
 use Rattle.lru_tiers.specs.Tiers.{Tiers, tiers, row_in, core_without, times_in, IsTier, AreTiers}
 use Rattle.lru_tiers.proofs.Times.{times_found, times_first, times_first_other, times_with, times_at, with_same, home_in, tier_with, times_home, times_row, absent_same}
-use Rattle.lru_tiers.proofs.Moving.{Moved, moved, not_moved, none_there, times_moved}
+use Rattle.lru_tiers.proofs.Moving.{moved, not_moved, none_there, times_moved}
 
 module _ {T : Type 0} where
   -- the row that was taken out

@@ -1,9 +1,9 @@
 -- A row that goes from one core into another: what its pull leaves, and that each key has as many rows as before.
-use Rattle.std.proofs.Common.{◌≡◌, ◌≢◌, ℕ, ◌+◌, ◌<◌, ◌≤◌, List, [], ◌∷◌, length, Some, None, Ok, Err, refl, sym, ap, ◌∙◌, arith, subst, inl, inr}
-use Rattle.std.specs.Prelude.{Option, option_map}
+use Rattle.std.proofs.Common.{◌≡◌, ℕ, ◌+◌, ◌<◌, ◌≤◌, length, Some, None, Ok, Err, refl, sym, ap, ◌∙◌, arith, subst, inl, inr}
+use Rattle.std.specs.Prelude.{Option}
 use Rattle.std.proofs.lemmas.Bool.{cases_eq}
 use Rattle.lru_shard.specs.declared.unit.Cause.{Cause}
-use Rattle.lru_shard.specs.Row.{Row, row_of, times, first, without}
+use Rattle.lru_shard.specs.Row.{Row, times, first, without}
 use Rattle.lru_shard.specs.Shard.{Shard, shard}
 use Rattle.lru_shard.specs.Unit.{PullsRow}
 use Rattle.lru_shard.proofs.Rows.{times-without_same, times-without_other}

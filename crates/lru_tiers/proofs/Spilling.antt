@@ -1,19 +1,19 @@
 -- What a spill is, and runs of spills.
-use Rattle.std.proofs.Common.{◌≡◌, ℕ, ◌+◌, ◌<◌, ◌≤◌, List, [], ◌∷◌, ◌++◌, length, Some, None, Ok, Err, refl, sym, ap, ◌∙◌, arith, subst, true}
-use Rattle.std.specs.Prelude.{Option, Result, sum_by}
+use Rattle.std.proofs.Common.{◌≡◌, ℕ, ◌+◌, ◌<◌, List, [], ◌∷◌, ◌++◌, length, Some, None, Ok, Err, refl, sym, ap, ◌∙◌, arith, subst, true}
+use Rattle.std.specs.Prelude.{Option, Result}
 use Rattle.std.proofs.lemmas.Bool.{false≢true}
 use Rattle.std.proofs.lemmas.List.Sums.{sum_by-set}
 use Rattle.lru_shard.specs.declared.unit.Cause.{Cause}
-use Rattle.lru_shard.specs.Row.{Row, row_of, times, first, without}
+use Rattle.lru_shard.specs.Row.{Row, times, without}
 use Rattle.lru_shard.proofs.Edits.{at_row, length-without}
 use Rattle.lru_shard.proofs.UnitCalls.{times_none}
 use Rattle.rand_core.specs.Stream.{Stream}
 use Rattle.lru_rules.specs.Draws.{drawn_shards}
-use Rattle.lru_cores.specs.Core.{Core, core_len, list_at, with_list, home, IsCore}
+use Rattle.lru_cores.specs.Core.{Core, core_len, list_at, home, IsCore}
 use Rattle.lru_cores.specs.CoreCalls.{CorePulls}
 use Rattle.lru_cores.specs.Eviction.{is_over, NamesVictim}
-use Rattle.lru_tiers.specs.Tiers.{Tiers, tiers, row_in, core_without, times_in, IsTier, AreTiers}
-use Rattle.lru_tiers.specs.TierCalls.{Spills, SpillRun}
+use Rattle.lru_tiers.specs.Tiers.{Tiers, tiers, row_in, times_in, AreTiers}
+use Rattle.lru_tiers.specs.TierCalls.{Spills, SpillRun, StopsSpilling}
 use Rattle.lru_tiers.proofs.Times.{times_last, times_at, home_in, none_in, times_home}
 use Rattle.lru_tiers.proofs.Moving.{moved, not_moved, none_there}
 
@@ -68,3 +68,17 @@ module _ {T : Type 0} where
       (new, (subst (λ (d : (ℕ × ℕ) × Stream). Spills old d.0.0 d.0.1 (Ok (Some k)) new) at here, (refl, ap (λ (d : (ℕ × ℕ) × Stream). d.1) at)))
   run_push n old words (j ∷ js) mid left drawn rest k new long draws run h =
       (run.0, (run.1.0, run_push n run.0 _ js mid left drawn rest k new long draws run.1.1 h))
+
+  -- a run ends where a spill is refused
+  pub stops : (n : ℕ) (old : Tiers T) (words : Stream) (mid : Tiers T) (left : Stream) (drawn : ℕ × ℕ) (rest : Stream) (cause : Cause) (new : Tiers T) → n ≡ length mid.hot.lists → (drawn, rest) ≡ drawn_shards n left
+      → (keys : List ℕ) × SpillRun old words keys mid left → Spills mid drawn.0 drawn.1 (Err cause) new → StopsSpilling old words cause new rest
+  stops n old words mid left drawn rest cause new long draws run h =
+      let same : new ≡ mid = h.1.1.1 in
+      record {
+        keys = run.0;
+        left = left;
+        run = subst (λ (z : Tiers T). SpillRun old words run.0 z left) (sym same) run.1;
+        drawn = drawn;
+        draws = draws ∙ ap (λ m. drawn_shards m left) (long ∙ ap (λ (t : Tiers T). length t.hot.lists) (sym same));
+        refused = subst (λ (z : Tiers T). Spills z drawn.0 drawn.1 (Err cause) new) (sym same) h;
+      }

@@ -1,14 +1,12 @@
 -- How many rows have a key, in a list and in a core.
-use Rattle.std.proofs.Common.{◌≡◌, ◌≢◌, ℕ, ◌+◌, ◌%◌, ◌<◌, ◌≤◌, List, [], ◌∷◌, ◌++◌, length, set, get_or, Some, None, refl, sym, ap, ◌∙◌, arith, subst, inl, inr, cond, zero, suc}
-use Rattle.std.specs.Prelude.{Option, sum_by}
+use Rattle.std.proofs.Common.{◌≡◌, ◌≢◌, ℕ, ◌+◌, ◌%◌, ◌<◌, ◌≤◌, List, [], ◌∷◌, length, set, get_or, Some, None, refl, sym, ap, ◌∙◌, arith, inl, inr}
 use Rattle.std.proofs.lemmas.Bool.{cases_eq, cases_lt, eq-eqb, ne_eqb}
 use Rattle.std.proofs.lemmas.List.{length-set, get_or-set_same, get_or-set_other, set-get_or}
-use Rattle.std.proofs.lemmas.List.Sums.{sum_by-set, sum_by-le, sum_by-take-le, get_or-le-sum_by}
+use Rattle.std.proofs.lemmas.List.Sums.{sum_by-set, sum_by-le, get_or-le-sum_by}
 use Rattle.std.proofs.lemmas.List.Elements.{All-from_get_or}
 use Rattle.lru_shard.specs.Row.{Row, row_of, times, first, without, last_row, without_last}
 use Rattle.lru_shard.proofs.Rows.{times-append, times_yes, times_no, times-without_same, times-without_other, without_absent, row_of_absent}
 use Rattle.lru_shard.proofs.Edits.{split_row}
-use Rattle.lru_shard.proofs.UnitCalls.{times_none}
 use Rattle.lru_shard.proofs.LastRows.{last_split}
 use Rattle.lru_cores.specs.Core.{Core, list_at, with_list, home, IsCore}
 use Rattle.lru_tiers.specs.Tiers.{row_in, core_without, times_in, IsTier}

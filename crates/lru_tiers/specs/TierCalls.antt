@@ -1,5 +1,5 @@
 -- The calls of two tiers: what each may answer, and both cores after it.
-use Rattle.std.specs.Prelude.{◌≡◌, ℕ, List, [], ◌∷◌, length, Option, Some, None, Result, Ok, Err, option_map, ◌⊎◌, IsTrue, IsFalse}
+use Rattle.std.specs.Prelude.{◌≡◌, ℕ, List, [], ◌∷◌, length, Option, Some, None, Result, Ok, Err, ◌⊎◌, IsFalse}
 use Rattle.lru_shard.specs.declared.unit.Refused.{Refused}
 use Rattle.lru_shard.specs.declared.unit.Cause.{Cause}
 use Rattle.lru_shard.specs.declared.unit.Cause.TheVariants.{Memory}
@@ -12,7 +12,6 @@ use Rattle.lru_cores.specs.CoreCalls.{CoreAdmits, CorePulls}
 use Rattle.lru_cores.specs.Eviction.{is_over, NamesVictim, EvictsToLimit, IsCutShort}
 use Rattle.lru_tiers.specs.declared.tiered.Tier.{Tier}
 use Rattle.lru_tiers.specs.declared.tiered.Tier.TheVariants.{Hot, Cold}
-use Rattle.lru_tiers.specs.declared.tiered.BalanceError.{BalanceError}
 use Rattle.lru_tiers.specs.Tiers.{Tiers, tiers, core_without, row_where}
 
 module _ {T : Type 0} where

@@ -1,5 +1,4 @@
-use Rattle.std.proofs.Common.{Some, sym, ap, ◌∙◌, subst}
-use Rattle.std.specs.Prelude.{option_map}
+use Rattle.std.proofs.Common.{sym, ap, ◌∙◌, subst}
 use Rattle.lru_cores.specs.Core.{Core}
 use Rattle.lru_tiers.specs.Tiers.{tiers, core_without, AreTiers}
 use Rattle.lru_tiers.proofs.Keeping.{keeps_removed, only_hot, of_pair}

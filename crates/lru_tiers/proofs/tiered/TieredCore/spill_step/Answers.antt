@@ -1,4 +1,4 @@
-use Rattle.std.proofs.Common.{Ok, Err, Some, None, sym, ap, ◌∙◌, subst, refl, lit<}
+use Rattle.std.proofs.Common.{Ok, ap, ◌∙◌, subst, lit<}
 use Rattle.lru_cores.specs.CoreCalls.{CorePulls}
 use Rattle.lru_tiers.specs.Tiers.{tiers}
 use Rattle.lru_tiers.proofs.Keeping.{keeps_pushed}

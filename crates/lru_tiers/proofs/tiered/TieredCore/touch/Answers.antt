@@ -1,7 +1,7 @@
-use Rattle.std.proofs.Common.{Ok, Err, Some, None, sym, ap, ◌∙◌, subst, refl}
+use Rattle.std.proofs.Common.{sym, ◌∙◌, subst}
 use Rattle.lru_cores.specs.Core.{Core}
 use Rattle.lru_cores.specs.CoreCalls.{CorePulls}
-use Rattle.lru_tiers.specs.Tiers.{tiers, AreTiers}
+use Rattle.lru_tiers.specs.Tiers.{tiers}
 use Rattle.lru_tiers.proofs.Keeping.{keeps_promoted, keeps_pulled, unpromoted}
 use Rattle.lru_tiers.proofs.tiered.TieredCore.touch.Goals as goal
 
