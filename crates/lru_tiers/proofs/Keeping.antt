@@ -1,9 +1,8 @@
 -- The calls keep the tiers apart.
-use Rattle.std.proofs.Common.{◌≡◌, ◌≢◌, ℕ, ◌-◌, ◌<◌, ◌≤◌, List, [], ◌∷◌, length, Some, None, Ok, Err, refl, sym, ap, ◌∙◌, arith, subst, inl, inr, cond, eqb, false}
+use Rattle.std.proofs.Common.{◌≡◌, ◌≢◌, ℕ, ◌+◌, ◌-◌, ◌<◌, ◌≤◌, List, [], ◌∷◌, length, Some, None, Ok, Err, refl, sym, ap, ◌∙◌, arith, subst, inl, inr, cond, eqb, false}
 use Rattle.std.specs.Prelude.{Option, Result, max, option_map, is_some}
 use Rattle.std.specs.Option.{option_map_or}
 use Rattle.std.proofs.lemmas.Bool.{cases_eq, true≢false}
-use Rattle.std.proofs.lemmas.List.{length-set}
 use Rattle.std.proofs.lemmas.List.Sums.{sum_by-take-le}
 use Rattle.lru_shard.specs.declared.unit.Cause.{Cause}
 use Rattle.lru_shard.specs.declared.unit.Refused.{Refused}
@@ -14,11 +13,11 @@ use Rattle.lru_shard.proofs.Rows.{times-without_same, times-without_other}
 use Rattle.lru_shard.proofs.Edits.{accessed_at}
 use Rattle.lru_shard.proofs.Pulls.{row_key}
 use Rattle.rand_core.specs.Stream.{Stream}
-use Rattle.lru_cores.specs.Core.{Core, list_at, with_list, home, IsCore}
+use Rattle.lru_cores.specs.Core.{Core, list_at, with_list, home}
 use Rattle.lru_cores.specs.CoreCalls.{CoreAdmits, CorePulls}
 use Rattle.lru_cores.specs.Eviction.{Evicts, EvictionRun}
-use Rattle.lru_tiers.specs.Tiers.{Tiers, tiers, row_in, core_without, times_in, IsTier, AreTiers}
-use Rattle.lru_tiers.proofs.Times.{times_found, times_first, times_first_other, times_with, times_at, with_same, home_in, tier_with, times_home, times_row, absent_same}
+use Rattle.lru_tiers.specs.Tiers.{Tiers, tiers, row_in, core_without, times_in, times_of, IsTier, AreTiers}
+use Rattle.lru_tiers.proofs.Times.{times_found, times_first, times_first_other, times_with, times_at, with_same, home_in, tier_with, tier_without, tier_first, times_home, times_core_without_same, times_row, absent_same}
 use Rattle.lru_tiers.proofs.Moving.{moved, not_moved, none_there, times_moved}
 
 module _ {T : Type 0} where
@@ -51,8 +50,8 @@ module _ {T : Type 0} where
   module _ (n : ℕ) (t : Tiers T) (is : AreTiers n t) where
     pub keeps_removed : (k : ℕ) → AreTiers n (tiers (core_without t.hot k) (core_without t.cold k))
     keeps_removed k = record {
-      hot = tier_with n t.hot (home t.hot k) _ is.hot;
-      cold = tier_with n t.cold (home t.cold k) _ is.cold;
+      hot = tier_without n t.hot k is.hot;
+      cold = tier_without n t.cold k is.cold;
       apart = λ q. omega (arith, is.apart q, times_core_without n t.hot k is.hot q, times_core_without n t.cold k is.cold q);
     }
 
@@ -61,21 +60,21 @@ module _ {T : Type 0} where
     only_hot k r h = absent_same n t.cold k is.cold (omega (arith, is.apart k, times_row n t.hot k r is.hot h))
 
     -- one is pulled into the other
-    keeps_touched : (k w : ℕ) (new left : Core T) → CorePulls t.hot t.cold k (Ok (Some w)) new left → AreTiers n (tiers new left)
+    pub keeps_touched : (k w : ℕ) (new left : Core T) → CorePulls t.hot t.cold k (Ok (Some w)) new left → AreTiers n (tiers new left)
     keeps_touched k w new left h =
         let m = moved t.hot t.cold k new left w h in
         record {
-          hot = subst (IsTier n) (sym m.new_is) (tier_with n t.hot (home t.hot k) _ is.hot);
-          cold = subst (IsTier n) (sym m.left_is) (tier_with n t.cold (home t.cold k) _ is.cold);
+          hot = subst (IsTier n) (sym m.new_is) (tier_first n t.hot k is.hot m.row (row_key (list_at t.cold (home t.cold k)) k m.row m.found));
+          cold = subst (IsTier n) (sym m.left_is) (tier_without n t.cold k is.cold);
           apart = λ q. omega (arith, is.apart q, times_moved t.hot t.cold k new left n is.hot is.cold m q (is.apart q));
         }
 
-    keeps_spilled : (k w : ℕ) (new left : Core T) → CorePulls t.cold t.hot k (Ok (Some w)) new left → AreTiers n (tiers left new)
+    pub keeps_spilled : (k w : ℕ) (new left : Core T) → CorePulls t.cold t.hot k (Ok (Some w)) new left → AreTiers n (tiers left new)
     keeps_spilled k w new left h =
         let m = moved t.cold t.hot k new left w h in
         record {
-          hot = subst (IsTier n) (sym m.left_is) (tier_with n t.hot (home t.hot k) _ is.hot);
-          cold = subst (IsTier n) (sym m.new_is) (tier_with n t.cold (home t.cold k) _ is.cold);
+          hot = subst (IsTier n) (sym m.left_is) (tier_without n t.hot k is.hot);
+          cold = subst (IsTier n) (sym m.new_is) (tier_first n t.cold k is.cold m.row (row_key (list_at t.hot (home t.hot k)) k m.row m.found));
           apart = λ q. omega (arith, is.apart q, times_moved t.cold t.hot k new left n is.cold is.hot m q (omega (arith, is.apart q)));
         }
 
@@ -91,9 +90,9 @@ module _ {T : Type 0} where
 
     -- a hot row is put first
     module _ (k : ℕ) (new : Core T) (new_is : new ≡ with_list t.hot (home t.hot k) (accessed (list_at t.hot (home t.hot k)) k)) where
-      times_promoted : (o : Option (Row T)) → row_in t.hot k ≡ o → (q : ℕ) → times_in q new ≡ times_in q t.hot
-      times_promoted None none q = ap (times_in q) (new_is ∙ ap (λ o. with_list t.hot (home t.hot k) (option_map_or (λ (r : Row T). first (list_at t.hot (home t.hot k)) r) o (list_at t.hot (home t.hot k)))) none ∙ with_same t.hot (home t.hot k))
-      times_promoted (Some r) found q =
+      times_promoted_at : (o : Option (Row T)) → row_in t.hot k ≡ o → (q : ℕ) → times_in q new ≡ times_in q t.hot
+      times_promoted_at None none q = ap (times_in q) (new_is ∙ ap (λ o. with_list t.hot (home t.hot k) (option_map_or (λ (r : Row T). first (list_at t.hot (home t.hot k)) r) o (list_at t.hot (home t.hot k)))) none ∙ with_same t.hot (home t.hot k))
+      times_promoted_at (Some r) found q =
           let rows = list_at t.hot (home t.hot k) in
           let at = home_in n t.hot k is.hot in
           let put = new_is ∙ ap (with_list t.hot (home t.hot k)) (accessed_at rows k r found) in
@@ -107,48 +106,59 @@ module _ {T : Type 0} where
             | inr ne ↦ omega (arith, sum, ap (times_in q) put, times_first_other rows r q (λ e. ne (e ∙ key)))
           ]
 
+      pub times_promoted : (q : ℕ) → times_in q new ≡ times_in q t.hot
+      times_promoted = times_promoted_at (row_in t.hot k) refl
+
+      tier_promoted : (o : Option (Row T)) → row_in t.hot k ≡ o → IsTier n new
+      tier_promoted None none = subst (IsTier n) (sym (new_is ∙ ap (λ o. with_list t.hot (home t.hot k) (option_map_or (λ (r : Row T). first (list_at t.hot (home t.hot k)) r) o (list_at t.hot (home t.hot k)))) none ∙ with_same t.hot (home t.hot k))) is.hot
+      tier_promoted (Some r) found =
+          let rows = list_at t.hot (home t.hot k) in
+          subst (IsTier n) (sym (new_is ∙ ap (with_list t.hot (home t.hot k)) (accessed_at rows k r found))) (tier_first n t.hot k is.hot r (row_key rows k r found))
+
       pub keeps_promoted : AreTiers n (tiers new t.cold)
       keeps_promoted = record {
-        hot = subst (IsTier n) (sym new_is) (tier_with n t.hot (home t.hot k) _ is.hot);
+        hot = tier_promoted (row_in t.hot k) refl;
         cold = is.cold;
-        apart = λ q. omega (arith, is.apart q, times_promoted (row_in t.hot k) refl q);
+        apart = λ q. omega (arith, is.apart q, times_promoted q);
       }
 
     -- a row is admitted
-    module _ (hot : IsCore n t.hot) (cold : IsCore n t.cold) (k : ℕ) where
-      pub keeps_admitted : (d : T) (w s : ℕ) (new : Core T) → CoreAdmits t.hot k d w (Ok s) new → AreTiers n (tiers new (core_without t.cold k))
-      keeps_admitted d w s new h =
+    module _ (k : ℕ) (d : T) (w s : ℕ) (new : Core T) (h : CoreAdmits t.hot k d w (Ok s) new) where
+      put : new ≡ with_list t.hot (home t.hot k) (first (list_at t.hot (home t.hot k)) (row k d (max w 1)))
+      put = h.1.1.left ∙ ap (with_list t.hot (home t.hot k)) (ap (λ (x : Shard T). x.rows) h.1.1.acts.1.left)
+
+      pub times_admitted : (times_in k new + times_in k (core_without t.cold k) ≡ 1) × ((q : ℕ) → q ≢ k → times_in q new + times_in q (core_without t.cold k) ≡ times_of q t)
+      times_admitted =
           let rows = list_at t.hot (home t.hot k) in
           let r = row k d (max w 1) in
-          let put : new ≡ with_list t.hot (home t.hot k) (first rows r) = h.1.1.left ∙ ap (with_list t.hot (home t.hot k)) (ap (λ (x : Shard T). x.rows) h.1.1.acts.1.left) in
-          let at = home_in n t.hot k is.hot in
-          record {
-            hot = subst (IsTier n) (sym put) (tier_with n t.hot (home t.hot k) _ is.hot);
-            cold = tier_with n t.cold (home t.cold k) _ is.cold;
-            apart = λ q.
-                let sum = times_with t.hot (home t.hot k) at (first rows r) q in
-                let gone = times_with t.cold (home t.cold k) (home_in n t.cold k is.cold) (without (list_at t.cold (home t.cold k)) k) q in
-                elim (cases_eq q k) [
-                  | inl e ↦
-                      let own_hot : times_in q t.hot ≡ times q rows = ap (λ j. times_in j t.hot) e ∙ times_home n t.hot hot k ∙ ap (λ j. times j rows) (sym e) in
-                      let own_cold : times_in q t.cold ≡ times q (list_at t.cold (home t.cold k)) = ap (λ j. times_in j t.cold) e ∙ times_home n t.cold cold k ∙ ap (λ j. times j (list_at t.cold (home t.cold k))) (sym e) in
-                      let one : times q (first rows r) ≡ 1 = ap (λ j. times j (first rows r)) e ∙ times_first rows r in
-                      let none : times q (without (list_at t.cold (home t.cold k)) k) ≡ 0 = ap (λ j. times j (without (list_at t.cold (home t.cold k)) k)) e ∙ times-without_same k (list_at t.cold (home t.cold k)) in
-                      omega (arith, sum, gone, own_hot, own_cold, one, none, ap (times_in q) put)
-                  | inr ne ↦ omega (arith, is.apart q, sum, ap (times_in q) put, times_first_other rows r q ne, times_core_without_other n t.cold k is.cold q ne)
-                ];
-          }
+          let at = home_in n t.hot k is.hot in (
+            omega (arith, ap (times_in k) put, times_with t.hot (home t.hot k) at (first rows r) k, times_first rows r, times_home n t.hot is.hot k, times_core_without_same n t.cold k is.cold),
+            λ q ne. omega (arith, ap (times_in q) put, times_with t.hot (home t.hot k) at (first rows r) q, times_first_other rows r q ne, times_core_without_other n t.cold k is.cold q ne),
+          )
+
+      pub keeps_admitted : AreTiers n (tiers new (core_without t.cold k))
+      keeps_admitted = record {
+        hot = subst (IsTier n) (sym put) (tier_first n t.hot k is.hot (row k d (max w 1)) refl);
+        cold = tier_without n t.cold k is.cold;
+        apart = λ q. elim (cases_eq q k) [
+          | inl e ↦ omega (arith, times_admitted.0, ap (λ j. times_in j new) e, ap (λ j. times_in j (core_without t.cold k)) e)
+          | inr ne ↦ omega (arith, is.apart q, times_admitted.1 q ne)
+        ];
+      }
 
     pub refused_admit : (k : ℕ) (d : T) (w : ℕ) (r : Refused T) (new : Core T) → CoreAdmits t.hot k d w (Err r) new → new ≡ t.hot
     refused_admit k d w r new h = h.left ∙ ap (with_list t.hot (home t.hot k)) (ap (λ (x : Shard T). x.rows) h.acts.declines.left) ∙ with_same t.hot (home t.hot k)
 
   -- evictions
   module _ (n : ℕ) where
-    evicted_in : (old : Core T) (a b : ℕ) (pair : T × ℕ) (new : Core T) (e : Evicts old a b pair new) → e.victim < length old.lists
+    pub evicted_in : (old : Core T) (a b : ℕ) (pair : T × ℕ) (new : Core T) (e : Evicts old a b pair new) → e.victim < length old.lists
     evicted_in old a b pair new e = omega (arith, e.is_victim.place, e.is_victim.near)
 
     step_tier : (old : Core T) (a b : ℕ) (pair : T × ℕ) (new : Core T) → Evicts old a b pair new → IsTier n old → IsTier n new
-    step_tier old a b pair new e t = subst (IsTier n) (sym e.left) (record { some = t.some; count = length-set old.lists e.victim (without_last (list_at old e.victim)) ∙ t.count; unmarked = t.unmarked })
+    step_tier old a b pair new e t =
+        let rows = list_at old e.victim in
+        let less = tier_with n old e.victim (without_last rows) (evicted_in old a b pair new e) t (λ q h. t.homes e.victim q (omega (arith, h, sum_by-take-le (λ (r : Row T). cond (eqb r.key q) 1 0) rows (length rows - 1)))) in
+        subst (IsTier n) (sym e.left) (record { some = less.some; count = less.count; homes = less.homes; unmarked = less.unmarked })
 
     step_times : (old : Core T) (a b : ℕ) (pair : T × ℕ) (new : Core T) → Evicts old a b pair new → (q : ℕ) → times_in q new ≤ times_in q old
     step_times old a b pair new e q =

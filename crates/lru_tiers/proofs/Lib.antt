@@ -2,3 +2,4 @@ pub mod Times
 pub mod Moving
 pub mod Keeping
 pub mod Spilling
+pub mod Counting

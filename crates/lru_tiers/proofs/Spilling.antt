@@ -9,7 +9,7 @@ use Rattle.lru_shard.proofs.Edits.{at_row, length-without}
 use Rattle.lru_shard.proofs.UnitCalls.{times_none}
 use Rattle.rand_core.specs.Stream.{Stream}
 use Rattle.lru_rules.specs.Draws.{drawn_shards}
-use Rattle.lru_cores.specs.Core.{Core, core_len, list_at, home, IsCore}
+use Rattle.lru_cores.specs.Core.{Core, core_len, list_at, home}
 use Rattle.lru_cores.specs.CoreCalls.{CorePulls}
 use Rattle.lru_cores.specs.Eviction.{is_over, NamesVictim}
 use Rattle.lru_tiers.specs.Tiers.{Tiers, tiers, row_in, times_in, AreTiers}
@@ -33,10 +33,10 @@ module _ {T : Type 0} where
     victim_not_cold = none_in n t.cold k is.cold (omega (arith, is.apart k, victim_there t.hot a b k v))
 
     -- and is found in its own shard
-    pub victim_pulled : IsCore n t.hot → (answer : Result (Option ℕ) Cause) (new left : Core T) → CorePulls t.cold t.hot k answer new left → answer ≡ Ok None → ⊥
-    victim_pulled valid answer new left h e =
+    pub victim_pulled : (answer : Result (Option ℕ) Cause) (new left : Core T) → CorePulls t.cold t.hot k answer new left → answer ≡ Ok None → ⊥
+    victim_pulled answer new left h e =
         let none = (none_there t.cold t.hot k new left (subst (λ z. CorePulls t.cold t.hot k z new left) e h)).0 in
-        omega (arith, times_none (list_at t.hot (home t.hot k)) k none, times_home n t.hot valid k, victim_there t.hot a b k v)
+        omega (arith, times_none (list_at t.hot (home t.hot k)) k none, times_home n t.hot is.hot k, victim_there t.hot a b k v)
 
     pub spilled : (w : ℕ) (new left : Core T) → CorePulls t.cold t.hot k (Ok (Some w)) new left → Spills t a b (Ok (Some k)) (tiers left new)
     spilled w new left h = (v, (w, h))

@@ -1,14 +1,14 @@
 -- How many rows have a key, in a list and in a core.
-use Rattle.std.proofs.Common.{◌≡◌, ◌≢◌, ℕ, ◌+◌, ◌%◌, ◌<◌, ◌≤◌, List, [], ◌∷◌, length, set, get_or, Some, None, refl, sym, ap, ◌∙◌, arith, inl, inr}
+use Rattle.std.proofs.Common.{◌≡◌, ◌≢◌, ℕ, ◌+◌, ◌%◌, ◌<◌, ◌≤◌, List, [], ◌∷◌, length, set, get_or, Some, None, refl, sym, ap, subst, ◌⊎◌, ◌∙◌, arith, inl, inr}
 use Rattle.std.proofs.lemmas.Bool.{cases_eq, cases_lt, eq-eqb, ne_eqb}
 use Rattle.std.proofs.lemmas.List.{length-set, get_or-set_same, get_or-set_other, set-get_or}
 use Rattle.std.proofs.lemmas.List.Sums.{sum_by-set, sum_by-le, get_or-le-sum_by}
 use Rattle.std.proofs.lemmas.List.Elements.{All-from_get_or}
 use Rattle.lru_shard.specs.Row.{Row, row_of, times, first, without, last_row, without_last}
 use Rattle.lru_shard.proofs.Rows.{times-append, times_yes, times_no, times-without_same, times-without_other, without_absent, row_of_absent}
-use Rattle.lru_shard.proofs.Edits.{split_row}
+use Rattle.lru_shard.proofs.Edits.{split_row, times-without-le}
 use Rattle.lru_shard.proofs.LastRows.{last_split}
-use Rattle.lru_cores.specs.Core.{Core, list_at, with_list, home, IsCore}
+use Rattle.lru_cores.specs.Core.{Core, list_at, with_list, home}
 use Rattle.lru_tiers.specs.Tiers.{row_in, core_without, times_in, IsTier}
 
 module _ {T : Type 0} where
@@ -42,11 +42,36 @@ module _ {T : Type 0} where
   pub home_in : (n : ℕ) (c : Core T) (k : ℕ) → IsTier n c → home c k < length c.lists
   home_in n c k t = omega (arith, t.some, t.count)
 
-  pub tier_with : (n : ℕ) (c : Core T) (s : ℕ) (rows : List (Row T)) → IsTier n c → IsTier n (with_list c s rows)
-  tier_with n c s rows t = record { some = t.some; count = length-set c.lists s rows ∙ t.count; unmarked = t.unmarked }
+  -- other rows, of keys that belong there
+  pub tier_with : (n : ℕ) (c : Core T) (s : ℕ) (rows : List (Row T)) → s < length c.lists → IsTier n c → ((q : ℕ) → 0 < times q rows → q % n ≡ s) → IsTier n (with_list c s rows)
+  tier_with n c s rows s_in t fresh = record {
+    some = t.some;
+    count = length-set c.lists s rows ∙ t.count;
+    homes = λ i q h. elim (cases_eq i s) [
+      | inl e ↦ fresh q (subst (λ rs. 0 < times q rs) (ap (λ j. get_or (set c.lists s rows) j []) e ∙ get_or-set_same c.lists s rows [] s_in) h) ∙ sym e
+      | inr ne ↦ t.homes i q (subst (λ rs. 0 < times q rs) (get_or-set_other c.lists s i rows [] ne) h)
+    ];
+    unmarked = t.unmarked;
+  }
+
+  module _ (n : ℕ) (c : Core T) (k : ℕ) (t : IsTier n c) where
+    tier_at : (rows : List (Row T)) → ((q : ℕ) → 0 < times q rows → (0 < times q (list_at c (home c k))) ⊎ (q ≡ k)) → IsTier n (with_list c (home c k) rows)
+    tier_at rows fresh = tier_with n c (home c k) rows (home_in n c k t) t (λ q h. elim (fresh q h) [
+      | inl old ↦ t.homes (home c k) q old
+      | inr e ↦ ap (λ m. m % n) e ∙ sym (ap (λ m. k % m) t.count)
+    ])
+
+    pub tier_without : IsTier n (core_without c k)
+    tier_without = tier_at (without (list_at c (home c k)) k) (λ q h. inl (omega (arith, h, times-without-le q k (list_at c (home c k)))))
+
+    pub tier_first : (r : Row T) → r.key ≡ k → IsTier n (with_list c (home c k) (first (list_at c (home c k)) r))
+    tier_first r key = tier_at (first (list_at c (home c k)) r) (λ q h. elim (cases_eq q k) [
+      | inl e ↦ inr e
+      | inr ne ↦ inl (omega (arith, h, times_first_other (list_at c (home c k)) r q (λ e. ne (e ∙ key))))
+    ])
 
   -- each key has its rows in its own list
-  module _ (n : ℕ) (c : Core T) (valid : IsCore n c) (k : ℕ) where
+  module _ (n : ℕ) (c : Core T) (valid : IsTier n c) (k : ℕ) where
     nowhere_else : (i : ℕ) → i < length c.lists → times k (get_or (set c.lists (home c k) []) i []) ≤ 0
     nowhere_else i lt =
         elim (cases_eq i (home c k)) [
@@ -76,3 +101,6 @@ module _ {T : Type 0} where
   -- a row in its own list
   pub times_row : (n : ℕ) (c : Core T) (k : ℕ) (r : Row T) → IsTier n c → row_in c k ≡ Some r → 0 < times_in k c
   times_row n c k r t h = omega (arith, times_found (list_at c (home c k)) k r h, times_at c (home c k) (home_in n c k t) k)
+
+  pub times_core_without_same : (n : ℕ) (c : Core T) (k : ℕ) → IsTier n c → times_in k (core_without c k) ≡ 0
+  times_core_without_same n c k t = omega (arith, times_home n c t k, times_with c (home c k) (home_in n c k t) (without (list_at c (home c k)) k) k, times-without_same k (list_at c (home c k)))

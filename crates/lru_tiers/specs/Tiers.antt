@@ -1,5 +1,5 @@
 -- Two tiers of rows, a hot one and a cold one: no key has a row in both.
-use Rattle.std.specs.Prelude.{◌≡◌, ℕ, ◌+◌, ◌<◌, ◌≤◌, [], length, replicate, sum_by, Option, None, option_map, refl}
+use Rattle.std.specs.Prelude.{◌≡◌, ℕ, ◌+◌, ◌%◌, ◌<◌, ◌≤◌, [], length, replicate, sum_by, Option, None, option_map, refl}
 use Rattle.std.specs.Option.{option_or}
 use Rattle.std.specs.Coded.{Coded, code_by, coded×}
 use Rattle.lru_shard.specs.Row.{Row, row_of, times, without}
@@ -47,10 +47,11 @@ module _ {T : Type 0} where
   abbrev pub AreApart : Tiers T → Type 0
   AreApart t = (k : ℕ) → times_of k t ≤ 1
 
-  -- a core of n shards that only its weight can make over
+  -- a core of n shards that only its weight can make over; each key stands in its own shard
   pub record IsTier (n : ℕ) (c : Core T) : Type 0 where
     pub some : 0 < n
     pub count : length c.lists ≡ n
+    pub homes : (s k : ℕ) → 0 < times k (list_at c s) → k % n ≡ s
     pub unmarked : c.watermark ≡ None
 
   -- what holds of all tiers of n shards

@@ -1,5 +1,7 @@
 //! Two cores as the tiers of a cache: rows go from one to the other whole, and no key has a row in both.
-ghost use Rattle.std.specs.Prelude.{◌≡◌, ◌<◌, [], Ok, Err, None, IfOk, IfErr, OnOk, OnErr, option_map, replicate, IsFalse};
+ghost use Rattle.std.specs.Prelude.{◌≡◌, ℕ, ◌<◌, List, [], Ok, Err, None, IfOk, IfErr, OnOk, OnErr, option_map, replicate, IsFalse};
+ghost use Rattle.lru_tiers.specs.Tiers.{Tiers, AreTiers};
+ghost use Rattle.lru_tiers.specs.TierRuns.{Event, Runs, IsAccounted};
 
 use lru_cores::lru_core::LruCore;
 use lru_rules::eviction::drawn_shards;
@@ -117,7 +119,6 @@ impl<T: Drop, const N: usize> TieredCore<T, N> {
     pub fn admit(&mut self, key: u64, data: T, weight: usize) -> Result<usize, Refused<T>>
         ensures { AdmitsHot self.old key «data» weight result self.new }
     {
-        let _shards = (self.hot.shards(), self.cold.shards());
         let shard = match self.hot.admit(key, data, weight) {
             Ok(shard) => shard,
             Err(refused) => return Err(refused),
@@ -166,7 +167,6 @@ impl<T: Drop, const N: usize> TieredCore<T, N> {
         requires b { b < N }
         ensures { Spills self.old a b result self.new }
     {
-        let _shards = self.hot.shards();
         let Some(key) = self.hot.victim_key(a, b) else {
             return Ok(None);
         };
@@ -223,3 +223,13 @@ impl<T: Drop, const N: usize> TieredCore<T, N> {
         }
     }
 }
+
+/// A law of any list of calls: each key that was admitted, and not removed since, is once in one of the tiers, or
+/// once among the pairs that `balance` answered after its last admission; no other key is anywhere.
+///
+/// It does nothing when it is called: its contract is the law.
+pub fn tiers_law<T>()
+    // The calls are any list, so this is so after each call of a longer list too.
+    ensures { (n : ℕ) (old new : Tiers T) (events : List (Event T)) → AreTiers n old → Runs old events new
+        → AreTiers n new × IsAccounted old events new }
+{}

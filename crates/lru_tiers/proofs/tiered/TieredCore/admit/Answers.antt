@@ -7,5 +7,5 @@ use Rattle.lru_tiers.proofs.tiered.TieredCore.admit.Goals as goal
 pub invariant_of-self-2 : goal.invariant_of-self-2
 invariant_of-self-2 g c =
     let t = tiers c.self.inside.hot c.self.inside.cold in
-    let kept = keeps_admitted g.row.N t c.self.invariant c.shards.ensures.valid c.shards-2.ensures.valid c.args.key c.args.«data» c.args.weight c.in-Ok.shard c.admit.new.self c.in-Ok.ensures in
+    let kept = keeps_admitted g.row.N t c.self.invariant c.args.key c.args.«data» c.args.weight c.in-Ok.shard c.admit.new.self c.in-Ok.ensures in
     subst (λ (z : Core g.row.T.Denot). AreTiers g.row.N (tiers c.admit.new.self z)) (sym c.remove.ensures.rows) kept

@@ -14,7 +14,7 @@ pull-requires g c =
 pub unreachable-requires : goal.unreachable-requires
 unreachable-requires g c =
     let t = tiers c.self.inside.hot c.self.inside.cold in
-    victim_pulled g.row.N t c.self.invariant c.args.a c.args.b c.in-Some.key c.in-Some.ensures c.shards-shards.ensures.valid c.pull.result c.pull.new.self c.pull.new.from c.pull.ensures (c.in-Ok-None.is ∙ ap (λ o. Ok o) c.in-Ok-None.field-0-is)
+    victim_pulled g.row.N t c.self.invariant c.args.a c.args.b c.in-Some.key c.in-Some.ensures c.pull.result c.pull.new.self c.pull.new.from c.pull.ensures (c.in-Ok-None.is ∙ ap (λ o. Ok o) c.in-Ok-None.field-0-is)
 
 pub invariant_of-self : goal.invariant_of-self
 invariant_of-self g c =
