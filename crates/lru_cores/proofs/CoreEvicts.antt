@@ -15,7 +15,7 @@ use Rattle.lru_shard.specs.Unit.{accessed, needs_promote}
 use Rattle.lru_rules.specs.ShardCalls.{promoted_past}
 use Rattle.lru_cores.specs.Core.{Core, list_at}
 use Rattle.lru_rules.specs.Limits.{cap_of}
-use Rattle.lru_cores.specs.Eviction.{IsVictim, start, is_over, evicted, EvictsFrom, EvictsWhereOver}
+use Rattle.lru_cores.specs.Eviction.{IsVictim, start, is_over, evicted, EvictsFrom, EvictsWhereOver, NamesVictim}
 use Rattle.lru_cores.specs.Representation.Units.{lists_of, AreUnits}
 use Rattle.lru_shard.proofs.EditsOf.{edits_evict}
 use Rattle.lru_shard.proofs.LastRows.{last_of, held_last, weight-without_last, length-without_last}
@@ -102,6 +102,22 @@ module _ {T : Type 0} where
         answer = refl;
         left = m.1;
       })
+
+  of_key : (o : Option (Row T)) (k : ℕ) → Some k ≡ option_map (λ (r : Row T). r.key) o → (r : Row T) × ((o ≡ Some r) × (k ≡ r.key))
+  of_key None k h = cc
+  of_key (Some r) k h = (r, (refl, cc))
+
+  -- the key of the row that an over core would evict
+  pub names : (old : Core T) (a b victim k : ℕ) → is_over old ≡ true → IsVictim old.lists (start old a b) victim → Some k ≡ option_map (λ (r : Row T). r.key) (last_row (list_at old victim)) → NamesVictim old a b (Some k)
+  names old a b victim k over is h =
+      let r = of_key (last_row (list_at old victim)) k h in
+      (
+        pair_of r.0,
+        (
+          evicted old victim r.0,
+          (record { over = over; victim = victim; is_victim = is; row = r.0; last = r.1.0; answer = refl; left = refl }, r.1.1),
+        ),
+      )
 
   abbrev pub empty_lists : ℕ → List (List (Row T))
   empty_lists n = replicate n []

@@ -2,7 +2,7 @@
 use Rattle.std.specs.Prelude.{◌≡◌, ℕ, Bool, Option, Result, Ok, Err}
 use Rattle.lru_shard.specs.declared.unit.Refused.{Refused}
 use Rattle.lru_shard.specs.declared.unit.Cause.{Cause}
-use Rattle.lru_shard.specs.Unit.{InsertsTail}
+use Rattle.lru_shard.specs.Unit.{InsertsTail, Pulls}
 use Rattle.lru_rules.specs.ShardCalls.{AdmitsRaised, SetsRaised, IncrementsTo, UpdatesFrom}
 use Rattle.lru_cores.specs.Core.{Core, ActsOn, home}
 
@@ -23,3 +23,7 @@ module _ {T : Type 0} where
 
   abbrev pub CoreSetsWeight : Core T → ℕ → ℕ → Result (Option ℕ) Cause → Core T → Type 0
   CoreSetsWeight old k w answer new = ActsOn old (home old k) new (λ a b. SetsRaised a k w answer b)
+
+  -- `pull`: the key's row goes from its shard there into its shard here
+  abbrev pub CorePulls : Core T → Core T → ℕ → Result (Option ℕ) Cause → Core T → Core T → Type 0
+  CorePulls old from k answer new left = ActsOn old (home old k) new (λ a b. ActsOn from (home from k) left (λ f l. Pulls a f k answer b l))

@@ -54,6 +54,11 @@ module _ {T : Type 0} where
   EvictsWhereOver old a b (Some pair) new = Evicts old a b pair new
   EvictsWhereOver old a b None new = IsFalse (is_over old) × (new ≡ old)
 
+  -- `victim_key`: the key of the row that `evict_step` would take
+  abbrev pub NamesVictim : Core T → ℕ → ℕ → Option ℕ → Type 0
+  NamesVictim c a b (Some k) = (pair : T × ℕ) × ((new : Core T) × ((step : Evicts c a b pair new) × (k ≡ step.row.key)))
+  NamesVictim c a b None = IsFalse (is_over c)
+
   -- a run of evictions with these pairs, each from an over core: its victim is that of two shards drawn from the
   -- stream of random words, and the next eviction draws from what is left of the stream
   abbrev pub EvictionRun : Core T → Stream → List (T × ℕ) → Core T → Stream → Type 0

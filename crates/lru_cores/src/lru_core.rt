@@ -1,5 +1,5 @@
 //! N shards under one limit on their weight, of one owner.
-ghost use Rattle.std.specs.Prelude.{◌≡◌, ℕ, ◌+◌, ◌%◌, ◌<◌, ◌≤◌, [], length, Ok, vec_len, slice_index_or, IfOk, IfErr, IfSome, IfNone, OnOk, Option, option_map, map, replicate};
+ghost use Rattle.std.specs.Prelude.{◌≡◌, ℕ, ◌+◌, ◌%◌, ◌<◌, ◌≤◌, [], length, Ok, vec_len, slice_index_or, IfOk, IfErr, IfSome, IfNone, OnOk, Option, option_map, is_some, map, replicate};
 ghost use Rattle.lru_shard.specs.Shard.{shard};
 ghost use Rattle.lru_cores.specs.Eviction.{IsVictim};
 ghost use Rattle.lru_cores.specs.Representation.Units.{lists_of};
@@ -85,7 +85,7 @@ impl<T, const N: usize> LruCore<T, N> {
     ghost use Rattle.lru_shard.specs.Row.{pair_of, row_of, is_held, last_row, weight_of};
     ghost use Rattle.lru_shard.specs.Unit.{VisitsEach};
     ghost use Rattle.lru_cores.specs.Core.{core_weight, core_len, list_at, home, IsCore};
-    ghost use Rattle.lru_cores.specs.Eviction.{is_over};
+    ghost use Rattle.lru_cores.specs.Eviction.{is_over, start, NamesVictim};
 
     /// An empty core with a limit on its weight. Each shard has room for `capacity` rows, and may weigh
     /// `usize::MAX / N`.
@@ -275,6 +275,41 @@ impl<T, const N: usize> LruCore<T, N> {
         unit.reserve(additional)
     }
 
+    /// The key of the row that `evict_step` would take of these two draws; `None` where the core is not over.
+    pub fn victim_key(&self, a: usize, b: usize) -> Option<u64>
+        requires a { a < N }
+        requires b { b < N }
+        ensures { NamesVictim self.now a b result }
+    {
+        let victim = self.victim(a, b)?;
+        let Some(key) = self.units[victim].lru_key() else {
+            unreachable!()
+        };
+        Some(key)
+    }
+
+    // The shard that an eviction takes a row of, by these two draws; `None` where the core is not over.
+    fn victim(&self, a: usize, b: usize) -> Option<usize>
+        requires a { a < N }
+        requires b { b < N }
+        ensures over { is_some result ≡ is_over self.now }
+        ensures victim { IfSome result (λ victim. IsVictim self.now.lists (start self.now a b) victim) }
+        ensures at { IfSome result (λ victim. victim < N) }
+    {
+        if !self.is_over() {
+            return None;
+        }
+        let start = if self.units[b].len() <= self.units[a].len() {
+            a
+        } else {
+            b
+        };
+        let Some(victim) = first_held(&self.units, start) else {
+            unreachable!()
+        };
+        Some(victim)
+    }
+
     fn is_over(&self) -> bool
         ensures { result ≡ is_over self.now }
     {
@@ -292,7 +327,7 @@ impl<T: Drop, const N: usize> LruCore<T, N> {
     ghost use Rattle.lru_shard.specs.Unit.{Updates, accessed};
     ghost use Rattle.lru_cores.specs.Core.{list_at, with_list, home};
     ghost use Rattle.lru_rules.specs.ShardCalls.{promoted_past};
-    ghost use Rattle.lru_cores.specs.CoreCalls.{CoreAdmits, CoreInsertsTail, CoreIncrements, CoreUpdates, CoreSetsWeight};
+    ghost use Rattle.lru_cores.specs.CoreCalls.{CoreAdmits, CoreInsertsTail, CoreIncrements, CoreUpdates, CoreSetsWeight, CorePulls};
     ghost use Rattle.lru_cores.specs.Eviction.{EvictsFrom, EvictsWhereOver, EvictsToLimit, IsCutShort, KeepsLongestFront};
 
     /// Puts a row first in the shard of its key, in place of the key's, and answers that shard.
@@ -453,6 +488,30 @@ impl<T: Drop, const N: usize> LruCore<T, N> {
         answer
     }
 
+    /// Moves a key's row out of `from`, puts it first in the shard of the same number here, and answers its
+    /// weight; `None` where `from` has no such row. The key may have no row here.
+    ///
+    /// It may make the core over, and evicts nothing. A refusal, for Length, Weight or Memory as a shard
+    /// refuses a new row, changes neither core.
+    pub fn pull(&mut self, from: &mut Self, key: u64) -> Result<Option<usize>, Cause>
+        requires { row_of (list_at self.old (home self.old key)) key ≡ None }
+        ensures { CorePulls self.old from.old key result self.new from.new }
+    {
+        let _units = &self.units;
+        let _others = &from.units;
+        let shard = (key % N as u64) as usize;
+        let unit = &mut self.units[shard];
+        let other = &mut from.units[shard];
+        let before = Totals::of(unit);
+        let other_before = Totals::of(other);
+        let answer = unit.pull(other, key);
+        let after = Totals::of(unit);
+        let other_after = Totals::of(other);
+        self.totals.change(before, after);
+        from.totals.change(other_before, other_after);
+        answer
+    }
+
     // Evicts the last row of a shard, if it has one.
     fn evict_from(&mut self, shard: usize) -> Option<(T, usize)>
         requires { shard < N }
@@ -488,17 +547,7 @@ impl<T: Drop, const N: usize> LruCore<T, N> {
         requires b { b < N }
         ensures { EvictsWhereOver self.old a b result self.new }
     {
-        if !self.is_over() {
-            return None;
-        }
-        let start = if self.units[b].len() <= self.units[a].len() {
-            a
-        } else {
-            b
-        };
-        let Some(victim) = first_held(&self.units, start) else {
-            unreachable!()
-        };
+        let victim = self.victim(a, b)?;
         self.evict_from(victim)
     }
 

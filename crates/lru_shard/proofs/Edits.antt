@@ -21,7 +21,7 @@ module _ {T : Type 0} where
     pub none_before : times k before ≡ 0
     pub none_after : times k after ≡ 0
 
-  split_row : (rows : List (Row T)) (k : ℕ) (r : Row T) → row_of rows k ≡ Some r → (xs : List (Row T)) × ((ys : List (Row T)) × ((rows ≡ xs ++ r ∷ ys) × (r.key ≡ k)))
+  pub split_row : (rows : List (Row T)) (k : ℕ) (r : Row T) → row_of rows k ≡ Some r → (xs : List (Row T)) × ((ys : List (Row T)) × ((rows ≡ xs ++ r ∷ ys) × (r.key ≡ k)))
   split_row [] k r h = cc
   split_row (x ∷ rows) k r h =
       elim (cases_Bool (eqb x.key k)) [

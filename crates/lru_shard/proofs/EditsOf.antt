@@ -8,10 +8,11 @@ use Rattle.lru_shard.specs.declared.unit.Refused.{Refused}
 use Rattle.lru_shard.specs.declared.unit.Cause.{Cause}
 use Rattle.lru_shard.specs.Row.{Row, row, row_of, is_held, times, with_first, with_last, without, without_last, with_weight, with_value, weight_of}
 use Rattle.lru_shard.specs.Shard.{Shard, shard, IsShard}
-use Rattle.lru_shard.specs.Unit.{Admits, InsertsTail, SetsWeight, IncrementsRow, IncrementsWeight, UpdatesRow, UpdatesOrAdmits, accessed, tailed, raised, started}
+use Rattle.lru_shard.specs.Unit.{Admits, InsertsTail, SetsWeight, PullsRow, Pulls, IncrementsRow, IncrementsWeight, UpdatesRow, UpdatesOrAdmits, accessed, tailed, raised, started}
 use Rattle.lru_shard.proofs.Rows.{times-append, times_no, times-without_other}
 use Rattle.lru_shard.proofs.Edits.{times-with_weight, times-with_value, times-without-le, at_row, accessed_at, weight-first, length-first}
 use Rattle.lru_shard.proofs.Rows.{distinct-first}
+use Rattle.lru_shard.proofs.Pulls.{row_key}
 use Rattle.std.proofs.lemmas.Bool.{ne_eqb}
 
 module _ {T : Type 0} where
@@ -82,6 +83,16 @@ module _ {T : Type 0} where
 
   pub edits_evict : (a : Shard T) (b : Shard T) (key : ℕ) → b ≡ shard (without_last a.rows) a.cap → Edit key a b
   edits_evict a b key e = to_rows key a b (without_last a.rows) (λ j lt. inl (omega (arith, lt, sum_by-take-le (λ (r : Row T). cond (eqb r.key j) 1 0) a.rows (length a.rows - 1)))) e
+
+  pulled_row : (old from : Shard T) (k : ℕ) (o : Option (Row T)) → row_of from.rows k ≡ o → (answer : Result (Option ℕ) Cause) (new left : Shard T) → PullsRow old from k o answer new left → Edit k old new × Edit k from left
+  pulled_row old from k (Some r) is (Ok answer) new left h = (put_first k old new r (row_key from.rows k r is) h.1.0.left, edits_remove from k left h.1.1)
+  pulled_row old from k (Some r) is (Err cause) new left h = (same_edit k old new h.0.left, same_edit k from left h.1)
+  pulled_row old from k None is (Ok answer) new left h = (same_edit k old new h.1.0, same_edit k from left h.1.1)
+  pulled_row old from k None is (Err cause) new left h = absurd h
+
+  -- a pull is a call on its key in both shards
+  pub edits_pull : (old from : Shard T) (k : ℕ) (answer : Result (Option ℕ) Cause) (new left : Shard T) → Pulls old from k answer new left → Edit k old new × Edit k from left
+  edits_pull old from k answer new left h = pulled_row old from k (row_of from.rows k) refl answer new left h
 
   -- an access is an edit that leaves weight and length
   pub record Accessed (k : ℕ) (a b : Shard T) : Type 0 where

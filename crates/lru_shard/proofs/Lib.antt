@@ -5,3 +5,4 @@ pub mod LastRows
 pub mod EditsOf
 pub mod Tables
 pub mod UnitCalls
+pub mod Pulls

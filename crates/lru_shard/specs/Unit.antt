@@ -6,7 +6,7 @@ use Rattle.std.specs.Borrow.{Bor, MutBor}
 use Rattle.lru_shard.specs.declared.unit.Refused.{Refused}
 use Rattle.lru_shard.specs.declared.unit.Cause.{Cause}
 use Rattle.lru_shard.specs.declared.unit.Cause.TheVariants.{Memory, Weight, Length}
-use Rattle.lru_shard.specs.Row.{Row, row, row_of, pair_of, is_held, with_first, with_last, with_weight, with_value}
+use Rattle.lru_shard.specs.Row.{Row, row, row_of, pair_of, is_held, without, with_first, with_last, with_weight, with_value}
 use Rattle.lru_shard.specs.Shard.{Shard, shard, size_of, and_row, is_full, refusal, MayRefuse, Accepts, Declines, Refuses}
 
 -- a present row grows by delta, up to the most but never down to it; no weight is above the greatest number
@@ -122,3 +122,15 @@ module _ {T : Type 0} where
 
   abbrev pub UpdatesOrAdmits : (T → ℕ → ℕ → T → Type 0) → (T × ℕ → Type 0) → Shard T → ℕ → Result (Option ℕ × ℕ) (Refused (Option (T × ℕ))) → Shard T → Type 0
   UpdatesOrAdmits Changes Makes old k answer new = UpdatesRow Changes Makes old k (row_of old.rows k) answer new
+
+  -- `pull` of the row that a key has in `from`: it leaves `from` and goes first, and its weight is answered; or it is
+  -- refused as a new row is, and both stay. With no row, both stay
+  abbrev pub PullsRow : Shard T → Shard T → ℕ → Option (Row T) → Result (Option ℕ) Cause → Shard T → Shard T → Type 0
+  PullsRow old from k (Some r) (Ok answer) new left =
+      (answer ≡ Some r.weight) × (Accepts old new (with_first old.rows r) × (left ≡ shard (without from.rows k) from.cap))
+  PullsRow old from k (Some r) (Err cause) new left = Declines old new (with_first old.rows r) cause × (left ≡ from)
+  PullsRow old from k None (Ok answer) new left = (answer ≡ None) × ((new ≡ old) × (left ≡ from))
+  PullsRow old from k None (Err cause) new left = ⊥
+
+  abbrev pub Pulls : Shard T → Shard T → ℕ → Result (Option ℕ) Cause → Shard T → Shard T → Type 0
+  Pulls old from k answer new left = PullsRow old from k (row_of from.rows k) answer new left

@@ -267,7 +267,7 @@ impl<T: Drop> LruUnit<T> {
     ghost use Rattle.std.specs.Prelude.{option_map};
     ghost use Rattle.lru_shard.specs.Row.{row_of, pair_of, without, last_row, without_last};
     ghost use Rattle.lru_shard.specs.Shard.{shard};
-    ghost use Rattle.lru_shard.specs.Unit.{Admits, InsertsTail, IncrementsWeight, AdmitsMade, UpdatesOrAdmits, AdmitsGiven, Updates, SetsWeight};
+    ghost use Rattle.lru_shard.specs.Unit.{Admits, InsertsTail, IncrementsWeight, AdmitsMade, UpdatesOrAdmits, AdmitsGiven, Updates, SetsWeight, Pulls};
 
     /// Puts a row first, in place of its key's, and answers the weight that the key had, 0 for a new key.
     ///
@@ -515,6 +515,40 @@ impl<T: Drop> LruUnit<T> {
         self.order.remove(list_index);
         self.used_weight -= weight;
         Some((data, weight))
+    }
+
+    /// Moves a key's row out of `from`, puts it first here, and answers its weight; `None` where `from` has no
+    /// such row. The key may have no row here.
+    ///
+    /// It is refused for Length, Weight or Memory, in this order, as a new row is. A refusal changes neither
+    /// shard.
+    pub fn pull(&mut self, from: &mut Self, key: u64) -> Result<Option<usize>, Cause>
+        requires { row_of self.old.rows key ≡ None }
+        ensures { Pulls self.old from.old key result self.new from.new }
+    {
+        let Some(weight) = from.peek_weight(key) else {
+            return Ok(None);
+        };
+        if let Some(cause) = self.refusal_of_new(weight) {
+            return Err(cause);
+        }
+        if !make_room(&mut self.lookup_table) {
+            return Err(Cause::Memory);
+        }
+        let Ok(place) = self.order.push_head(key) else {
+            return Err(Cause::Memory);
+        };
+        let Some((data, _)) = from.remove(key) else {
+            unreachable!()
+        };
+        let node = Node {
+            data,
+            list_index: place,
+            weight,
+        };
+        put_node(&mut self.lookup_table, key, node);
+        self.used_weight += weight;
+        Ok(Some(weight))
     }
 
     /// Takes the row out that was used longest ago, and answers its data and weight.

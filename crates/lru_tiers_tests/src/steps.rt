@@ -1,0 +1,93 @@
+// A list of calls, done one by one: the text of each answer, and of both tiers after it.
+use lru_cores::lru_core::LruCore;
+use lru_tiers::tiered::TieredCore;
+use rand::rngs::StdRng;
+use std::alloc::{AllocError, Global};
+
+// A call of two tiers, and what it is given. A key's data are ten times the key.
+#[derive(Clone, Copy, Debug)]
+pub enum Call {
+    Admit { key: u64, weight: usize },
+    Touch { key: u64 },
+    Remove { key: u64 },
+    PeekWeight { key: u64 },
+    // Draws past the shards are answered as none.
+    SpillStep { a: usize, b: usize },
+    Balance,
+}
+
+// A call, the text of its answer, and that of both tiers after it.
+pub type Step = (Call, &'static str, &'static str);
+
+fn answer_of<const N: usize>(
+    alloc: Global,
+    tiered: &mut TieredCore<u64, N>,
+    rng: &mut StdRng,
+    call: Call,
+) -> Result<String, AllocError> {
+    match call {
+        Call::Admit { key, weight } => {
+            let answer = tiered.admit(key, key.wrapping_mul(10), weight);
+            format!(in alloc; "{answer:?}")
+        }
+        Call::Touch { key } => {
+            let answer = tiered.touch(key);
+            format!(in alloc; "{answer:?}")
+        }
+        Call::Remove { key } => {
+            let answer = tiered.remove(key);
+            format!(in alloc; "{answer:?}")
+        }
+        Call::PeekWeight { key } => {
+            let answer = tiered.peek_weight(key);
+            format!(in alloc; "{answer:?}")
+        }
+        Call::SpillStep { a, b } if a < N && b < N => {
+            let answer = tiered.spill_step(a, b);
+            format!(in alloc; "{answer:?}")
+        }
+        Call::SpillStep { .. } => format!(in alloc; "none"),
+        Call::Balance => {
+            let answer = tiered.balance(alloc, rng);
+            format!(in alloc; "{answer:?}")
+        }
+    }
+}
+
+// The data and the weights of each shard, most recent first, and how many rows were evicted.
+fn write_core<const N: usize>(
+    text: &mut String,
+    name: &str,
+    core: &LruCore<u64, N>,
+) -> Result<(), AllocError> {
+    write!(text, "{name}")?;
+    for shard in 0..core.shards() {
+        write!(text, " [")?;
+        for (data, weight) in core.iter_shard(shard) {
+            write!(text, " {data}:{weight}")?;
+        }
+        write!(text, " ]")?;
+    }
+    let evicted = core.evicted_len();
+    write!(text, " evicted {evicted} ")
+}
+
+// Does the calls, and says which answer or leave something else; nothing, where all is well.
+pub fn faults<const N: usize>(
+    alloc: Global,
+    tiered: &mut TieredCore<u64, N>,
+    rng: &mut StdRng,
+    steps: &[Step],
+) -> Result<String, AllocError> {
+    let mut faults = String::new(alloc);
+    for (call, answer, left) in steps {
+        let answers = answer_of(alloc, tiered, rng, *call)?;
+        let mut leaves = String::new(alloc);
+        write_core(&mut leaves, "hot", tiered.hot())?;
+        write_core(&mut leaves, "cold", tiered.cold())?;
+        if answers.as_str() != *answer || leaves.as_str() != *left {
+            write!(faults, "{call:?} answers {answers} and leaves {leaves}\n")?;
+        }
+    }
+    Ok(faults)
+}
