@@ -20,3 +20,6 @@ pub use Rattle.lru_recordings.specs.Histories
 pub use Rattle.lru_recordings.specs.Gathered
 pub use Rattle.lru_recordings.specs.Replies
 pub use Rattle.lru_recorded.specs.Probes
+pub use Rattle.lru_tiers.specs.Tiers
+pub use Rattle.lru_tiers.specs.TierCalls
+pub use Rattle.lru_tiers.specs.TierRuns

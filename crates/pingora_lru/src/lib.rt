@@ -2,7 +2,8 @@
 //!
 //! [`linked_list::LinkedList`] is the order of one shard, [`unit::LruUnit`] is one shard,
 //! [`lru_core::LruCore`] is N shards of one owner, and [`Lru`] is N shards for many threads;
-//! [`calls`] has the calls of a core as values, and [`recorded`] an order that keeps the history of its calls. Each stands in a small crate beneath; these are the names for users.
+//! [`calls`] has the calls of a core as values, [`recorded`] an order that keeps the history of its calls, and
+//! [`tiered`] a hot and a cold core. Each stands in a small crate beneath; these are the names for users.
 #![tactic(auto)]
 
 pub use lru_list::linked_list;
@@ -10,6 +11,7 @@ pub use lru_locks::lru;
 pub use lru_locks::lru::Lru;
 pub use lru_runs::{calls, inclusion};
 pub use lru_shard::unit;
+pub use lru_tiers::tiered;
 
 /// N shards under one limit on their weight, of one owner, and the law of inclusion over two of them.
 pub mod lru_core {

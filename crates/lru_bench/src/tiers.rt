@@ -1,0 +1,104 @@
+//! Touches and spills of two tiers, beside the promotes of one core and its evictions with an admission each.
+ghost use Rattle.std.specs.Prelude.{◌<◌};
+
+use crate::trace::{self, Draw};
+use crate::watch::Watch;
+use pingora_lru::lru_core::LruCore;
+use pingora_lru::tiered::{Tier, TieredCore};
+use std::alloc::Global;
+use std::io;
+use std::rt::Clock;
+use std::time::Instant;
+
+// Two draws of 8 shards that go round.
+fn draws(turn: u64) -> (usize, usize)
+    ensures a { result.0 < 8 }
+    ensures b { result.1 < 8 }
+{
+    ((turn % 8) as usize, (turn / 8 % 8) as usize)
+}
+
+fn no_room() -> io::Error {
+    io::Error::from(io::ErrorKind::OutOfMemory)
+}
+
+// A core under a limit of 0, so that each step evicts, with room for twice its rows.
+fn measure_core<R: Print + Clock>(
+    rt: &R,
+    alloc: Global,
+    watch: Watch,
+    rows: u32,
+    trace: &[u64],
+) -> io::Result<()> {
+    let rows = rows as u64;
+    let mut core = LruCore::<u64, 8>::with_capacity(alloc, 0, rows as usize / 4)?;
+    for key in 0..rows {
+        if core.admit(key, key, 1).is_err() {
+            return Err(no_room());
+        }
+    }
+    let start = Instant::now(rt)?;
+    let done = trace.iter().filter(|key| core.promote(**key)).count();
+    watch.tell(rt, "a core, promote", done, trace.len(), start)?;
+    let start = Instant::now(rt)?;
+    let mut done = 0usize;
+    for turn in 0..rows {
+        let (a, b) = draws(turn);
+        let left = core.evict_step(a, b);
+        if left.is_some() && core.admit(turn.wrapping_add(rows), turn, 1).is_ok() {
+            done = done.wrapping_add(1);
+        }
+    }
+    watch.tell(rt, "a core, evict and admit", done, rows as usize, start)
+}
+
+// Tiers under limits of 0, so that each step spills, with room for as many rows each.
+fn measure_tiers<R: Print + Clock>(
+    rt: &R,
+    alloc: Global,
+    watch: Watch,
+    rows: u32,
+    trace: &[u64],
+) -> io::Result<()> {
+    let rows = rows as u64;
+    let mut tiered = TieredCore::<u64, 8>::with_limits(alloc, 0, 0, rows as usize / 4)?;
+    for key in 0..rows {
+        if tiered.admit(key, key, 1).is_err() {
+            return Err(no_room());
+        }
+    }
+    let start = Instant::now(rt)?;
+    let mut done = 0usize;
+    for key in trace {
+        if tiered.touch(*key) == Ok(Some(Tier::Hot)) {
+            done = done.wrapping_add(1);
+        }
+    }
+    watch.tell(rt, "tiers, touch of a hot row", done, trace.len(), start)?;
+    let start = Instant::now(rt)?;
+    let mut done = 0usize;
+    for turn in 0..rows {
+        let (a, b) = draws(turn);
+        if tiered.spill_step(a, b).is_ok() {
+            done = done.wrapping_add(1);
+        }
+    }
+    watch.tell(rt, "tiers, spill_step", done, rows as usize, start)?;
+    let start = Instant::now(rt)?;
+    let mut done = 0usize;
+    for key in 0..rows {
+        if tiered.touch(key) == Ok(Some(Tier::Cold)) {
+            done = done.wrapping_add(1);
+        }
+    }
+    watch.tell(rt, "tiers, touch of a cold row", done, rows as usize, start)
+}
+
+/// A million promotes and touches among so many rows, and each row evicted or spilled once.
+pub fn measure<R: Print + Clock>(rt: &R, alloc: Global, watch: Watch, rows: u32) -> io::Result<()>
+    requires { 0 < rows }
+{
+    let trace = trace::keys(alloc, Draw::Uniform, 7, rows, 1_000_000)?;
+    measure_core(rt, alloc, watch, rows, &trace)?;
+    measure_tiers(rt, alloc, watch, rows, &trace)
+}
