@@ -177,8 +177,9 @@ fn refuses_no_memory_without_cause(rt: HostRuntime) -> Result<(), Fail> {
     Ok(())
 }
 
-// `rt try --test --fail-alloc N` refuses one allocation: where the input or the core finds no memory, that is all that
-// is written; a row or an eviction that finds none is told on its own line, and the lines after it are answered.
+// The gate runs this with memory for all; `rt try --test --fail-alloc N` refuses the request number N. Where the
+// input or the core finds no memory, that is all that is written; a row or an eviction that finds none is told on its own
+// line, and the lines after it are answered.
 #[test]
 fn tells_where_memory_is_refused(rt: HostRuntime) -> Result<(), Fail> {
     let Ok(arguments) = words(rt.alloc(), "0 - 1") else {

@@ -233,7 +233,8 @@ const SAVES: [&str; 4] = [
     "error memory\n",
 ];
 
-// `rt try --test --fail-alloc N` refuses one allocation; then the program tells one of these texts, and no other.
+// The gate runs this with memory for all; `rt try --test --fail-alloc N` refuses the request number N: then the program tells
+// one of these texts, and no other.
 #[test]
 fn tells_where_memory_is_refused_to_a_file(rt: HostRuntime) -> Result<(), Fail> {
     let Ok(arguments) = words(rt.alloc(), "9 - 7") else {

@@ -1,4 +1,6 @@
-// Want of memory in loads of shards. A refused load is made again; `rt try --test --fail-alloc N` refuses one allocation.
+// Want of memory in loads of shards: a refused load is made again. The gate runs this with memory for all; `rt try --test
+// --fail-alloc N` refuses the request number N. The gate's sweep refuses each request of `lru_sweep_files` in turn, which
+// loads shards too.
 use log::sink;
 use lru_test_folders::refusals::{Ending, Loaded, end_of_load};
 use lru_test_folders::two_shards::{folder_to_load, has_temp, is_bytes, is_saved};

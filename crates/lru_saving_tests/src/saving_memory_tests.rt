@@ -1,4 +1,5 @@
-// Want of memory in saves of shards. To be run with each allocation refused in turn, as the calls on a core.
+// Want of memory in saves of shards. The gate runs this with memory for all; `rt try --test --fail-alloc N` refuses the
+// request number N. The gate's sweep refuses each request of `lru_sweep_files` in turn, which saves shards too.
 use log::sink;
 use lru_test_folders::refusals::{Ending, Saved, end_of_save};
 use lru_test_folders::two_shards::{bytes_of, folder_to_save, is_old, is_old_or_new, is_saved};

@@ -1,4 +1,4 @@
-//! Scripts whose every request for memory may be refused, one in each run of `rt try --fail-alloc 1..`: a refused call
+//! Scripts whose every request for memory may be refused, one in each run of the gate's sweep: a refused call
 //! changes nothing and hands back what it was given, and the same call made again answers as if nothing had been. So
 //! what is written is the same in each run.
 #![tactic(auto)]
