@@ -6,6 +6,8 @@ mod asked;
 #[cfg(test)]
 mod plain;
 #[cfg(test)]
+mod refused;
+#[cfg(test)]
 mod rows;
 #[cfg(test)]
 mod threads;

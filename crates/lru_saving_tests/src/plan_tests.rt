@@ -70,6 +70,9 @@ const CALLS: [(u64, usize, &str); 12] = [
     ),
 ];
 
+/// How the text of each of them ends.
+const FAULT: &str = ": input or output failed";
+
 /// The bytes of each shard.
 const BYTES: &[u8] = b"abc";
 
@@ -108,7 +111,8 @@ fn one_call_fails(rt: HostRuntime) -> Result<(), Fail> {
     Ok(())
 }
 
-// Each shard before the stop is saved, and none from there on.
+// Each shard before the stop is saved, and none from there on. Each failure is told as one of the folder, none as want of
+// memory.
 #[test]
 fn all_calls_fail_from_one_on(rt: HostRuntime) -> Result<(), Fail> {
     let alloc = rt.alloc();
@@ -129,6 +133,9 @@ fn all_calls_fail_from_one_on(rt: HostRuntime) -> Result<(), Fail> {
         assert_eq!(rt; failures.len(), 3 - shard.min(3));
         assert!(rt; !failures.is_empty());
         assert_eq!(rt; failures[0].to_string(alloc)?.as_str(), text);
+        for failure in &failures {
+            assert!(rt; failure.to_string(alloc)?.as_str().ends_with(FAULT));
+        }
         for (other, path) in ["d/c.0", "d/c.1", "d/c.2"].iter().enumerate() {
             let wanted = if other < shard { Some(BYTES) } else { None };
             assert!(rt; folder.get(path) == wanted);
