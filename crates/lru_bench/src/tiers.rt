@@ -52,7 +52,34 @@ fn measure_core<R: Print + Clock>(
     watch.tell(rt, "a core, evict and admit", done, rows as usize, start)
 }
 
-// Tiers under limits of 0, so that each step spills, with room for as many rows each.
+// Spills each row, and touches each again, so that all rows are hot as before.
+fn spill_and_touch<R: Print + Clock>(
+    rt: &R,
+    watch: Watch,
+    rows: u64,
+    tiered: &mut TieredCore<u64, 8>,
+) -> io::Result<()> {
+    let start = Instant::now(rt)?;
+    let mut done = 0usize;
+    for turn in 0..rows {
+        let (a, b) = draws(turn);
+        if tiered.spill_step(a, b).is_ok() {
+            done = done.wrapping_add(1);
+        }
+    }
+    watch.tell(rt, "tiers, spill_step", done, rows as usize, start)?;
+    let start = Instant::now(rt)?;
+    let mut done = 0usize;
+    for key in 0..rows {
+        if tiered.touch(key) == Ok(Some(Tier::Cold)) {
+            done = done.wrapping_add(1);
+        }
+    }
+    watch.tell(rt, "tiers, touch of a cold row", done, rows as usize, start)
+}
+
+// Tiers under limits of 0, so that each step spills, with room for twice as many rows each. The second spills write
+// to memory that the first ones have used.
 fn measure_tiers<R: Print + Clock>(
     rt: &R,
     alloc: Global,
@@ -75,23 +102,8 @@ fn measure_tiers<R: Print + Clock>(
         }
     }
     watch.tell(rt, "tiers, touch of a hot row", done, trace.len(), start)?;
-    let start = Instant::now(rt)?;
-    let mut done = 0usize;
-    for turn in 0..rows {
-        let (a, b) = draws(turn);
-        if tiered.spill_step(a, b).is_ok() {
-            done = done.wrapping_add(1);
-        }
-    }
-    watch.tell(rt, "tiers, spill_step", done, rows as usize, start)?;
-    let start = Instant::now(rt)?;
-    let mut done = 0usize;
-    for key in 0..rows {
-        if tiered.touch(key) == Ok(Some(Tier::Cold)) {
-            done = done.wrapping_add(1);
-        }
-    }
-    watch.tell(rt, "tiers, touch of a cold row", done, rows as usize, start)
+    spill_and_touch(rt, watch, rows, &mut tiered)?;
+    spill_and_touch(rt, watch, rows, &mut tiered)
 }
 
 /// A million promotes and touches among so many rows, and each row evicted or spilled once.

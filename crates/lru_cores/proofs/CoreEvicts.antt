@@ -110,8 +110,7 @@ module _ {T : Type 0} where
   -- the key of the row that an over core would evict
   pub names : (old : Core T) (a b victim k : ℕ) → is_over old ≡ true → IsVictim old.lists (start old a b) victim → Some k ≡ option_map (λ (r : Row T). r.key) (last_row (list_at old victim)) → NamesVictim old a b (Some k)
   names old a b victim k over is h =
-      let r = of_key (last_row (list_at old victim)) k h in
-      (
+      let r = of_key (last_row (list_at old victim)) k h in (
         pair_of r.0,
         (
           evicted old victim r.0,

@@ -51,7 +51,7 @@ returns-in_default-push_head g c =
     let old = c.args.self.now in
     let is = refused_push i.order (pushed_head i.order c.args.key) c.args.key c.in_default-push_head.field-0 c.push_head.new.self c.in_default-push_head.ensures.pushes in
     let same = ap (λ (o : Linked ℕ). shard (rows_of (hash.get nat_eq c.make_room.new.table) o.live) i.cap) is
-        ∙ ap (λ rows. shard rows i.cap) (rows_same look i.order i.used_weight i.cap c.self.invariant (hash.get nat_eq c.make_room.new.table) c.if-not-make_room.ensures.same) ∙ c.self.view_is in
+    ∙ ap (λ rows. shard rows i.cap) (rows_same look i.order i.used_weight i.cap c.self.invariant (hash.get nat_eq c.make_room.new.table) c.if-not-make_room.ensures.same) ∙ c.self.view_is in
     pull_refused old _ c.args.from.now c.args.from.now c.args.key c.in-Some.weight c.in-Some.ensures Memory
     (λ d. wants_first old.rows c.args.key c.requires old.cap d c.in-Some.weight (sym c.refusal_of_new.ensures ∙ c.in_default-refusal_of_new.is)) same refl
 
