@@ -1,0 +1,9 @@
+//! Tests of `lru_async`: each call by its effect, and what only running threads show.
+#![tactic(auto)]
+
+#[cfg(test)]
+mod calls;
+#[cfg(test)]
+mod callbacks;
+#[cfg(test)]
+mod running;
