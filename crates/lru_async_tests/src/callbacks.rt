@@ -9,7 +9,7 @@ use std::thread;
 #[derive(Drop)]
 pub struct Quiet;
 
-impl<K> AsyncEvictionCallback<K> for Quiet {
+impl<K: Drop> AsyncEvictionCallback<K> for Quiet {
     ghost ready = { λ _. Unit {0} };
 
     fn call(&self, _key: K, _weight: usize) {}

@@ -7,3 +7,9 @@ mod calls;
 mod callbacks;
 #[cfg(test)]
 mod running;
+#[cfg(test)]
+mod replays;
+#[cfg(test)]
+mod rows;
+#[cfg(test)]
+mod soak;
