@@ -27,12 +27,8 @@ pub(crate) fn start_actor<
     gate: Option<Arc<G, Global>>,
     actor: Actor<K>,
     ended: Arc<ReplyCell<Option<PutSeat>>, Global>,
-) -> Result<(), BuildError>
-    requires { actor.shard < vec_len (arc_value world).shards }
-{
-    let job = move ||
-        requires { actor.shard < vec_len (arc_value world).shards }
-    {
+) -> Result<(), BuildError> {
+    let job = move || {
         let seat = actor.run(&rt, &*world, &gate);
         ended.give(&rt, seat);
     };
