@@ -1,8 +1,7 @@
 //! Each call by its effect on one shard.
 use crate::callbacks::Quiet;
 use lru_async::async_lru::AsyncLru;
-use lru_async::refusals::{BuildError, SendRefused};
-use std::alloc::{AllocError, Global};
+use std::alloc::Global;
 use std::sync::{Arc, Wait};
 use std::test::Fail;
 
@@ -15,7 +14,12 @@ fn shown<R: Wait>(rt: &R, lru: &AsyncLru<u64, 1>) -> Option<(Vec<(u64, usize)>, 
 }
 
 // Whether the rows of shard 0 and the weight of key 1 are these.
-fn shows<R: Wait>(rt: &R, lru: &AsyncLru<u64, 1>, rows: &[(u64, usize)], weight: Option<usize>) -> bool {
+fn shows<R: Wait>(
+    rt: &R,
+    lru: &AsyncLru<u64, 1>,
+    rows: &[(u64, usize)],
+    weight: Option<usize>,
+) -> bool {
     match shown(rt, lru) {
         Some((found, weight_found)) => found.as_slice() == rows && weight_found == weight,
         None => false,
@@ -27,12 +31,18 @@ fn sends<R: Wait>(rt: &R, lru: &AsyncLru<u64, 1>) -> [bool; 8] {
     [
         matches!(lru.admit(rt, 1, 5), Ok(0)) && shows(rt, lru, &[(1, 5)], Some(5)),
         matches!(lru.admit(rt, 2, 0), Ok(0)) && shows(rt, lru, &[(2, 1), (1, 5)], Some(5)),
-        matches!(lru.insert_tail(rt, 3, 7), Ok(0)) && shows(rt, lru, &[(2, 1), (1, 5), (3, 7)], Some(5)),
-        matches!(lru.promote(rt, &3), Ok(true)) && shows(rt, lru, &[(3, 7), (2, 1), (1, 5)], Some(5)),
-        matches!(lru.promote(rt, &4), Ok(false)) && shows(rt, lru, &[(3, 7), (2, 1), (1, 5)], Some(5)),
-        lru.increment_weight(rt, &1, 4, None).is_ok() && shows(rt, lru, &[(1, 9), (3, 7), (2, 1)], Some(9)),
+        matches!(lru.insert_tail(rt, 3, 7), Ok(0))
+            && shows(rt, lru, &[(2, 1), (1, 5), (3, 7)], Some(5)),
+        matches!(lru.promote(rt, &3), Ok(true))
+            && shows(rt, lru, &[(3, 7), (2, 1), (1, 5)], Some(5)),
+        matches!(lru.promote(rt, &4), Ok(false))
+            && shows(rt, lru, &[(3, 7), (2, 1), (1, 5)], Some(5)),
+        lru.increment_weight(rt, &1, 4, None).is_ok()
+            && shows(rt, lru, &[(1, 9), (3, 7), (2, 1)], Some(9)),
         lru.remove(rt, &3).is_ok() && shows(rt, lru, &[(1, 9), (2, 1)], Some(9)),
-        lru.remove_by_hash(rt, lru_actors::key::hash_key(&1u64)).is_ok() && shows(rt, lru, &[(2, 1)], None),
+        lru.remove_by_hash(rt, lru_actors::key::hash_key(&1u64))
+            .is_ok()
+            && shows(rt, lru, &[(2, 1)], None),
     ]
 }
 

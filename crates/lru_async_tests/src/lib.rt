@@ -2,14 +2,14 @@
 #![tactic(auto)]
 
 #[cfg(test)]
-mod calls;
-#[cfg(test)]
 mod callbacks;
 #[cfg(test)]
-mod running;
+mod calls;
 #[cfg(test)]
 mod replays;
 #[cfg(test)]
 mod rows;
+#[cfg(test)]
+mod running;
 #[cfg(test)]
 mod soak;

@@ -30,7 +30,12 @@ fn weight_in(plain: &Vec<ShardState<u64>>, shard: usize, hash: u64) -> Option<us
 }
 
 // Whether a shard's snapshot is the rows of the plain one.
-fn is_same_shard<R: Wait>(rt: &R, lru: &AsyncLru<u64, 2>, shard: usize, state: &ShardState<u64>) -> bool {
+fn is_same_shard<R: Wait>(
+    rt: &R,
+    lru: &AsyncLru<u64, 2>,
+    shard: usize,
+    state: &ShardState<u64>,
+) -> bool {
     let Ok(Some(rows)) = lru.snapshot_shard(rt, shard) else {
         return false;
     };
@@ -66,7 +71,12 @@ fn is_same<R: Wait>(rt: &R, lru: &AsyncLru<u64, 2>, plain: &Vec<ShardState<u64>>
 }
 
 // One drawn send, and whether its answer is right.
-fn send<R: Wait>(rt: &R, lru: &AsyncLru<u64, 2>, plain: &mut Vec<ShardState<u64>>, rng: &mut StdRng) -> bool {
+fn send<R: Wait>(
+    rt: &R,
+    lru: &AsyncLru<u64, 2>,
+    plain: &mut Vec<ShardState<u64>>,
+    rng: &mut StdRng,
+) -> bool {
     let key = rng.random_range(0..8u64);
     let weight = rng.random_range(0..6usize);
     let hash = hash_key(&key);
@@ -78,7 +88,8 @@ fn send<R: Wait>(rt: &R, lru: &AsyncLru<u64, 2>, plain: &mut Vec<ShardState<u64>
         }
         1 => {
             step(plain, shard, LruMsg::InsertTail { hash, key, weight });
-            lru.insert_tail(rt, key, weight).is_ok_and(|found| found == shard)
+            lru.insert_tail(rt, key, weight)
+                .is_ok_and(|found| found == shard)
         }
         2 => {
             let held = weight_in(plain, shard, hash).is_some();
@@ -108,7 +119,12 @@ fn send<R: Wait>(rt: &R, lru: &AsyncLru<u64, 2>, plain: &mut Vec<ShardState<u64>
 }
 
 // How many of the drawn sends were right, with all that is read after each.
-fn replayed<R: Wait>(rt: &R, alloc: Global, lru: &AsyncLru<u64, 2>, seed: u64) -> Result<usize, AllocError> {
+fn replayed<R: Wait>(
+    rt: &R,
+    alloc: Global,
+    lru: &AsyncLru<u64, 2>,
+    seed: u64,
+) -> Result<usize, AllocError> {
     let mut plain = Vec::new(alloc);
     for _ in 0..2u8 {
         plain.push(ShardState::with_capacity(alloc, 0, usize::MAX / 2)?)?;

@@ -45,7 +45,12 @@ fn after_a_shutdown_nothing_is_sent(rt: HostRuntime) -> Result<(), Fail> {
 }
 
 // The weight of a key once all that was sent to its shard is processed.
-fn weight_now<R: Wait>(rt: &R, lru: &AsyncLru<String, 4>, shard: usize, key: &String) -> Option<usize> {
+fn weight_now<R: Wait>(
+    rt: &R,
+    lru: &AsyncLru<String, 4>,
+    shard: usize,
+    key: &String,
+) -> Option<usize> {
     match lru.shard_weight(rt, shard) {
         Ok(_) => lru.peek_weight(rt, key),
         Err(_) => None,
@@ -78,7 +83,10 @@ fn weight_of_one_key(rt: HostRuntime) -> Result<(), Fail> {
         panic!(rt; "no threads");
     };
     let key = format!(in alloc; "key-1")?;
-    assert_eq!(rt; weights(&rt, &lru, &key)?, [Some(10), Some(15), Some(20), Some(20)]);
+    assert_eq!(rt;
+        weights(&rt, &lru, &key)?,
+        [Some(10), Some(15), Some(20), Some(20)]
+    );
     lru.close(&rt);
     Ok(())
 }
@@ -86,19 +94,15 @@ fn weight_of_one_key(rt: HostRuntime) -> Result<(), Fail> {
 // How many shards are saved by a writer that refuses shard 2, and the lines of the log.
 fn saved<R: Wait>(rt: &R, lru: &AsyncLru<String, 4>, alloc: Global) -> (usize, Vec<String>) {
     let log = sink::Memory::new(alloc);
-    let written = lru.save(
-        rt,
-        &log,
-        |data: ShardData<String>| -> Result<(), String> {
-            if data.shard_index != 2 {
-                return Ok(());
-            }
-            match format!(in alloc; "disk full") {
-                Ok(refusal) => Err(refusal),
-                Err(_) => Ok(()),
-            }
-        },
-    );
+    let written = lru.save(rt, &log, |data: ShardData<String>| -> Result<(), String> {
+        if data.shard_index != 2 {
+            return Ok(());
+        }
+        match format!(in alloc; "disk full") {
+            Ok(refusal) => Err(refusal),
+            Err(_) => Ok(()),
+        }
+    });
     (written, log.into_lines().into_vec())
 }
 
@@ -113,7 +117,11 @@ fn a_refused_shard_is_logged(rt: HostRuntime) -> Result<(), Fail> {
     lru.close(&rt);
     assert_eq!(rt; (written, lines.len()), (3, 1));
     for line in &lines {
-        assert!(rt; line.as_str().ends_with("AsyncLru: failed to write shard 2: disk full"), "{line}");
+        assert!(rt;
+            line.as_str()
+                .ends_with("AsyncLru: failed to write shard 2: disk full"),
+            "{line}"
+        );
     }
     Ok(())
 }
@@ -139,7 +147,8 @@ fn collides<R: Wait>(rt: &R, lru: &AsyncLru<Same, 1>) -> [bool; 3] {
         _ => false,
     };
     let found = lru.peek(rt, &Same(3));
-    let removed = lru.remove(rt, &Same(2)).is_ok() && matches!(lru.shard_weight(rt, 0), Ok(Some(0)));
+    let removed = lru.remove(rt, &Same(2)).is_ok()
+        && matches!(lru.shard_weight(rt, 0), Ok(Some(0)));
     [sent && first, found, removed && lru.is_empty()]
 }
 

@@ -46,9 +46,12 @@ fn a_batch_is_processed_whole(rt: HostRuntime) -> Result<(), Fail> {
     let alloc: Global = rt.alloc();
     let gate = Arc::new(alloc, Holding::new())?;
     let quiet = Arc::new(alloc, Quiet)?;
-    let Ok(lru) = AsyncLru::<u64, 1>::builder_with_gate(alloc, 1000, quiet, Arc::try_clone(&gate)?)
-        .build(rt)
-    else {
+    let Ok(lru) = AsyncLru::<u64, 1>::builder_with_gate(
+        alloc,
+        1000,
+        quiet,
+        Arc::try_clone(&gate)?,
+    ).build(rt) else {
         panic!(rt; "no threads");
     };
     assert!(rt; keeps_all(&rt, &lru, &*gate));
@@ -57,7 +60,11 @@ fn a_batch_is_processed_whole(rt: HostRuntime) -> Result<(), Fail> {
 }
 
 // While the gate holds shard 0, shard 1 answers.
-fn answers_beside<R: Threads + Wait + Sync>(rt: &R, lru: &AsyncLru<u64, 2>, gate: &Holding) -> (bool, bool) {
+fn answers_beside<R: Threads + Wait + Sync>(
+    rt: &R,
+    lru: &AsyncLru<u64, 2>,
+    gate: &Holding,
+) -> (bool, bool) {
     thread::join(
         rt,
         || matches!(lru.shard_weight(rt, 0), Ok(Some(0))),
@@ -75,9 +82,12 @@ fn a_held_shard_holds_up_no_other(rt: HostRuntime) -> Result<(), Fail> {
     let alloc: Global = rt.alloc();
     let gate = Arc::new(alloc, Holding::new())?;
     let quiet = Arc::new(alloc, Quiet)?;
-    let Ok(lru) = AsyncLru::<u64, 2>::builder_with_gate(alloc, 1000, quiet, Arc::try_clone(&gate)?)
-        .build(rt)
-    else {
+    let Ok(lru) = AsyncLru::<u64, 2>::builder_with_gate(
+        alloc,
+        1000,
+        quiet,
+        Arc::try_clone(&gate)?,
+    ).build(rt) else {
         panic!(rt; "no threads");
     };
     assert_eq!(rt; answers_beside(&rt, &lru, &*gate), (true, true));
@@ -100,7 +110,8 @@ fn fills<R: Wait>(rt: &R, lru: &AsyncLru<u64, 1>) -> bool {
 fn evicted_pairs_are_called(rt: HostRuntime) -> Result<(), Fail> {
     let alloc: Global = rt.alloc();
     let counting = Arc::new(alloc, Counting::new())?;
-    let Ok(lru) = AsyncLru::<u64, 1>::builder(alloc, 20, Arc::try_clone(&counting)?).build(rt) else {
+    let Ok(lru) = AsyncLru::<u64, 1>::builder(alloc, 20, Arc::try_clone(&counting)?).build(rt)
+    else {
         panic!(rt; "no threads");
     };
     let filled = fills(&rt, &lru);
@@ -108,7 +119,9 @@ fn evicted_pairs_are_called(rt: HostRuntime) -> Result<(), Fail> {
     lru.close(&rt);
     let [first, second, third, others] = counting.counts();
     let called = first.wrapping_add(second).wrapping_add(third);
-    assert!(rt; filled && called >= evicted && first <= 1 && second <= 1 && third <= 1 && others == 0);
+    assert!(rt;
+        filled && called >= evicted && first <= 1 && second <= 1 && third <= 1 && others == 0
+    );
     Ok(())
 }
 

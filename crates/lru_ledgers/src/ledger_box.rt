@@ -118,12 +118,7 @@ impl<K: Drop> LedgerBox<K> {
 
     /// Ends the box: what each putter put and each taker took, the slips that are lost, and the pairs that are left. It
     /// takes all seats, so that nothing is put or taken afterwards. It takes no memory, and refuses nothing.
-    pub fn settle(
-        &self,
-        rt: &impl Wait,
-        puts: Vec<PutSeat>,
-        takes: Vec<TakeSeat>,
-    ) -> Settled<K>
+    pub fn settle(&self, rt: &impl Wait, puts: Vec<PutSeat>, takes: Vec<TakeSeat>) -> Settled<K>
         ensures { IsSettled (lists_of result.puts.items) (lists_of result.takes.items) result.lost.items (slips_of result.left.items) }
     {
         drop(puts);

@@ -11,7 +11,9 @@ use std::thread::Threads;
 fn numbers(slips: &[Slip]) -> u64 {
     let mut all = 0u64;
     for slip in slips {
-        all = all.wrapping_mul(10).wrapping_add(slip.number.wrapping_add(1));
+        all = all
+            .wrapping_mul(10)
+            .wrapping_add(slip.number.wrapping_add(1));
     }
     all
 }
@@ -27,11 +29,21 @@ fn told(settled: &Settled<u8>) -> (u64, u64, u64, usize) {
         Some(slips) => numbers(slips.as_slice()),
         None => 0,
     };
-    (puts, takes, numbers(settled.lost.as_slice()), settled.left.len())
+    (
+        puts,
+        takes,
+        numbers(settled.lost.as_slice()),
+        settled.left.len(),
+    )
 }
 
 // Two pairs are put, one is taken, the receivers leave, and one more is put. Which number was taken.
-fn row<R: Wait>(rt: &R, ledger: &LedgerBox<u8>, put: &mut PutSeat, take: &mut TakeSeat) -> Option<(u64, u8)> {
+fn row<R: Wait>(
+    rt: &R,
+    ledger: &LedgerBox<u8>,
+    put: &mut PutSeat,
+    take: &mut TakeSeat,
+) -> Option<(u64, u8)> {
     let first = ledger.put(rt, put, 5, 50, 1);
     let second = ledger.put(rt, put, 6, 60, 2);
     let taken = ledger.take(rt, take);
@@ -51,7 +63,10 @@ fn every_slip_is_told(rt: HostRuntime) -> Result<(), Fail> {
     let alloc: Global = rt.alloc();
     let (ledger, mut puts, mut takes) = LedgerBox::new(alloc, 1, 1)?;
     let taken = row(&rt, &ledger, &mut puts[0], &mut takes[0]);
-    assert_eq!(rt; (taken, ledger.lost_len(&rt), ledger.len(&rt)), (Some((0, 50)), 2, 0));
+    assert_eq!(rt;
+        (taken, ledger.lost_len(&rt), ledger.len(&rt)),
+        (Some((0, 50)), 2, 0)
+    );
     let settled = ledger.settle(&rt, puts, takes);
     assert_eq!(rt; told(&settled), (123, 1, 23, 0));
     Ok(())
@@ -75,6 +90,9 @@ fn across<R: Threads + Wait + Sync>(
 fn wakes_who_waits(rt: HostRuntime) -> Result<(), Fail> {
     let alloc: Global = rt.alloc();
     let (ledger, mut puts, mut takes) = LedgerBox::new(alloc, 1, 1)?;
-    assert_eq!(rt; across(&rt, &ledger, &mut puts[0], &mut takes[0]), (true, true));
+    assert_eq!(rt;
+        across(&rt, &ledger, &mut puts[0], &mut takes[0]),
+        (true, true)
+    );
     Ok(())
 }

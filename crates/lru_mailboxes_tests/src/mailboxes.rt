@@ -18,7 +18,11 @@ fn refused(answer: Result<(), MailError<u8>>) -> Option<(u8, u8)> {
 }
 
 // What the pushes of the row answer, and how many were taken between them.
-fn row<R: Wait>(rt: &R, mailbox: &Mailbox<u8>, alloc: Global) -> Result<([Option<(u8, u8)>; 5], usize), Fail> {
+fn row<R: Wait>(
+    rt: &R,
+    mailbox: &Mailbox<u8>,
+    alloc: Global,
+) -> Result<([Option<(u8, u8)>; 5], usize), Fail> {
     let first = refused(mailbox.push(rt, 10));
     let second = refused(mailbox.push_evict(rt, 20));
     let third = refused(mailbox.push_evict(rt, 30));
@@ -37,7 +41,13 @@ fn refuses_a_second_evict_and_what_comes_late(rt: HostRuntime) -> Result<(), Fai
     let (answers, count) = row(&rt, &mailbox, alloc)?;
     assert_eq!(rt; answers, [None, None, Some((3, 30)), None, Some((2, 50))]);
     assert_eq!(rt;
-        (count, mailbox.pushed(&rt), mailbox.taken(&rt), mailbox.lost(&rt), mailbox.len(&rt)),
+        (
+            count,
+            mailbox.pushed(&rt),
+            mailbox.taken(&rt),
+            mailbox.lost(&rt),
+            mailbox.len(&rt)
+        ),
         (2, 3, 2, 1, 0)
     );
     Ok(())
