@@ -4,3 +4,9 @@
 pub use lru_ledger::{LedgerState, PutShare, Settled, Slip, TakeShare, ties_law};
 /// A mailbox, and why it refused a message.
 pub use lru_mailbox::{MailError, MailState};
+/// A box that threads share, and the seats at it.
+pub use lru_ledgers::{LedgerBox, PutSeat, TakeSeat};
+/// A mailbox that threads share.
+pub use lru_mailboxes::Mailbox;
+/// A box with all its shares.
+pub use lru_tied::{TiedLedger, TiedPutter};

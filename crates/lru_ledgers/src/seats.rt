@@ -1,0 +1,40 @@
+//! Seats at a box.
+ghost use Rattle.std.specs.Prelude.{◌≡◌, vec_len, IfOk};
+
+use std::alloc::{AllocError, Global};
+
+/// The seat of one who puts pairs into a box. It is made with the box, and cannot be copied.
+#[derive(Debug, Drop)]
+pub struct PutSeat {
+    /// The number of the putter.
+    pub number: usize,
+}
+
+/// The seat of one who takes pairs out of a box. It is made with the box, and cannot be copied.
+#[derive(Debug, Drop)]
+pub struct TakeSeat {
+    /// The number of the taker.
+    pub number: usize,
+}
+
+// The seats of so many putters, in order.
+pub(crate) fn put_seats(alloc: Global, count: usize) -> Result<Vec<PutSeat>, AllocError>
+    ensures { IfOk result (λ seats. vec_len seats ≡ count) }
+{
+    let mut seats = Vec::with_capacity(alloc, count)?;
+    for number in 0..count {
+        seats.push_reserved(PutSeat { number });
+    }
+    Ok(seats)
+}
+
+// The seats of so many takers, in order.
+pub(crate) fn take_seats(alloc: Global, count: usize) -> Result<Vec<TakeSeat>, AllocError>
+    ensures { IfOk result (λ seats. vec_len seats ≡ count) }
+{
+    let mut seats = Vec::with_capacity(alloc, count)?;
+    for number in 0..count {
+        seats.push_reserved(TakeSeat { number });
+    }
+    Ok(seats)
+}

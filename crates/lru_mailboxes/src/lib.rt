@@ -1,0 +1,6 @@
+//! Mailboxes that threads share.
+#![tactic(auto)]
+
+mod mailbox;
+
+pub use mailbox::Mailbox;

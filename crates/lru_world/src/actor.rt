@@ -1,0 +1,283 @@
+//! The loop of an actor.
+ghost use Rattle.std.specs.Prelude.{◌≡◌, ◌<◌, ◌≤◌, [], map, length, vec_len, vec_capacity, nat_eq, IfOk};
+ghost use Rattle.std.specs.HashMap as hash;
+ghost use Rattle.lru_actors.specs.Processing.{ProcessesAll};
+
+use crate::callback::Gate;
+use crate::outlet::Outlet;
+use crate::world::{Change, World};
+use lru_actors::effect::{Effect, Reply};
+use lru_actors::message::LruMsg;
+use lru_actors::process::process_batch;
+use lru_actors::state::ShardState;
+use lru_dispatch::Dispatch;
+use lru_ledgers::PutSeat;
+use lru_letters::{Letter, ReplyCell};
+use lru_tied::TiedPutter;
+use std::alloc::{AllocError, Global};
+use std::collections::HashMap;
+use std::sync::{Arc, Wait};
+use std::thread;
+
+// The most messages that are taken at once.
+const MOST: usize = 64;
+
+// What is kept of a message while it is processed.
+#[derive(Drop)]
+struct Asked<K: Drop> {
+    evicts: bool,
+    cell: Option<Arc<ReplyCell<Reply<K>>, Global>>,
+}
+
+/// What one actor owns: its shard, and room for a batch.
+#[derive(Drop)]
+pub struct Actor<K: Drop> {
+    /// The number of its shard.
+    pub shard: usize,
+    state: ShardState<K>,
+    seat: Option<PutSeat>,
+    letters: Vec<Letter<K>>,
+    asked: Vec<Asked<K>>,
+    batch: Vec<LruMsg<K>>,
+    effects: Vec<Effect<K>>,
+}
+
+impl<K: Clone + Drop> Actor<K> {
+    /// The actor of this shard, which is empty, with room for `capacity` rows whose weights may sum up to `cap`. Where
+    /// evicted pairs go into a box it puts them with a seat.
+    pub fn new(
+        alloc: Global,
+        shard: usize,
+        capacity: usize,
+        cap: usize,
+        seat: Option<PutSeat>,
+    ) -> Result<Self, AllocError>
+        ensures { IfOk result (λ actor. actor.shard ≡ shard) }
+    {
+        Ok(Actor {
+            shard,
+            state: ShardState::with_capacity(alloc, capacity, cap)?,
+            seat,
+            letters: Vec::with_capacity(alloc, MOST)?,
+            asked: Vec::with_capacity(alloc, MOST)?,
+            batch: Vec::with_capacity(alloc, MOST)?,
+            effects: Vec::with_capacity(alloc, MOST)?,
+        })
+    }
+
+    /// What an actor does until its mailbox is closed and empty. It gives its seat back. Of a shard that is not there it
+    /// does nothing.
+    pub fn run<G: Gate, R: Wait>(
+        self,
+        rt: &R,
+        world: &World<K>,
+        gate: &Option<Arc<G, Global>>,
+    ) -> Option<PutSeat> {
+        let mut actor = self;
+        for _ in rt.forever() {
+            if actor.shard >= world.shards.len() || !actor.serve(rt, world, gate) {
+                break;
+            }
+        }
+        let Actor { seat, .. } = actor;
+        seat
+    }
+
+    // Takes the messages that wait, processes them and answers. Whether there were any.
+    fn serve<G: Gate, R: Wait>(
+        &mut self,
+        rt: &R,
+        world: &World<K>,
+        gate: &Option<Arc<G, Global>>,
+    ) -> bool
+        requires { self.old.shard < vec_len world.now.shards }
+        ensures { self.new.shard ≡ self.old.shard }
+    {
+        clear(rt, &mut self.letters);
+        let count = world.shards[self.shard]
+            .mailbox
+            .pop_many(rt, MOST, &mut self.letters);
+        if count == 0 {
+            return false;
+        }
+        pass(gate, self.shard, count);
+        clear(rt, &mut self.batch);
+        clear(rt, &mut self.asked);
+        clear(rt, &mut self.effects);
+        take_apart(&mut self.letters, &mut self.batch, &mut self.asked);
+        self.process(rt, world);
+        let looks = self.effects.iter().any(|effect| effect.look);
+        reply_all(rt, &mut self.effects, &mut self.asked);
+        if looks && world.over_limit() {
+            world.trigger.raise(rt);
+        }
+        true
+    }
+
+    // Processes the batch under the locks of the map and of the evicted pairs.
+    fn process<R: Wait>(&mut self, rt: &R, world: &World<K>)
+        requires shard { self.old.shard < vec_len world.now.shards }
+        requires few { vec_len self.old.batch ≤ 64 }
+        requires none { self.old.effects.items ≡ [] }
+        requires room { 64 ≤ vec_capacity self.old.effects }
+        ensures { self.new.shard ≡ self.old.shard }
+    {
+        let mut weights = world.shards[self.shard].map.write(rt);
+        match &world.outlet {
+            Outlet::Mailbox(mailbox) => {
+                let mut queue = mailbox.lend(rt);
+                let change = self.batch_through(&mut *weights, &mut *queue);
+                world.count(self.shard, &change);
+                drop(queue);
+                if change.evicted_len != 0 {
+                    mailbox.wake();
+                }
+            }
+            Outlet::Ledger(ledger) => {
+                let mut lent = ledger.lend(rt);
+                let (Some(tied), Some(seat)) = (&mut *lent, &self.seat) else {
+                    return;
+                };
+                let putter = seat.number;
+                let mut putter = TiedPutter {
+                    ledger: tied,
+                    putter,
+                };
+                let change = self.batch_through(&mut *weights, &mut putter);
+                world.count(self.shard, &change);
+                drop(putter);
+                drop(lent);
+                if change.evicted_len != 0 {
+                    ledger.wake();
+                }
+            }
+        }
+    }
+
+    // Processes the batch. Each message has its effect, in order.
+    fn batch_through<D: Dispatch<K>>(
+        &mut self,
+        weights: &mut HashMap<u64, usize>,
+        dispatch: &mut D,
+    ) -> Change
+        requires few { vec_len self.old.batch ≤ 64 }
+        requires none { self.old.effects.items ≡ [] }
+        requires room { 64 ≤ vec_capacity self.old.effects }
+        ensures processed { ProcessesAll D.Puts D.IsSame D.queue K.is_clone self.old.state (hash.get nat_eq weights.old) dispatch.old self.old.batch.items self.new.effects.items self.new.state (hash.get nat_eq weights.new) dispatch.new }
+        ensures shard { self.new.shard ≡ self.old.shard }
+        ensures seat { self.new.seat ≡ self.old.seat }
+        ensures asked { self.new.asked ≡ self.old.asked }
+    {
+        let weight_before = self.state.used_weight();
+        let len_before = self.state.len();
+        process_batch(
+            &mut self.state,
+            weights,
+            dispatch,
+            &mut self.batch,
+            &mut self.effects,
+        );
+        let (evicted_weight, evicted_len) = evicted_in(&self.effects, &self.asked);
+        Change {
+            weight_before,
+            weight_after: self.state.used_weight(),
+            len_before,
+            len_after: self.state.len(),
+            evicted_weight,
+            evicted_len,
+            refused: self.state.refused(),
+        }
+    }
+}
+
+// Empties a vector that has room for a batch from the start. Were it not so, this would wait for memory.
+fn clear<T: Drop, R: Wait>(rt: &R, items: &mut Vec<T>)
+    ensures none { items.new.items ≡ [] }
+    ensures room { 64 ≤ vec_capacity items.new }
+{
+    items.clear();
+    for _ in rt.forever() {
+        if items.reserve(MOST).is_ok() {
+            return;
+        }
+        thread::yield_now();
+    }
+    unreachable!()
+}
+
+// Passes the gate, if there is one, once for each message.
+fn pass<G: Gate>(gate: &Option<Arc<G, Global>>, shard: usize, count: usize) {
+    if let Some(gate) = gate {
+        for _ in 0..count {
+            gate.pass(shard);
+        }
+    }
+}
+
+// Takes letters apart: their messages, in order, and what is kept of each. There has to be room.
+fn take_apart<K: Drop>(
+    letters: &mut Vec<Letter<K>>,
+    batch: &mut Vec<LruMsg<K>>,
+    asked: &mut Vec<Asked<K>>,
+)
+    requires batch { batch.old.items ≡ [] }
+    requires asked { asked.old.items ≡ [] }
+    requires batch_fits { vec_len letters.old ≤ vec_capacity batch.old }
+    requires asked_fit { vec_len letters.old ≤ vec_capacity asked.old }
+    ensures messages { batch.new.items ≡ map (λ l. l.message) letters.old.items }
+    ensures as_many { vec_len batch.new ≡ vec_len letters.old }
+{
+    // The last one is at hand, so the first is made the last.
+    letters.reverse();
+    while let Some(letter) = letters.pop() {
+        let Letter { message, cell } = letter;
+        asked.push_reserved(Asked {
+            evicts: matches!(message, LruMsg::Evict),
+            cell,
+        });
+        batch.push_reserved(message);
+    }
+}
+
+// The weight of the rows that evictions took, and how many they are, modulo 2^64.
+fn evicted_in<K: Drop>(effects: &[Effect<K>], asked: &[Asked<K>]) -> (usize, usize) {
+    let mut weight = 0usize;
+    let mut len = 0usize;
+    for (effect, asked) in effects.iter().zip(asked) {
+        if asked.evicts {
+            weight = weight.wrapping_add(effect.weight_before.wrapping_sub(effect.weight_after));
+            len = len.wrapping_add(effect.len_before.wrapping_sub(effect.len_after));
+        }
+    }
+    (weight, len)
+}
+
+// Gives the replies, in order, to those who asked.
+fn reply_all<K: Drop, R: Wait>(
+    rt: &R,
+    effects: &mut Vec<Effect<K>>,
+    asked: &mut Vec<Asked<K>>,
+) {
+    effects.reverse();
+    asked.reverse();
+    while let Some(asked) = asked.pop() {
+        let reply = match effects.pop() {
+            Some(effect) => effect.reply,
+            None => None,
+        };
+        answer(rt, asked.cell, reply);
+    }
+}
+
+// Gives one reply. Who asked and gets none is told so.
+fn answer<K: Drop, R: Wait>(
+    rt: &R,
+    cell: Option<Arc<ReplyCell<Reply<K>>, Global>>,
+    reply: Option<Reply<K>>,
+) {
+    match (cell, reply) {
+        (Some(cell), Some(reply)) => cell.give(rt, reply),
+        (Some(cell), None) => cell.leave(rt),
+        (None, _) => {}
+    }
+}

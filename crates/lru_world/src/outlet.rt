@@ -1,0 +1,71 @@
+//! Where evicted pairs wait for those who take them.
+use lru_ledgers::{LedgerBox, TakeSeat};
+use lru_mailboxes::Mailbox;
+use std::alloc::Global;
+use std::sync::{Arc, Wait};
+
+/// Where evicted pairs wait: a mailbox, or a box that counts every pair.
+#[derive(Drop)]
+pub enum Outlet<K: Drop> {
+    /// A mailbox of pairs.
+    Mailbox(Mailbox<(K, usize)>),
+    /// A box of pairs with their slips.
+    Ledger(Arc<LedgerBox<K>, Global>),
+}
+
+/// What a taker is answered.
+#[derive(Debug, Drop)]
+pub enum Taken<K> {
+    /// A key and its weight.
+    Pair(K, usize),
+    /// All is closed and empty.
+    Nothing,
+    /// There was no memory for the slip, and the pair waits on.
+    NoMemory,
+}
+
+impl<K: Drop> Outlet<K> {
+    /// Takes the first pair. It waits while there is none and one may come. Of a box it takes with a seat.
+    pub fn take(&self, rt: &impl Wait, seat: &mut Option<TakeSeat>) -> Taken<K> {
+        match self {
+            Outlet::Mailbox(mailbox) => match mailbox.pop(rt) {
+                Some((key, weight)) => Taken::Pair(key, weight),
+                None => Taken::Nothing,
+            },
+            Outlet::Ledger(ledger) => {
+                let Some(seat) = seat else {
+                    return Taken::Nothing;
+                };
+                match ledger.take(rt, seat) {
+                    Ok(Some((slip, key))) => Taken::Pair(key, slip.weight),
+                    Ok(None) => Taken::Nothing,
+                    Err(_) => Taken::NoMemory,
+                }
+            }
+        }
+    }
+
+    /// No pair waits that is put from now on; what waits can still be taken.
+    pub fn close(&self, rt: &impl Wait) {
+        match self {
+            Outlet::Mailbox(mailbox) => mailbox.close(rt),
+            Outlet::Ledger(ledger) => ledger.close(rt),
+        }
+    }
+
+    /// What waits is lost, and all that is put from now on.
+    pub fn leave(&self, rt: &impl Wait) {
+        match self {
+            Outlet::Mailbox(mailbox) => drop(mailbox.leave(rt)),
+            Outlet::Ledger(ledger) => ledger.leave(rt),
+        }
+    }
+
+    /// How many pairs are lost, modulo 2^64.
+    pub fn lost(&self, rt: &impl Wait) -> usize {
+        match self {
+            Outlet::Mailbox(mailbox) => mailbox.lost(rt) as usize,
+            Outlet::Ledger(ledger) => ledger.lost_len(rt),
+        }
+    }
+}

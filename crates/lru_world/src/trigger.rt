@@ -1,0 +1,56 @@
+//! What eviction workers wait for.
+use std::sync::{Condvar, Mutex, Wait};
+
+#[derive(Debug, Drop)]
+struct Raised {
+    // how often, modulo 2^64
+    count: u64,
+    stopped: bool,
+}
+
+/// A count that is raised to wake the eviction workers, until it is stopped.
+#[derive(Drop)]
+pub struct Trigger {
+    raised: Mutex<Raised>,
+    changed: Condvar,
+}
+
+impl Trigger {
+    /// A trigger that was never raised.
+    pub fn new() -> Self {
+        Trigger {
+            raised: Mutex::new(Raised {
+                count: 0,
+                stopped: false,
+            }),
+            changed: Condvar::new(),
+        }
+    }
+
+    /// Raises the count, and wakes who waits for it.
+    pub fn raise(&self, rt: &impl Wait) {
+        let mut raised = self.raised.lock(rt);
+        raised.count = raised.count.wrapping_add(1);
+        drop(raised);
+        self.changed.notify_all();
+    }
+
+    /// Stops the trigger, and wakes who waits for it.
+    pub fn stop(&self, rt: &impl Wait) {
+        self.raised.lock(rt).stopped = true;
+        self.changed.notify_all();
+    }
+
+    /// Waits until the count is another one than this, and answers it; `None` once the trigger is stopped.
+    pub fn wait(&self, rt: &impl Wait, seen: u64) -> Option<u64> {
+        let raised = self
+            .changed
+            .wait_while(rt, self.raised.lock(rt), |raised| {
+                raised.count == seen && !raised.stopped
+            });
+        if raised.stopped {
+            return None;
+        }
+        Some(raised.count)
+    }
+}

@@ -1,0 +1,84 @@
+//! The loops of eviction workers and callback workers.
+ghost use Rattle.std.specs.Prelude.{◌≡◌, ◌<◌, vec_len};
+
+use crate::callback::AsyncEvictionCallback;
+use crate::outlet::Taken;
+use crate::world::World;
+use lru_actors::message::LruMsg;
+use lru_actors::process::choose_victim;
+use lru_ledgers::TakeSeat;
+use lru_letters::Letter;
+use rand::RngExt;
+use rand_core::Rng;
+use std::sync::Wait;
+use std::sync::atomic::Ordering;
+use std::thread;
+
+/// What an eviction worker does: it waits for the trigger, and then asks for evictions while a limit is passed. It ends
+/// once the trigger is stopped.
+pub fn evict<K: Drop, G: Rng + Drop, R: Wait>(rt: &R, world: &World<K>, mut rng: G)
+    requires { 0 < vec_len world.now.shards }
+{
+    let mut seen = 0;
+    for _ in rt.forever() {
+        let Some(count) = world.trigger.wait(rt, seen) else {
+            break;
+        };
+        seen = count;
+        evict_while_over(rt, world, &mut rng);
+    }
+}
+
+// Asks for evictions while a limit is passed and no stop is raised.
+fn evict_while_over<K: Drop, G: Rng, R: Wait>(rt: &R, world: &World<K>, rng: &mut G)
+    requires { 0 < vec_len world.now.shards }
+{
+    for _ in rt.forever() {
+        if world.is_stopped() || !world.over_limit() {
+            break;
+        }
+        ask_one(rt, world, rng);
+        thread::yield_now();
+    }
+}
+
+// Asks the longer one of two drawn shards for an eviction. It may refuse; then the next look asks again.
+fn ask_one<K: Drop, G: Rng, R: Wait>(rt: &R, world: &World<K>, rng: &mut G)
+    requires { 0 < vec_len world.now.shards }
+{
+    let count = world.shards.len();
+    let (a, b) = if count == 1 {
+        (0, 0)
+    } else {
+        let a = rng.random_range(0..count);
+        let b = rng.random_range(0..count);
+        (a, b)
+    };
+    let len_a = world.shards[a].len.load(Ordering::SeqCst);
+    let len_b = world.shards[b].len.load(Ordering::SeqCst);
+    let victim = choose_victim(a, b, len_a, len_b);
+    let _answer = world.shards[victim]
+        .mailbox
+        .push_evict(rt, Letter::new(LruMsg::Evict));
+}
+
+/// What a callback worker does: it takes pairs one at a time and calls the callback with each, until all is closed and
+/// empty. It gives its seat back.
+pub fn call_back<K: Drop, C: AsyncEvictionCallback<K>, R: Wait>(
+    rt: &R,
+    world: &World<K>,
+    callback: &C,
+    seat: Option<TakeSeat>,
+) -> Option<TakeSeat>
+    requires { C.ready callback.now }
+{
+    let mut seat = seat;
+    for _ in rt.forever() {
+        match world.outlet.take(rt, &mut seat) {
+            Taken::Pair(key, weight) => callback.call(key, weight),
+            Taken::Nothing => break,
+            Taken::NoMemory => thread::yield_now(),
+        }
+    }
+    seat
+}

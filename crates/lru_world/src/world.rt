@@ -1,0 +1,210 @@
+//! What actors, workers and callers share.
+ghost use Rattle.std.specs.Prelude.{◌≡◌, ◌+◌, ◌%◌, ◌^◌, ◌<◌, vec_len, IfOk};
+
+use crate::outlet::Outlet;
+use crate::trigger::Trigger;
+use lru_letters::Letter;
+use lru_mailboxes::Mailbox;
+use std::alloc::{AllocError, Global};
+use std::collections::HashMap;
+use std::sync::atomic::{AtomicBool, AtomicU64, AtomicUsize, Ordering};
+use std::sync::{RwLock, Wait};
+
+/// What all shards together are held to.
+#[derive(Clone, Copy, Debug, PartialEq, Eq)]
+pub struct Limits {
+    /// The most that all rows may weigh.
+    pub weight_limit: usize,
+    /// The most rows that there may be, if that is limited.
+    pub len_watermark: Option<usize>,
+}
+
+/// What is shared of one shard.
+#[derive(Drop)]
+pub struct ShardPlace<K: Drop> {
+    /// The messages that its actor is to take.
+    pub mailbox: Mailbox<Letter<K>>,
+    /// The weight of each row, by hash.
+    pub map: RwLock<HashMap<u64, usize>>,
+    /// How many rows there are.
+    pub len: AtomicUsize,
+    /// How many messages were refused, modulo 2^64.
+    pub refused: AtomicU64,
+}
+
+impl<K: Drop> ShardPlace<K> {
+    /// An empty shard with room for so many weights.
+    pub fn new(alloc: Global, capacity: usize) -> Result<Self, AllocError> {
+        Ok(ShardPlace {
+            mailbox: Mailbox::new(alloc),
+            map: RwLock::new(HashMap::with_capacity(alloc, capacity)?),
+            len: AtomicUsize::new(0),
+            refused: AtomicU64::new(0),
+        })
+    }
+
+    /// The weight of the row with this hash, if there is one.
+    pub fn weight_of(&self, rt: &impl Wait, hash: u64) -> Option<usize> {
+        self.map.read(rt).get(&hash).copied()
+    }
+
+    /// Closes the mailbox. Who waits for a reply to a message that is left behind is told.
+    pub fn shut(&self, rt: &impl Wait) {
+        let left = self.mailbox.leave(rt);
+        for letter in left {
+            let Letter { message, cell } = letter;
+            drop(message);
+            if let Some(cell) = cell {
+                cell.leave(rt);
+            }
+        }
+    }
+}
+
+/// How weights and lengths changed by a batch, and what it evicted.
+#[derive(Clone, Copy, Debug)]
+pub struct Change {
+    /// The shard's weight before.
+    pub weight_before: usize,
+    /// The shard's weight after.
+    pub weight_after: usize,
+    /// How many rows there were.
+    pub len_before: usize,
+    /// How many rows there are.
+    pub len_after: usize,
+    /// The weight of the rows that were evicted, modulo 2^64.
+    pub evicted_weight: usize,
+    /// How many rows were evicted, modulo 2^64.
+    pub evicted_len: usize,
+    /// How many messages the shard refused so far, modulo 2^64.
+    pub refused: u64,
+}
+
+/// What actors, workers and callers share.
+#[derive(Drop)]
+pub struct World<K: Drop> {
+    /// The shards.
+    pub shards: Vec<ShardPlace<K>>,
+    /// Where evicted pairs wait.
+    pub outlet: Outlet<K>,
+    /// What eviction workers wait for.
+    pub trigger: Trigger,
+    /// What all shards together are held to.
+    pub limits: Limits,
+    weight: AtomicUsize,
+    len: AtomicUsize,
+    evicted_weight: AtomicUsize,
+    evicted_len: AtomicUsize,
+    stop: AtomicBool,
+}
+
+// What a sum modulo 2^64 grows by where one of its numbers changes.
+fn growth(before: usize, after: usize) -> usize
+    ensures { (before + result) % 2 ^ 64 ≡ after }
+{
+    after.wrapping_sub(before)
+}
+
+// Adds to a counter, in one step.
+fn add(counter: &AtomicUsize, amount: usize) {
+    if amount != 0 {
+        counter.fetch_add(amount, Ordering::SeqCst);
+    }
+}
+
+impl<K: Drop> World<K> {
+    /// So many empty shards, each with room for `capacity` rows.
+    pub fn new(
+        alloc: Global,
+        count: usize,
+        capacity: usize,
+        limits: Limits,
+        outlet: Outlet<K>,
+    ) -> Result<Self, AllocError>
+        ensures count { IfOk result (λ world. vec_len world.shards ≡ count) }
+        ensures limits { IfOk result (λ world. world.limits ≡ limits) }
+    {
+        Ok(World {
+            shards: empty_places(alloc, count, capacity)?,
+            outlet,
+            trigger: Trigger::new(),
+            limits,
+            weight: AtomicUsize::new(0),
+            len: AtomicUsize::new(0),
+            evicted_weight: AtomicUsize::new(0),
+            evicted_len: AtomicUsize::new(0),
+            stop: AtomicBool::new(false),
+        })
+    }
+
+    /// Brings the counters after a batch of this shard, each in one step. Its caller holds the lock of the shard's map.
+    pub fn count(&self, shard: usize, change: &Change)
+        requires { shard < vec_len self.now.shards }
+    {
+        let place = &self.shards[shard];
+        let rows = growth(change.len_before, change.len_after);
+        add(&self.weight, growth(change.weight_before, change.weight_after));
+        add(&self.len, rows);
+        add(&place.len, rows);
+        add(&self.evicted_weight, change.evicted_weight);
+        add(&self.evicted_len, change.evicted_len);
+        place.refused.store(change.refused, Ordering::SeqCst);
+    }
+
+    /// The weight of all rows.
+    pub fn weight(&self) -> usize {
+        self.weight.load(Ordering::SeqCst)
+    }
+
+    /// How many rows there are.
+    pub fn len(&self) -> usize {
+        self.len.load(Ordering::SeqCst)
+    }
+
+    /// The weight of all rows that were evicted, modulo 2^64.
+    pub fn evicted_weight(&self) -> usize {
+        self.evicted_weight.load(Ordering::SeqCst)
+    }
+
+    /// How many rows were evicted, modulo 2^64.
+    pub fn evicted_len(&self) -> usize {
+        self.evicted_len.load(Ordering::SeqCst)
+    }
+
+    /// Whether a limit is passed.
+    pub fn over_limit(&self) -> bool {
+        self.weight() > self.limits.weight_limit
+            || match self.limits.len_watermark {
+                None => false,
+                Some(most) => self.len() > most,
+            }
+    }
+
+    /// Whether the stop was raised.
+    pub fn is_stopped(&self) -> bool {
+        self.stop.load(Ordering::SeqCst)
+    }
+
+    /// Raises the stop, and closes the shards' mailboxes. What waits there is left behind, and who asked is told.
+    pub fn shut(&self, rt: &impl Wait) {
+        self.stop.store(true, Ordering::SeqCst);
+        self.trigger.stop(rt);
+        for place in &self.shards {
+            place.shut(rt);
+        }
+    }
+}
+
+fn empty_places<K: Drop>(
+    alloc: Global,
+    count: usize,
+    capacity: usize,
+) -> Result<Vec<ShardPlace<K>>, AllocError>
+    ensures { IfOk result (λ places. vec_len places ≡ count) }
+{
+    let mut places = Vec::with_capacity(alloc, count)?;
+    for _ in 0..count {
+        places.push(ShardPlace::new(alloc, capacity)?)?;
+    }
+    Ok(places)
+}
