@@ -253,11 +253,7 @@ fn evicted_in<K: Drop>(effects: &[Effect<K>], asked: &[Asked<K>]) -> (usize, usi
 }
 
 // Gives the replies, in order, to those who asked.
-fn reply_all<K: Drop, R: Wait>(
-    rt: &R,
-    effects: &mut Vec<Effect<K>>,
-    asked: &mut Vec<Asked<K>>,
-) {
+fn reply_all<K: Drop, R: Wait>(rt: &R, effects: &mut Vec<Effect<K>>, asked: &mut Vec<Asked<K>>) {
     effects.reverse();
     asked.reverse();
     while let Some(asked) = asked.pop() {

@@ -43,11 +43,9 @@ impl Trigger {
 
     /// Waits until the count is another one than this, and answers it; `None` once the trigger is stopped.
     pub fn wait(&self, rt: &impl Wait, seen: u64) -> Option<u64> {
-        let raised = self
-            .changed
-            .wait_while(rt, self.raised.lock(rt), |raised| {
-                raised.count == seen && !raised.stopped
-            });
+        let raised = self.changed.wait_while(rt, self.raised.lock(rt), |raised| {
+            raised.count == seen && !raised.stopped
+        });
         if raised.stopped {
             return None;
         }

@@ -143,7 +143,10 @@ impl<K: Drop> World<K> {
     {
         let place = &self.shards[shard];
         let rows = growth(change.len_before, change.len_after);
-        add(&self.weight, growth(change.weight_before, change.weight_after));
+        add(
+            &self.weight,
+            growth(change.weight_before, change.weight_after),
+        );
         add(&self.len, rows);
         add(&place.len, rows);
         add(&self.evicted_weight, change.evicted_weight);

@@ -1,5 +1,4 @@
-//! Actors: what each message does to a shard, to the map of weights beside it, and to the pairs that are evicted; and the
-//! order that they serve on threads.
+//! Actors: what each message does to a shard, to the map of weights beside it, and to the pairs that are evicted.
 
 /// What a message did.
 pub use lru_actors::effect::{Effect, Reply};
@@ -19,15 +18,3 @@ pub use lru_dispatch::{Dispatch, Putter};
 pub use lru_letters::{Letter, ReplyCell};
 /// The law over every schedule.
 pub use lru_schedules::schedule_law;
-/// The order, and the rows of one shard as `save` hands them out.
-pub use lru_async::async_lru::{AsyncLru, ShardData};
-/// How an order is made.
-pub use lru_async::builder::{AsyncLruBuilder, Settings};
-/// An order whose evicted pairs are counted.
-pub use lru_async::ledger_lru::LedgerLru;
-/// A receiver of evicted pairs.
-pub use lru_async::receiver::EvictionReceiver;
-/// Why a message was not sent, and why nothing was built.
-pub use lru_async::refusals::{BuildError, SendRefused};
-/// What users hand in.
-pub use lru_world::callback::{AsyncEvictionCallback, Gate, NoGate};
