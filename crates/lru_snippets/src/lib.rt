@@ -1,0 +1,8 @@
+//! The snippets of `docs/CALLING.md`, each a function that is proved.
+#![tactic(auto)]
+
+pub mod cores;
+pub mod files;
+pub mod keys;
+pub mod shards;
+pub mod threads;

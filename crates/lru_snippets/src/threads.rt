@@ -1,0 +1,36 @@
+// N shards for many threads.
+
+use pingora_lru::Lru;
+use pingora_lru::recorded::{RecordedLru, Registry, Seat};
+use rand_core::Rng;
+use std::alloc::{AllocError, Global};
+use std::sync::Wait;
+
+/// Each thread that serves: a hit is promoted, a miss is let in.
+pub fn serve(rt: &impl Wait, lru: &Lru<u64, 16>, key: u64, bytes: usize) -> bool {
+    lru.promote(rt, key) || lru.admit(rt, key, key, bytes).is_ok()
+}
+
+/// The thread that evicts: what has to leave, as data and bytes.
+pub fn make_room<R: Rng>(
+    rt: &impl Wait,
+    alloc: Global,
+    rng: &mut R,
+    lru: &Lru<u64, 16>,
+) -> Vec<(u64, usize)> {
+    match lru.evict_to_limit(rt, alloc, rng) {
+        Ok(pairs) => pairs,
+        Err(stopped) => stopped.evicted, // no memory for more of them
+    }
+}
+
+/// As `serve`, with a receipt for each call in the thread's own seat.
+pub fn serve_on_record<B: Registry>(
+    rt: &impl Wait,
+    lru: &RecordedLru<u64, B, 16>,
+    seat: &mut Seat<B>,
+    key: u64,
+    bytes: usize,
+) -> Result<bool, AllocError> {
+    Ok(lru.promote(rt, seat, key)? || lru.admit(rt, seat, key, key, bytes).is_ok())
+}
