@@ -1,0 +1,55 @@
+-- What a cache under a limit makes of a trace of requests: which objects it keeps, and the tally.
+use Rattle.std.specs.Prelude.{ℕ, ◌+◌, ◌-◌, ◌%◌, ◌^◌, max, List, [], ◌∷◌, length, nat_le, nat_lt, Bool, if◌then◌else◌}
+use Rattle.lru_shard.specs.Row.{Row, row, is_held, without, with_first}
+use Rattle.lru_traces.specs.declared.player.Request.{Request}
+use Rattle.lru_traces.specs.declared.player.Tally.{Tally}
+
+-- objects have no data here
+abbrev pub Rows : Type 0
+Rows = List (Row (Unit {0}))
+
+-- what an object of a request weighs
+abbrev pub load : Request → ℕ
+load q = max q.size 1
+
+-- the longest front of a list of rows that weighs no more than the limit
+abbrev pub front : ℕ → Rows → Rows
+front limit [] = []
+front limit (r ∷ rest) = if nat_le r.weight limit then r ∷ front (limit - r.weight) rest else []
+
+-- the rows once the object is let in, most recent first
+abbrev pub let_in : Rows → Request → Rows
+let_in rows q = with_first rows (row q.key tt (load q))
+
+-- after a request the cache keeps its object and as many of those used before as fit. An object that never fits goes
+abbrev pub kept_after : ℕ → Rows → Request → Rows
+kept_after limit rows q = if nat_lt limit (load q) then without rows q.key else front limit (let_in rows q)
+
+-- how many it evicts
+abbrev pub evicted_by : ℕ → Rows → Request → ℕ
+evicted_by limit rows q = if nat_lt limit (load q) then 0 else length (let_in rows q) - length (front limit (let_in rows q))
+
+abbrev pub no_tally : Tally
+no_tally = record { requests = 0; hits = 0; bytes = 0; hit_bytes = 0; evictions = 0 }
+
+-- the tally with one request more, that found its object or did not
+abbrev pub counted : Tally → Bool → ℕ → ℕ → Tally
+counted t hit size gone = record {
+  requests = (t.requests + 1) % 2 ^ 64;
+  hits = (t.hits + (if hit then 1 else 0)) % 2 ^ 64;
+  bytes = (t.bytes + size) % 2 ^ 64;
+  hit_bytes = (t.hit_bytes + (if hit then size else 0)) % 2 ^ 64;
+  evictions = (t.evictions + gone) % 2 ^ 64;
+}
+
+abbrev pub tally_after : ℕ → Rows → Request → Tally → Tally
+tally_after limit rows q t = counted t (is_held rows q.key) q.size (evicted_by limit rows q)
+
+-- the tally of a trace, from these rows and this tally on
+abbrev pub played_on : ℕ → Rows → Tally → List Request → Tally
+played_on limit rows t [] = t
+played_on limit rows t (q ∷ qs) = played_on limit (kept_after limit rows q) (tally_after limit rows q t) qs
+
+-- the tally of a trace by a cache that is empty at first
+abbrev pub played : ℕ → List Request → Tally
+played limit qs = played_on limit [] no_tally qs

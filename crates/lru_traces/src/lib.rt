@@ -1,0 +1,4 @@
+//! Traces of requests, and what caches under limits make of them.
+#![tactic(auto)]
+
+pub mod player;
