@@ -2,3 +2,6 @@
 #![tactic(auto)]
 
 pub mod player;
+pub mod plot;
+pub mod requests;
+pub mod table;
