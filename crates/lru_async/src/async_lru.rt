@@ -5,9 +5,8 @@ ghost use Rattle.lru_actors.specs.Keys.{hash_of};
 ghost use Rattle.lru_async.specs.Refusals.{held_in};
 
 use crate::builder::AsyncLruBuilder;
-use crate::receiver::EvictionReceiver;
-use crate::refusals::{BuildError, SendRefused};
-use crate::threads::{start_actor, start_callback_worker, start_eviction_worker};
+use crate::launching::cell_and_clone;
+use crate::refusals::SendRefused;
 use log::{Log, error};
 use lru_actors::effect::Reply;
 use lru_actors::key::hash_key;
@@ -15,15 +14,12 @@ use lru_actors::message::LruMsg;
 use lru_ledgers::{PutSeat, TakeSeat};
 use lru_letters::{Letter, ReplyCell};
 use lru_mailbox::MailError;
-use lru_world::actor::Actor;
-use lru_world::callback::{AsyncEvictionCallback, Gate, NoGate};
-use lru_world::outlet::Outlet;
-use lru_world::world::{Limits, World};
-use std::alloc::{AllocError, Global};
+use lru_world::callback::NoGate;
+use lru_world::world::World;
+use std::alloc::Global;
 use std::hash::Hash;
 use std::sync::atomic::Ordering;
 use std::sync::{Arc, Wait};
-use std::thread::Threads;
 
 /// The rows of one shard, as `save` hands them out.
 #[derive(Debug, Drop)]
@@ -40,88 +36,14 @@ pub struct ShardData<K> {
 /// One that is dropped without `close` leaves its threads waiting.
 #[derive(Drop)]
 pub struct AsyncLru<K: Drop, const N: usize> {
-    world: Arc<World<K>, Global>,
-    alloc: Global,
+    pub(crate) world: Arc<World<K>, Global>,
+    pub(crate) alloc: Global,
     // each thread's cell, which it fills as its last step
-    actors: Vec<Arc<ReplyCell<Option<PutSeat>>, Global>>,
-    eviction_workers: Vec<Arc<ReplyCell<()>, Global>>,
-    callback_workers: Vec<Arc<ReplyCell<Option<TakeSeat>>, Global>>,
+    pub(crate) actors: Vec<Arc<ReplyCell<Option<PutSeat>>, Global>>,
+    pub(crate) eviction_workers: Vec<Arc<ReplyCell<()>, Global>>,
+    pub(crate) callback_workers: Vec<Arc<ReplyCell<Option<TakeSeat>>, Global>>,
     ghost some: { 0 < N },
     ghost shards: { vec_len (arc_value world).shards ≡ N },
-}
-
-// A cell for two.
-fn cell_and_clone<T: Drop>(
-    alloc: Global,
-) -> Result<(Arc<ReplyCell<T>, Global>, Arc<ReplyCell<T>, Global>), AllocError> {
-    let Ok(cell) = Arc::new(alloc, ReplyCell::new()) else {
-        return Err(AllocError);
-    };
-    let clone = Arc::try_clone(&cell)?;
-    Ok((cell, clone))
-}
-
-// Starts the threads of a builder. Its type parameters stand in the order of the builder's.
-pub(crate) fn launch<
-    K: Hash + Eq + Clone + Drop + Send + Sync + 'static,
-    C: AsyncEvictionCallback<K> + Drop + 'static,
-    const N: usize,
-    G: Gate + Drop + 'static,
-    R: Threads + Wait + Copy + Send + 'static,
->(
-    rt: R,
-    alloc: Global,
-    builder: AsyncLruBuilder<K, C, N, G>,
-    outlet: Outlet<K>,
-    puts: Vec<PutSeat>,
-    takes: Vec<TakeSeat>,
-) -> Result<AsyncLru<K, N>, BuildError>
-    requires some { 0 < N }
-    requires ready { C.ready (arc_value builder.callback) }
-{
-    let settings = builder.settings;
-    let limits = Limits {
-        weight_limit: settings.weight_limit,
-        len_watermark: settings.len_watermark,
-    };
-    let world = World::new(alloc, N, settings.capacity, limits, outlet)?;
-    let Ok(world) = Arc::new(alloc, world) else {
-        return Err(BuildError::Memory);
-    };
-    let mut lru: AsyncLru<K, N> = AsyncLru {
-        world,
-        alloc,
-        actors: Vec::with_capacity(alloc, N)?,
-        eviction_workers: Vec::with_capacity(alloc, settings.num_eviction_workers)?,
-        callback_workers: Vec::with_capacity(alloc, settings.num_callback_workers)?,
-    };
-    if let Err(refused) = start::<K, C, N, G, R>(rt, &mut lru, &builder, puts, takes) {
-        lru.close(&rt);
-        return Err(refused);
-    }
-    Ok(lru)
-}
-
-// Starts all threads of an order. Its type parameters stand in the order of the builder's.
-fn start<
-    K: Hash + Eq + Clone + Drop + Send + Sync + 'static,
-    C: AsyncEvictionCallback<K> + Drop + 'static,
-    const N: usize,
-    G: Gate + Drop + 'static,
-    R: Threads + Wait + Copy + Send + 'static,
->(
-    rt: R,
-    lru: &mut AsyncLru<K, N>,
-    builder: &AsyncLruBuilder<K, C, N, G>,
-    puts: Vec<PutSeat>,
-    takes: Vec<TakeSeat>,
-) -> Result<(), BuildError>
-    requires { C.ready (arc_value builder.now.callback) }
-{
-    let settings = builder.settings;
-    lru.start_actors(rt, settings.capacity, &builder.gate, puts)?;
-    lru.start_eviction_workers(rt, settings.num_eviction_workers, settings.seed)?;
-    lru.start_callback_workers(rt, &builder.callback, settings.num_callback_workers, takes)
 }
 
 impl<K: Hash + Eq + Clone + Drop + Send + Sync + 'static, const N: usize> AsyncLru<K, N> {
@@ -148,84 +70,6 @@ impl<K: Hash + Eq + Clone + Drop + Send + Sync + 'static, const N: usize> AsyncL
         ensures limit { result.settings.weight_limit ≡ weight_limit }
     {
         AsyncLruBuilder::new(alloc, weight_limit, callback, Some(gate))
-    }
-
-    fn start_actors<G: Gate + Drop + 'static, R: Threads + Wait + Copy + Send + 'static>(
-        &mut self,
-        rt: R,
-        capacity: usize,
-        gate: &Option<Arc<G, Global>>,
-        puts: Vec<PutSeat>,
-    ) -> Result<(), BuildError> {
-        let mut puts = puts;
-        puts.reverse();
-        for shard in 0..N {
-            self.start_actor(rt, shard, capacity, gate, puts.pop())?;
-        }
-        Ok(())
-    }
-
-    fn start_actor<G: Gate + Drop + 'static, R: Threads + Wait + Copy + Send + 'static>(
-        &mut self,
-        rt: R,
-        shard: usize,
-        capacity: usize,
-        gate: &Option<Arc<G, Global>>,
-        seat: Option<PutSeat>,
-    ) -> Result<(), BuildError>
-        requires { shard < N }
-    {
-        self.actors.reserve(1)?;
-        let actor = Actor::new(self.alloc, shard, capacity, usize::MAX / N, seat)?;
-        let gate = match gate {
-            Some(gate) => Some(Arc::try_clone(gate)?),
-            None => None,
-        };
-        let (ended, theirs) = cell_and_clone(self.alloc)?;
-        start_actor(rt, Arc::try_clone(&self.world)?, gate, actor, theirs)?;
-        self.actors.push_reserved(ended);
-        Ok(())
-    }
-
-    fn start_eviction_workers<R: Threads + Wait + Copy + Send + 'static>(
-        &mut self,
-        rt: R,
-        count: usize,
-        seed: u64,
-    ) -> Result<(), BuildError> {
-        for number in 0..count {
-            self.eviction_workers.reserve(1)?;
-            let seed = seed.wrapping_add(number as u64);
-            let (ended, theirs) = cell_and_clone(self.alloc)?;
-            start_eviction_worker(rt, Arc::try_clone(&self.world)?, seed, theirs)?;
-            self.eviction_workers.push_reserved(ended);
-        }
-        Ok(())
-    }
-
-    fn start_callback_workers<
-        C: AsyncEvictionCallback<K> + Drop + 'static,
-        R: Threads + Wait + Copy + Send + 'static,
-    >(
-        &mut self,
-        rt: R,
-        callback: &Arc<C, Global>,
-        count: usize,
-        takes: Vec<TakeSeat>,
-    ) -> Result<(), BuildError>
-        requires { C.ready (arc_value callback.now) }
-    {
-        let mut takes = takes;
-        takes.reverse();
-        for _ in 0..count {
-            self.callback_workers.reserve(1)?;
-            let world = Arc::try_clone(&self.world)?;
-            let callback = Arc::try_clone(callback)?;
-            let (ended, theirs) = cell_and_clone(self.alloc)?;
-            start_callback_worker(rt, world, callback, takes.pop(), theirs)?;
-            self.callback_workers.push_reserved(ended);
-        }
-        Ok(())
     }
 
     fn shard_of(&self, hash: u64) -> usize
@@ -470,6 +314,8 @@ impl<K: Hash + Eq + Clone + Drop + Send + Sync + 'static, const N: usize> AsyncL
 }
 
 impl<K: Drop, const N: usize> AsyncLru<K, N> {
+    ghost use Rattle.lru_async.specs.Orders.{limits_of};
+
     /// Wakes the eviction workers, which ask for evictions while a limit is passed.
     pub fn trigger_eviction(&self, rt: &impl Wait) {
         self.world.trigger.raise(rt);
@@ -510,21 +356,6 @@ impl<K: Drop, const N: usize> AsyncLru<K, N> {
         for worker in callback_workers {
             if let Some(Some(seat)) = worker.take(rt) {
                 drop(takes.push(seat));
-            }
-        }
-    }
-
-    // With a receiver of its evicted pairs.
-    pub(crate) fn with_receiver(
-        self,
-        rt: &impl Wait,
-        alone: bool,
-    ) -> Result<(Self, EvictionReceiver<K>), BuildError> {
-        match Arc::try_clone(&self.world) {
-            Ok(world) => Ok((self, EvictionReceiver::new(world, alone))),
-            Err(_) => {
-                self.close(rt);
-                Err(BuildError::Memory)
             }
         }
     }
@@ -581,7 +412,9 @@ impl<K: Drop, const N: usize> AsyncLru<K, N> {
     }
 
     /// The most that all rows may weigh before rows are evicted.
-    pub fn weight_limit(&self) -> usize {
+    pub fn weight_limit(&self) -> usize
+        ensures { result ≡ (limits_of self.now).weight_limit }
+    {
         self.world.limits.weight_limit
     }
 

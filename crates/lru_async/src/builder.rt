@@ -1,9 +1,11 @@
 //! How an order served by actors is made.
-ghost use Rattle.std.specs.Prelude.{◌≡◌, ◌<◌, vec_len, Err, Some};
+ghost use Rattle.std.specs.Prelude.{◌≡◌, ◌<◌, Err, Some, IfOk};
 ghost use Rattle.std.specs.Arc.{arc_value};
+ghost use Rattle.lru_async.specs.Orders.{limits_of, limits_told, order_of};
 ghost use Rattle.lru_async.specs.declared.refusals.BuildError.TheVariants.{NoCallbackWorkers};
 
-use crate::async_lru::{AsyncLru, launch};
+use crate::async_lru::AsyncLru;
+use crate::launching::launch;
 use crate::ledger_lru::LedgerLru;
 use crate::receiver::EvictionReceiver;
 use crate::refusals::BuildError;
@@ -154,7 +156,8 @@ impl<
     ) -> Result<AsyncLru<K, N>, BuildError>
         requires some { 0 < N }
         requires ready { C.ready (arc_value self.callback) }
-        ensures { self.settings.num_callback_workers ≡ 0 → result ≡ Err NoCallbackWorkers }
+        ensures refused { self.settings.num_callback_workers ≡ 0 → result ≡ Err NoCallbackWorkers }
+        ensures limits { IfOk result (λ lru. limits_of lru ≡ limits_told self.settings) }
     {
         if self.settings.num_callback_workers == 0 {
             return Err(BuildError::NoCallbackWorkers);
@@ -173,6 +176,7 @@ impl<
     ) -> Result<(AsyncLru<K, N>, EvictionReceiver<K>), BuildError>
         requires some { 0 < N }
         requires ready { C.ready (arc_value self.callback) }
+        ensures { IfOk result (λ made. limits_of made.0 ≡ limits_told self.settings) }
     {
         let alloc = self.alloc;
         let alone = self.settings.num_callback_workers == 0;
@@ -191,6 +195,7 @@ impl<
     ) -> Result<LedgerLru<K, N>, BuildError>
         requires some { 0 < N }
         requires ready { C.ready (arc_value self.callback) }
+        ensures { IfOk result (λ ledger. limits_of (order_of ledger) ≡ limits_told self.settings) }
     {
         let alloc = self.alloc;
         let takers = self.settings.num_callback_workers;

@@ -1,6 +1,8 @@
 //! An order served by actors, whose evicted pairs are counted.
+ghost use Rattle.std.specs.Prelude.{◌≡◌};
 ghost use Rattle.lru_ledger.specs.Ledger.{slips_of};
 ghost use Rattle.lru_ledger.specs.Slips.{lists_of, IsSettled};
+ghost use Rattle.lru_async.specs.Orders.{order_of};
 
 use crate::async_lru::AsyncLru;
 use lru_ledger::Settled;
@@ -24,7 +26,9 @@ impl<K: Drop, const N: usize> LedgerLru<K, N> {
         ledger: Arc<LedgerBox<K>, Global>,
         puts: Vec<PutSeat>,
         takes: Vec<TakeSeat>,
-    ) -> Self {
+    ) -> Self
+        ensures { order_of result ≡ lru }
+    {
         LedgerLru {
             lru,
             ledger,
@@ -34,7 +38,9 @@ impl<K: Drop, const N: usize> LedgerLru<K, N> {
     }
 
     /// The order. Its `lost_pairs` answers how many pairs the box lost.
-    pub fn lru(&self) -> &AsyncLru<K, N> {
+    pub fn lru(&self) -> &AsyncLru<K, N>
+        ensures { result.now ≡ order_of self.now }
+    {
         &self.lru
     }
 

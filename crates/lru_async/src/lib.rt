@@ -4,6 +4,7 @@
 
 pub mod async_lru;
 pub mod builder;
+mod launching;
 pub mod ledger_lru;
 pub mod receiver;
 pub mod refusals;

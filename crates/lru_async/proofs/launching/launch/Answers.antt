@@ -1,5 +1,5 @@
 -- The caller's type parameters stand in the same places as those of `start`.
-use Rattle.lru_async.proofs.async_lru.launch.Goals as goal
+use Rattle.lru_async.proofs.launching.launch.Goals as goal
 
 pub start-requires-send-K : goal.start-requires-send-K
 start-requires-send-K g c κs within = c.type_bounds.send-K
