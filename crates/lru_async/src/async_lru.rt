@@ -1,5 +1,5 @@
 //! An order served by actors.
-ghost use Rattle.std.specs.Prelude.{◌≡◌, ◌%◌, ◌<◌, ◌≤◌, vec_len, IfOk, IfErr, Ok, None};
+ghost use Rattle.std.specs.Prelude.{◌≡◌, ◌%◌, ◌<◌, ◌≤◌, vec_len, IfOk, IfErr, Ok, Some, None};
 ghost use Rattle.std.specs.Arc.{arc_value};
 ghost use Rattle.lru_actors.specs.Keys.{hash_of};
 ghost use Rattle.lru_async.specs.Refusals.{held_in};
@@ -47,14 +47,17 @@ pub struct AsyncLru<K: Drop, const N: usize> {
 }
 
 impl<K: Hash + Eq + Clone + Drop + Send + Sync + 'static, const N: usize> AsyncLru<K, N> {
+    ghost use Rattle.lru_async.specs.Orders.{untold};
+
     /// A builder of an order with a limit on its weight.
     pub fn builder<C>(
         alloc: Global,
         weight_limit: usize,
         callback: Arc<C, Global>,
     ) -> AsyncLruBuilder<K, C, N, NoGate>
+        ensures settings { result.settings ≡ untold weight_limit }
         ensures callback { result.callback ≡ callback }
-        ensures limit { result.settings.weight_limit ≡ weight_limit }
+        ensures gate { result.gate ≡ None }
     {
         AsyncLruBuilder::new(alloc, weight_limit, callback, None)
     }
@@ -66,8 +69,9 @@ impl<K: Hash + Eq + Clone + Drop + Send + Sync + 'static, const N: usize> AsyncL
         callback: Arc<C, Global>,
         gate: Arc<G, Global>,
     ) -> AsyncLruBuilder<K, C, N, G>
+        ensures settings { result.settings ≡ untold weight_limit }
         ensures callback { result.callback ≡ callback }
-        ensures limit { result.settings.weight_limit ≡ weight_limit }
+        ensures gate { result.gate ≡ Some gate }
     {
         AsyncLruBuilder::new(alloc, weight_limit, callback, Some(gate))
     }
@@ -101,15 +105,18 @@ impl<K: Hash + Eq + Clone + Drop + Send + Sync + 'static, const N: usize> AsyncL
         }
     }
 
-    // Sends a message that asks, and waits for its reply.
+    // Sends a message that asks, and waits for its reply; `None` past the last shard.
     fn ask(
         &self,
         rt: &impl Wait,
         shard: usize,
         message: LruMsg<K>,
-    ) -> Result<Reply<K>, SendRefused<()>>
-        requires { shard < N }
+    ) -> Result<Option<Reply<K>>, SendRefused<()>>
+        ensures { N ≤ shard → result ≡ Ok None }
     {
+        if shard >= N {
+            return Ok(None);
+        }
         let Ok((cell, theirs)) = cell_and_clone(self.alloc) else {
             return Err(SendRefused::Memory(()));
         };
@@ -123,7 +130,7 @@ impl<K: Hash + Eq + Clone + Drop + Send + Sync + 'static, const N: usize> AsyncL
         }
         match cell.take(rt) {
             Some(Reply::Memory) => Err(SendRefused::Memory(())),
-            Some(reply) => Ok(reply),
+            Some(reply) => Ok(Some(reply)),
             None => Err(SendRefused::Closed(())),
         }
     }
@@ -239,12 +246,10 @@ impl<K: Hash + Eq + Clone + Drop + Send + Sync + 'static, const N: usize> AsyncL
     ) -> Result<Option<(K, usize)>, SendRefused<()>>
         ensures { N ≤ shard → result ≡ Ok None }
     {
-        if shard >= N {
-            return Ok(None);
-        }
         match self.ask(rt, shard, LruMsg::PeekLru)? {
-            Reply::Lru(last) => Ok(last),
-            _ => Err(SendRefused::Closed(())),
+            None => Ok(None),
+            Some(Reply::Lru(last)) => Ok(last),
+            Some(_) => Err(SendRefused::Closed(())),
         }
     }
 
@@ -256,12 +261,10 @@ impl<K: Hash + Eq + Clone + Drop + Send + Sync + 'static, const N: usize> AsyncL
     ) -> Result<Option<Vec<(K, usize)>>, SendRefused<()>>
         ensures { N ≤ shard → result ≡ Ok None }
     {
-        if shard >= N {
-            return Ok(None);
-        }
         match self.ask(rt, shard, LruMsg::Snapshot)? {
-            Reply::Rows(rows) => Ok(Some(rows)),
-            _ => Err(SendRefused::Closed(())),
+            None => Ok(None),
+            Some(Reply::Rows(rows)) => Ok(Some(rows)),
+            Some(_) => Err(SendRefused::Closed(())),
         }
     }
 
@@ -273,12 +276,10 @@ impl<K: Hash + Eq + Clone + Drop + Send + Sync + 'static, const N: usize> AsyncL
     ) -> Result<Option<usize>, SendRefused<()>>
         ensures { N ≤ shard → result ≡ Ok None }
     {
-        if shard >= N {
-            return Ok(None);
-        }
         match self.ask(rt, shard, LruMsg::QueryWeight)? {
-            Reply::Weight(weight) => Ok(Some(weight)),
-            _ => Err(SendRefused::Closed(())),
+            None => Ok(None),
+            Some(Reply::Weight(weight)) => Ok(Some(weight)),
+            Some(_) => Err(SendRefused::Closed(())),
         }
     }
 
@@ -383,7 +384,7 @@ impl<K: Drop, const N: usize> AsyncLru<K, N> {
     pub fn shards(&self) -> usize
         ensures { result ≡ N }
     {
-        N
+        self.world.shards.len()
     }
 
     /// The weight of all rows.

@@ -1,7 +1,7 @@
 //! How an order served by actors is made.
 ghost use Rattle.std.specs.Prelude.{◌≡◌, ◌<◌, Err, Some, IfOk};
 ghost use Rattle.std.specs.Arc.{arc_value};
-ghost use Rattle.lru_async.specs.Orders.{limits_of, limits_told, order_of};
+ghost use Rattle.lru_async.specs.Orders.{limits_of, limits_told, order_of, untold};
 ghost use Rattle.lru_async.specs.declared.refusals.BuildError.TheVariants.{NoCallbackWorkers};
 
 use crate::async_lru::AsyncLru;
@@ -57,7 +57,7 @@ impl<K, C, const N: usize, G> AsyncLruBuilder<K, C, N, G> {
         callback: Arc<C, Global>,
         gate: Option<Arc<G, Global>>,
     ) -> Self
-        ensures settings { result.settings ≡ record { weight_limit = weight_limit; len_watermark = Rattle.std.specs.Prelude.None; capacity = 0; num_eviction_workers = 1; num_callback_workers = 1; seed = 0 } }
+        ensures settings { result.settings ≡ untold weight_limit }
         ensures callback { result.callback ≡ callback }
         ensures gate { result.gate ≡ gate }
     {
