@@ -1,8 +1,9 @@
 //! A box that threads share.
-ghost use Rattle.std.specs.Prelude.{◌≡◌, vec_len, IfOk};
+ghost use Rattle.std.specs.Prelude.{◌≡◌, map, IfOk};
 ghost use Rattle.lru_ledger.specs.Ledger.{slips_of};
 ghost use Rattle.lru_ledger.specs.Slips.{lists_of, IsSettled};
 ghost use Rattle.lru_ledgers.specs.Putting.{HandsKeyBack};
+ghost use Rattle.lru_ledgers.specs.Seating.{numbers_below};
 
 use crate::seats::{PutSeat, TakeSeat, put_seats, take_seats};
 use lru_ledger::{Settled, Slip};
@@ -26,14 +27,14 @@ pub struct LedgerBox<K: Drop> {
 }
 
 impl<K: Drop> LedgerBox<K> {
-    /// An open box where nothing waits, and its seats.
+    /// An open box where nothing waits, and its seats, which are numbered in order.
     pub fn new(
         alloc: Global,
         putters: usize,
         takers: usize,
     ) -> Result<(Self, Vec<PutSeat>, Vec<TakeSeat>), AllocError>
-        ensures putters { IfOk result (λ made. vec_len made.1 ≡ putters) }
-        ensures takers { IfOk result (λ made. vec_len made.2 ≡ takers) }
+        ensures putters { IfOk result (λ made. map (λ seat. seat.number) made.1.items ≡ numbers_below putters) }
+        ensures takers { IfOk result (λ made. map (λ seat. seat.number) made.2.items ≡ numbers_below takers) }
     {
         let ledger = LedgerBox {
             ledger: Mutex::new(Some(TiedLedger::new(alloc, putters, takers)?)),
@@ -57,7 +58,8 @@ impl<K: Drop> LedgerBox<K> {
         key: K,
         weight: usize,
     ) -> Result<(), MailError<K>>
-        ensures { HandsKeyBack key result }
+        ensures answer { HandsKeyBack key result }
+        ensures seat { seat.new ≡ seat.old }
     {
         let answer = match &mut *self.ledger.lock(rt) {
             Some(ledger) => ledger.put(seat.number, hash, key, weight),
@@ -70,11 +72,9 @@ impl<K: Drop> LedgerBox<K> {
 
     /// Takes the first pair, with its slip among those of the seat. It waits while the box is open and empty; `None` once
     /// it is closed and empty. Where memory refuses it, the pair waits on.
-    pub fn take(
-        &self,
-        rt: &impl Wait,
-        seat: &mut TakeSeat,
-    ) -> Result<Option<(Slip, K)>, AllocError> {
+    pub fn take(&self, rt: &impl Wait, seat: &mut TakeSeat) -> Result<Option<(Slip, K)>, AllocError>
+        ensures { seat.new ≡ seat.old }
+    {
         let mut ledger = self
             .changed
             .wait_while(rt, self.ledger.lock(rt), |ledger| is_idle(ledger));

@@ -1,5 +1,6 @@
 //! Seats at a box.
-ghost use Rattle.std.specs.Prelude.{◌≡◌, vec_len, IfOk};
+ghost use Rattle.std.specs.Prelude.{◌≡◌, map, IfOk};
+ghost use Rattle.lru_ledgers.specs.Seating.{numbers_below};
 
 use std::alloc::{AllocError, Global};
 
@@ -19,7 +20,7 @@ pub struct TakeSeat {
 
 // The seats of so many putters, in order.
 pub(crate) fn put_seats(alloc: Global, count: usize) -> Result<Vec<PutSeat>, AllocError>
-    ensures { IfOk result (λ seats. vec_len seats ≡ count) }
+    ensures { IfOk result (λ seats. map (λ seat. seat.number) seats.items ≡ numbers_below count) }
 {
     let mut seats = Vec::with_capacity(alloc, count)?;
     for number in 0..count {
@@ -30,7 +31,7 @@ pub(crate) fn put_seats(alloc: Global, count: usize) -> Result<Vec<PutSeat>, All
 
 // The seats of so many takers, in order.
 pub(crate) fn take_seats(alloc: Global, count: usize) -> Result<Vec<TakeSeat>, AllocError>
-    ensures { IfOk result (λ seats. vec_len seats ≡ count) }
+    ensures { IfOk result (λ seats. map (λ seat. seat.number) seats.items ≡ numbers_below count) }
 {
     let mut seats = Vec::with_capacity(alloc, count)?;
     for number in 0..count {

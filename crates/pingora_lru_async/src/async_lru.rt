@@ -1,4 +1,5 @@
-//! Actors: what each message does to a shard, to the map of weights beside it, and to the pairs that are evicted.
+//! An order served by actors on threads; and what each message does to a shard, to the map of weights beside it, and to
+//! the pairs that are evicted.
 
 /// What a message did.
 pub use lru_actors::effect::{Effect, Reply};
@@ -12,9 +13,21 @@ pub use lru_actors::message::LruMsg;
 pub use lru_actors::process::{choose_victim, process_batch, process_msg};
 /// The shard of an actor.
 pub use lru_actors::state::ShardState;
+/// The order, and the rows of a shard that it saves.
+pub use lru_async::async_lru::{AsyncLru, ShardData};
+/// How it is made.
+pub use lru_async::builder::{AsyncLruBuilder, Settings};
+/// One whose evicted pairs are counted.
+pub use lru_async::ledger_lru::LedgerLru;
+/// A receiver of its evicted pairs.
+pub use lru_async::receiver::EvictionReceiver;
+/// Why a message was not sent, and why nothing was built.
+pub use lru_async::refusals::{BuildError, SendRefused};
 /// Where evicted pairs go.
 pub use lru_dispatch::{Dispatch, Putter};
 /// Messages on their way, with the cells for their replies.
 pub use lru_letters::{Letter, ReplyCell};
 /// The law over every schedule.
 pub use lru_schedules::schedule_law;
+/// What is called with each evicted pair, and what actors call before each message.
+pub use lru_world::callback::{AsyncEvictionCallback, Gate, NoGate};

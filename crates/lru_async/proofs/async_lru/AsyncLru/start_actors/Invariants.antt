@@ -1,0 +1,5 @@
+use Rattle.std.proofs.Common.{◌≡◌}
+use Rattle.lru_async.proofs.async_lru.AsyncLru.start_actors.Given as goal
+
+abbrev pub invariant-loop-shard : goal.invariant-loop-shard
+invariant-loop-shard g l = l.self.world ≡ l.fn.self.world

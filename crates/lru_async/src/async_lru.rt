@@ -1,0 +1,426 @@
+//! An order served by actors.
+ghost use Rattle.std.specs.Prelude.{◌≡◌, ◌%◌, ◌<◌, ◌≤◌, vec_len, IfOk, IfErr, Ok, Some, None};
+ghost use Rattle.std.specs.Arc.{arc_value};
+ghost use Rattle.lru_actors.specs.Keys.{hash_of};
+ghost use Rattle.lru_async.specs.Refusals.{held_in};
+
+use crate::builder::AsyncLruBuilder;
+use crate::launching::cell_and_clone;
+use crate::refusals::SendRefused;
+use log::{Log, error};
+use lru_actors::effect::Reply;
+use lru_actors::key::hash_key;
+use lru_actors::message::LruMsg;
+use lru_ledgers::{PutSeat, TakeSeat};
+use lru_letters::{Letter, ReplyCell};
+use lru_mailbox::MailError;
+use lru_world::callback::NoGate;
+use lru_world::world::World;
+use std::alloc::Global;
+use std::hash::Hash;
+use std::sync::atomic::Ordering;
+use std::sync::{Arc, Wait};
+
+/// The rows of one shard, as `save` hands them out.
+#[derive(Debug, Drop)]
+pub struct ShardData<K> {
+    /// The number of the shard.
+    pub shard_index: usize,
+    /// Clones of all keys with their weights, most recent first.
+    pub items: Vec<(K, usize)>,
+}
+
+/// N shards, each a list of rows of a key and a weight, most recent first, served by a thread of its own. A key's shard is
+/// its hash modulo N. Calls send messages; evicted pairs go to the callback.
+///
+/// One that is dropped without `close` leaves its threads waiting.
+#[derive(Drop)]
+pub struct AsyncLru<K: Drop, const N: usize> {
+    pub(crate) world: Arc<World<K>, Global>,
+    pub(crate) alloc: Global,
+    // each thread's cell, which it fills as its last step
+    pub(crate) actors: Vec<Arc<ReplyCell<Option<PutSeat>>, Global>>,
+    pub(crate) eviction_workers: Vec<Arc<ReplyCell<()>, Global>>,
+    pub(crate) callback_workers: Vec<Arc<ReplyCell<Option<TakeSeat>>, Global>>,
+    ghost some: { 0 < N },
+    ghost shards: { vec_len (arc_value world).shards ≡ N },
+}
+
+impl<K: Hash + Eq + Clone + Drop + Send + Sync + 'static, const N: usize> AsyncLru<K, N> {
+    ghost use Rattle.lru_async.specs.Orders.{untold};
+
+    /// A builder of an order with a limit on its weight.
+    pub fn builder<C>(
+        alloc: Global,
+        weight_limit: usize,
+        callback: Arc<C, Global>,
+    ) -> AsyncLruBuilder<K, C, N, NoGate>
+        ensures settings { result.settings ≡ untold weight_limit }
+        ensures callback { result.callback ≡ callback }
+        ensures gate { result.gate ≡ None }
+    {
+        AsyncLruBuilder::new(alloc, weight_limit, callback, None)
+    }
+
+    /// A builder of an order with a limit on its weight, whose actors pass a gate before each message.
+    pub fn builder_with_gate<C, G>(
+        alloc: Global,
+        weight_limit: usize,
+        callback: Arc<C, Global>,
+        gate: Arc<G, Global>,
+    ) -> AsyncLruBuilder<K, C, N, G>
+        ensures settings { result.settings ≡ untold weight_limit }
+        ensures callback { result.callback ≡ callback }
+        ensures gate { result.gate ≡ Some gate }
+    {
+        AsyncLruBuilder::new(alloc, weight_limit, callback, Some(gate))
+    }
+
+    fn shard_of(&self, hash: u64) -> usize
+        ensures value { result ≡ hash % N }
+        ensures below { result < N }
+    {
+        let _world = &self.world;
+        (hash % N as u64) as usize
+    }
+
+    // Sends a message to the actor of a shard. A refusal hands it back.
+    fn send(
+        &self,
+        rt: &impl Wait,
+        shard: usize,
+        message: LruMsg<K>,
+    ) -> Result<(), SendRefused<LruMsg<K>>>
+        requires { shard < N }
+        ensures { IfErr result (λ r. held_in r ≡ message) }
+    {
+        match self.world.shards[shard]
+            .mailbox
+            .push(rt, Letter::new(message))
+        {
+            Ok(()) => Ok(()),
+            Err(MailError::Memory(letter)) => Err(SendRefused::Memory(letter.message)),
+            Err(MailError::Closed(letter)) => Err(SendRefused::Closed(letter.message)),
+            Err(MailError::Waiting(_)) => unreachable!(),
+        }
+    }
+
+    // Sends a message that asks, and waits for its reply; `None` past the last shard.
+    fn ask(
+        &self,
+        rt: &impl Wait,
+        shard: usize,
+        message: LruMsg<K>,
+    ) -> Result<Option<Reply<K>>, SendRefused<()>>
+        ensures { N ≤ shard → result ≡ Ok None }
+    {
+        if shard >= N {
+            return Ok(None);
+        }
+        let Ok((cell, theirs)) = cell_and_clone(self.alloc) else {
+            return Err(SendRefused::Memory(()));
+        };
+        match self.world.shards[shard]
+            .mailbox
+            .push(rt, Letter::asking(message, theirs))
+        {
+            Ok(()) => {}
+            Err(MailError::Memory(_)) => return Err(SendRefused::Memory(())),
+            Err(_) => return Err(SendRefused::Closed(())),
+        }
+        match cell.take(rt) {
+            Some(Reply::Memory) => Err(SendRefused::Memory(())),
+            Some(reply) => Ok(Some(reply)),
+            None => Err(SendRefused::Closed(())),
+        }
+    }
+
+    /// Asks for a row first in the shard of its key, in place of the key's, and answers that shard. A weight of 0 counts as
+    /// 1. A refusal hands the key back.
+    pub fn admit(&self, rt: &impl Wait, key: K, weight: usize) -> Result<usize, SendRefused<K>>
+        ensures shard { IfOk result (λ s. s ≡ hash_of (K.hash_input key) % N) }
+        ensures held { IfErr result (λ r. held_in r ≡ key) }
+    {
+        let hash = hash_key(&key);
+        let shard = self.shard_of(hash);
+        match self.send(rt, shard, LruMsg::Admit { hash, key, weight }) {
+            Ok(()) => Ok(shard),
+            Err(SendRefused::Memory(LruMsg::Admit { key, .. })) => Err(SendRefused::Memory(key)),
+            Err(SendRefused::Closed(LruMsg::Admit { key, .. })) => Err(SendRefused::Closed(key)),
+            Err(_) => unreachable!(),
+        }
+    }
+
+    /// Asks for a row last in the shard of its key, where the key has none, and answers that shard. A refusal hands the key
+    /// back.
+    pub fn insert_tail(
+        &self,
+        rt: &impl Wait,
+        key: K,
+        weight: usize,
+    ) -> Result<usize, SendRefused<K>>
+        ensures shard { IfOk result (λ s. s ≡ hash_of (K.hash_input key) % N) }
+        ensures held { IfErr result (λ r. held_in r ≡ key) }
+    {
+        let hash = hash_key(&key);
+        let shard = self.shard_of(hash);
+        match self.send(rt, shard, LruMsg::InsertTail { hash, key, weight }) {
+            Ok(()) => Ok(shard),
+            Err(SendRefused::Memory(LruMsg::InsertTail { key, .. })) => Err(SendRefused::Memory(
+                key,
+            )),
+            Err(SendRefused::Closed(LruMsg::InsertTail { key, .. })) => Err(SendRefused::Closed(
+                key,
+            )),
+            Err(_) => unreachable!(),
+        }
+    }
+
+    /// Asks that a key's row is put first. Where the map has no such hash it answers false, and sends nothing.
+    pub fn promote(&self, rt: &impl Wait, key: &K) -> Result<bool, SendRefused<()>> {
+        let hash = hash_key(key);
+        let shard = self.shard_of(hash);
+        if self.world.shards[shard].weight_of(rt, hash).is_none() {
+            return Ok(false);
+        }
+        match self.send(rt, shard, LruMsg::Promote { hash }) {
+            Ok(()) => Ok(true),
+            Err(refused) => Err(refused.bare()),
+        }
+    }
+
+    /// Asks that a key's row is taken out.
+    pub fn remove(&self, rt: &impl Wait, key: &K) -> Result<(), SendRefused<()>> {
+        self.remove_by_hash(rt, hash_key(key))
+    }
+
+    /// Asks that the row with this hash is taken out.
+    pub fn remove_by_hash(&self, rt: &impl Wait, hash: u64) -> Result<(), SendRefused<()>> {
+        match self.send(rt, self.shard_of(hash), LruMsg::Remove { hash }) {
+            Ok(()) => Ok(()),
+            Err(refused) => Err(refused.bare()),
+        }
+    }
+
+    /// Asks that `delta` is added to a key's weight, as far as `max_weight`, and its row put first. A new row is made of a
+    /// clone of the key.
+    pub fn increment_weight(
+        &self,
+        rt: &impl Wait,
+        key: &K,
+        delta: usize,
+        max_weight: Option<usize>,
+    ) -> Result<(), SendRefused<()>> {
+        let hash = hash_key(key);
+        let Ok(key) = key.clone() else {
+            return Err(SendRefused::Memory(()));
+        };
+        let message = LruMsg::IncrementWeight {
+            hash,
+            key,
+            delta,
+            max_weight,
+        };
+        match self.send(rt, self.shard_of(hash), message) {
+            Ok(()) => Ok(()),
+            Err(refused) => Err(refused.bare()),
+        }
+    }
+
+    /// Whether the map of weights has the hash of this key.
+    pub fn peek(&self, rt: &impl Wait, key: &K) -> bool {
+        self.peek_weight(rt, key).is_some()
+    }
+
+    /// The weight that the map of weights has for the hash of this key.
+    pub fn peek_weight(&self, rt: &impl Wait, key: &K) -> Option<usize> {
+        let hash = hash_key(key);
+        self.world.shards[self.shard_of(hash)].weight_of(rt, hash)
+    }
+
+    /// A clone of the last row's key, and its weight; `None` of an empty shard, and past the last shard.
+    pub fn peek_lru(
+        &self,
+        rt: &impl Wait,
+        shard: usize,
+    ) -> Result<Option<(K, usize)>, SendRefused<()>>
+        ensures { N ≤ shard → result ≡ Ok None }
+    {
+        match self.ask(rt, shard, LruMsg::PeekLru)? {
+            None => Ok(None),
+            Some(Reply::Lru(last)) => Ok(last),
+            Some(_) => Err(SendRefused::Closed(())),
+        }
+    }
+
+    /// Clones of all keys of a shard with their weights, most recent first; `None` past the last shard.
+    pub fn snapshot_shard(
+        &self,
+        rt: &impl Wait,
+        shard: usize,
+    ) -> Result<Option<Vec<(K, usize)>>, SendRefused<()>>
+        ensures { N ≤ shard → result ≡ Ok None }
+    {
+        match self.ask(rt, shard, LruMsg::Snapshot)? {
+            None => Ok(None),
+            Some(Reply::Rows(rows)) => Ok(Some(rows)),
+            Some(_) => Err(SendRefused::Closed(())),
+        }
+    }
+
+    /// The weight of a shard, after all that this caller sent to it before; `None` past the last shard.
+    pub fn shard_weight(
+        &self,
+        rt: &impl Wait,
+        shard: usize,
+    ) -> Result<Option<usize>, SendRefused<()>>
+        ensures { N ≤ shard → result ≡ Ok None }
+    {
+        match self.ask(rt, shard, LruMsg::QueryWeight)? {
+            None => Ok(None),
+            Some(Reply::Weight(weight)) => Ok(Some(weight)),
+            Some(_) => Err(SendRefused::Closed(())),
+        }
+    }
+
+    /// Takes each shard's snapshot in turn, hands it to `write` on this thread, and answers how many were written. A shard
+    /// that gives no snapshot is not written; where `write` refuses, a line is logged.
+    pub fn save<L: Log, F: Fn(ShardData<K>) -> Result<(), String> + Drop>(
+        &self,
+        rt: &impl Wait,
+        log: &L,
+        write: F,
+    ) -> usize
+        requires { F.IsAlwaysCallable write }
+        ensures { result ≤ N }
+    {
+        let mut written = 0;
+        for shard in 0..N {
+            let Ok(Some(items)) = self.snapshot_shard(rt, shard) else {
+                continue;
+            };
+            let data = ShardData {
+                shard_index: shard,
+                items,
+            };
+            match write(data) {
+                Ok(()) => written += 1,
+                Err(refusal) => {
+                    error!(log; "AsyncLru: failed to write shard {shard}: {refusal}");
+                }
+            }
+        }
+        written
+    }
+}
+
+impl<K: Drop, const N: usize> AsyncLru<K, N> {
+    ghost use Rattle.lru_async.specs.Orders.{limits_of};
+
+    /// Wakes the eviction workers, which ask for evictions while a limit is passed.
+    pub fn trigger_eviction(&self, rt: &impl Wait) {
+        self.world.trigger.raise(rt);
+    }
+
+    /// Stops the order: no message is taken from now on, and those that wait are left behind. Who waits for a reply is told
+    /// so. An actor ends after the messages that it had taken.
+    pub fn shutdown(&self, rt: &impl Wait) {
+        self.world.shut(rt);
+    }
+
+    /// Shuts down, and waits until all threads have ended their work. Callback workers take the pairs that wait.
+    pub fn close(self, rt: &impl Wait) {
+        let mut puts = Vec::new(self.alloc);
+        let mut takes = Vec::new(self.alloc);
+        self.end(rt, &mut puts, &mut takes);
+    }
+
+    // Shuts down, waits for all threads, and gathers the seats that they give back.
+    pub(crate) fn end(self, rt: &impl Wait, puts: &mut Vec<PutSeat>, takes: &mut Vec<TakeSeat>) {
+        self.shutdown(rt);
+        let AsyncLru {
+            world,
+            alloc: _,
+            actors,
+            eviction_workers,
+            callback_workers,
+        } = self;
+        for actor in actors {
+            if let Some(Some(seat)) = actor.take(rt) {
+                drop(puts.push(seat));
+            }
+        }
+        for worker in eviction_workers {
+            let _ended = worker.take(rt);
+        }
+        world.outlet.close(rt);
+        for worker in callback_workers {
+            if let Some(Some(seat)) = worker.take(rt) {
+                drop(takes.push(seat));
+            }
+        }
+    }
+
+    /// How many evicted pairs are lost, modulo 2^64.
+    pub fn lost_pairs(&self, rt: &impl Wait) -> usize {
+        self.world.outlet.lost(rt)
+    }
+
+    /// How many rows a shard has.
+    pub fn shard_len(&self, shard: usize) -> usize
+        requires { shard < N }
+    {
+        self.world.shards[shard].len.load(Ordering::SeqCst)
+    }
+
+    /// How many messages a shard refused, modulo 2^64.
+    pub fn refused_messages(&self, shard: usize) -> u64
+        requires { shard < N }
+    {
+        self.world.shards[shard].refused.load(Ordering::SeqCst)
+    }
+
+    /// How many shards there are.
+    pub fn shards(&self) -> usize
+        ensures { result ≡ N }
+    {
+        self.world.shards.len()
+    }
+
+    /// The weight of all rows.
+    pub fn weight(&self) -> usize {
+        self.world.weight()
+    }
+
+    /// How many rows there are.
+    pub fn len(&self) -> usize {
+        self.world.len()
+    }
+
+    /// Whether there are no rows.
+    pub fn is_empty(&self) -> bool {
+        self.len() == 0
+    }
+
+    /// The weight of all rows that were evicted, modulo 2^64.
+    pub fn evicted_weight(&self) -> usize {
+        self.world.evicted_weight()
+    }
+
+    /// How many rows were evicted, modulo 2^64.
+    pub fn evicted_len(&self) -> usize {
+        self.world.evicted_len()
+    }
+
+    /// The most that all rows may weigh before rows are evicted.
+    pub fn weight_limit(&self) -> usize
+        ensures { result ≡ (limits_of self.now).weight_limit }
+    {
+        self.world.limits.weight_limit
+    }
+
+    /// Whether a limit is passed.
+    pub fn over_limit(&self) -> bool {
+        self.world.over_limit()
+    }
+}

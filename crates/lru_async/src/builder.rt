@@ -1,0 +1,212 @@
+//! How an order served by actors is made.
+ghost use Rattle.std.specs.Prelude.{◌≡◌, ◌<◌, Err, Some, IfOk};
+ghost use Rattle.std.specs.Arc.{arc_value};
+ghost use Rattle.lru_async.specs.Orders.{limits_of, limits_told, order_of, untold};
+ghost use Rattle.lru_async.specs.declared.refusals.BuildError.TheVariants.{NoCallbackWorkers};
+
+use crate::async_lru::AsyncLru;
+use crate::launching::launch;
+use crate::ledger_lru::LedgerLru;
+use crate::receiver::EvictionReceiver;
+use crate::refusals::BuildError;
+use lru_ledgers::{LedgerBox, PutSeat, TakeSeat};
+use lru_mailboxes::Mailbox;
+use lru_world::callback::{AsyncEvictionCallback, Gate, NoGate};
+use lru_world::outlet::Outlet;
+use std::alloc::Global;
+use std::hash::Hash;
+use std::marker::PhantomData;
+use std::sync::{Arc, Wait};
+use std::thread::Threads;
+
+/// What a builder was told.
+#[derive(Clone, Copy, Debug, PartialEq, Eq)]
+pub struct Settings {
+    /// The most that all rows may weigh before rows are evicted.
+    pub weight_limit: usize,
+    /// The most rows that there may be before rows are evicted, if that is limited.
+    pub len_watermark: Option<usize>,
+    /// For how many rows each shard has room from the start.
+    pub capacity: usize,
+    /// How many threads ask for evictions.
+    pub num_eviction_workers: usize,
+    /// How many threads call the callback.
+    pub num_callback_workers: usize,
+    /// From this the eviction workers' draws are made: worker i, from 0 on, draws from a generator of `seed` plus i.
+    pub seed: u64,
+}
+
+/// Makes an [`AsyncLru`]. Each setter answers the builder with one setting changed.
+#[derive(Drop)]
+pub struct AsyncLruBuilder<K, C, const N: usize, G = NoGate> {
+    /// What it was told.
+    pub settings: Settings,
+    /// What is called with each evicted pair.
+    pub callback: Arc<C, Global>,
+    /// What an actor passes before each message, if there is one.
+    pub gate: Option<Arc<G, Global>>,
+    alloc: Global,
+    keys: PhantomData<K>,
+}
+
+impl<K, C, const N: usize, G> AsyncLruBuilder<K, C, N, G> {
+    // A builder with the settings that stand where none is changed.
+    pub(crate) fn new(
+        alloc: Global,
+        weight_limit: usize,
+        callback: Arc<C, Global>,
+        gate: Option<Arc<G, Global>>,
+    ) -> Self
+        ensures settings { result.settings ≡ untold weight_limit }
+        ensures callback { result.callback ≡ callback }
+        ensures gate { result.gate ≡ gate }
+    {
+        AsyncLruBuilder {
+            settings: Settings {
+                weight_limit,
+                len_watermark: None,
+                capacity: 0,
+                num_eviction_workers: 1,
+                num_callback_workers: 1,
+                seed: 0,
+            },
+            callback,
+            gate,
+            alloc,
+            keys: PhantomData,
+        }
+    }
+
+    /// For how many rows each shard has room from the start; 0 where it is not told.
+    pub fn capacity(self, capacity: usize) -> Self
+        ensures settings { result.settings ≡ record self.settings { capacity = capacity } }
+        ensures callback { result.callback ≡ self.callback }
+        ensures gate { result.gate ≡ self.gate }
+    {
+        let settings = Settings {
+            capacity,
+            ..self.settings
+        };
+        AsyncLruBuilder { settings, ..self }
+    }
+
+    /// The most rows that there may be before rows are evicted; no limit where it is not told.
+    pub fn len_watermark(self, watermark: usize) -> Self
+        ensures settings { result.settings ≡ record self.settings { len_watermark = Some watermark } }
+        ensures callback { result.callback ≡ self.callback }
+        ensures gate { result.gate ≡ self.gate }
+    {
+        let settings = Settings {
+            len_watermark: Some(watermark),
+            ..self.settings
+        };
+        AsyncLruBuilder { settings, ..self }
+    }
+
+    /// How many threads ask for evictions; 1 where it is not told. With 0 nothing is evicted.
+    pub fn num_eviction_workers(self, workers: usize) -> Self
+        ensures settings { result.settings ≡ record self.settings { num_eviction_workers = workers } }
+        ensures callback { result.callback ≡ self.callback }
+        ensures gate { result.gate ≡ self.gate }
+    {
+        let settings = Settings {
+            num_eviction_workers: workers,
+            ..self.settings
+        };
+        AsyncLruBuilder { settings, ..self }
+    }
+
+    /// How many threads call the callback; 1 where it is not told.
+    pub fn num_callback_workers(self, workers: usize) -> Self
+        ensures settings { result.settings ≡ record self.settings { num_callback_workers = workers } }
+        ensures callback { result.callback ≡ self.callback }
+        ensures gate { result.gate ≡ self.gate }
+    {
+        let settings = Settings {
+            num_callback_workers: workers,
+            ..self.settings
+        };
+        AsyncLruBuilder { settings, ..self }
+    }
+
+    /// From this the eviction workers' draws are made; 0 where it is not told.
+    pub fn seed(self, seed: u64) -> Self
+        ensures settings { result.settings ≡ record self.settings { seed = seed } }
+        ensures callback { result.callback ≡ self.callback }
+        ensures gate { result.gate ≡ self.gate }
+    {
+        let settings = Settings {
+            seed,
+            ..self.settings
+        };
+        AsyncLruBuilder { settings, ..self }
+    }
+}
+
+impl<
+    K: Hash + Eq + Clone + Drop + Send + Sync + 'static,
+    C: AsyncEvictionCallback<K> + Drop + 'static,
+    const N: usize,
+    G: Gate + Drop + 'static,
+> AsyncLruBuilder<K, C, N, G> {
+    /// Starts the threads. Without callback workers it is refused.
+    pub fn build<R: Threads + Wait + Copy + Send + 'static>(
+        self,
+        rt: R,
+    ) -> Result<AsyncLru<K, N>, BuildError>
+        requires some { 0 < N }
+        requires ready { C.ready (arc_value self.callback) }
+        ensures refused { self.settings.num_callback_workers ≡ 0 → result ≡ Err NoCallbackWorkers }
+        ensures limits { IfOk result (λ lru. limits_of lru ≡ limits_told self.settings) }
+    {
+        if self.settings.num_callback_workers == 0 {
+            return Err(BuildError::NoCallbackWorkers);
+        }
+        let alloc = self.alloc;
+        let puts: Vec<PutSeat> = Vec::new(alloc);
+        let takes: Vec<TakeSeat> = Vec::new(alloc);
+        let outlet = Outlet::Mailbox(Mailbox::new(alloc));
+        launch::<K, C, N, G, R>(rt, alloc, self, outlet, puts, takes)
+    }
+
+    /// Starts the threads, and gives a receiver of evicted pairs. Callback workers, if there are any, go on beside it.
+    pub fn build_with_eviction_receiver<R: Threads + Wait + Copy + Send + 'static>(
+        self,
+        rt: R,
+    ) -> Result<(AsyncLru<K, N>, EvictionReceiver<K>), BuildError>
+        requires some { 0 < N }
+        requires ready { C.ready (arc_value self.callback) }
+        ensures { IfOk result (λ made. limits_of made.0 ≡ limits_told self.settings) }
+    {
+        let alloc = self.alloc;
+        let alone = self.settings.num_callback_workers == 0;
+        let puts: Vec<PutSeat> = Vec::new(alloc);
+        let takes: Vec<TakeSeat> = Vec::new(alloc);
+        let outlet = Outlet::Mailbox(Mailbox::new(alloc));
+        let lru = launch::<K, C, N, G, R>(rt, alloc, self, outlet, puts, takes)?;
+        lru.with_receiver(&rt, alone)
+    }
+
+    /// Starts the threads round a box that counts every evicted pair. Without callback workers the pairs are left in the
+    /// box.
+    pub fn build_with_ledger<R: Threads + Wait + Copy + Send + 'static>(
+        self,
+        rt: R,
+    ) -> Result<LedgerLru<K, N>, BuildError>
+        requires some { 0 < N }
+        requires ready { C.ready (arc_value self.callback) }
+        ensures { IfOk result (λ ledger. limits_of (order_of ledger) ≡ limits_told self.settings) }
+    {
+        let alloc = self.alloc;
+        let takers = self.settings.num_callback_workers;
+        let (ledger, puts, takes) = LedgerBox::new(alloc, N, takers)?;
+        let Ok(ledger) = Arc::new(alloc, ledger) else {
+            return Err(BuildError::Memory);
+        };
+        let room_for_puts = Vec::with_capacity(alloc, N)?;
+        let room_for_takes = Vec::with_capacity(alloc, takers)?;
+        let outlet = Outlet::Ledger(Arc::try_clone(&ledger)?);
+        let lru = launch::<K, C, N, G, R>(rt, alloc, self, outlet, puts, takes)?;
+        Ok(LedgerLru::new(lru, ledger, room_for_puts, room_for_takes))
+    }
+}

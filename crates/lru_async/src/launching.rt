@@ -1,0 +1,201 @@
+//! How the threads of an order are started.
+ghost use Rattle.std.specs.Prelude.{◌≡◌, ◌<◌, IfOk};
+ghost use Rattle.std.specs.Arc.{arc_value};
+ghost use Rattle.lru_async.specs.Orders.{limits_of, limits_told};
+
+use crate::async_lru::AsyncLru;
+use crate::builder::AsyncLruBuilder;
+use crate::receiver::EvictionReceiver;
+use crate::refusals::BuildError;
+use crate::threads::{start_actor, start_callback_worker, start_eviction_worker};
+use lru_ledgers::{PutSeat, TakeSeat};
+use lru_letters::ReplyCell;
+use lru_world::actor::Actor;
+use lru_world::callback::{AsyncEvictionCallback, Gate};
+use lru_world::outlet::Outlet;
+use lru_world::world::{Limits, World};
+use std::alloc::{AllocError, Global};
+use std::hash::Hash;
+use std::sync::{Arc, Wait};
+use std::thread::Threads;
+
+// A cell for two.
+pub(crate) fn cell_and_clone<T: Drop>(
+    alloc: Global,
+) -> Result<(Arc<ReplyCell<T>, Global>, Arc<ReplyCell<T>, Global>), AllocError> {
+    let Ok(cell) = Arc::new(alloc, ReplyCell::new()) else {
+        return Err(AllocError);
+    };
+    let clone = Arc::try_clone(&cell)?;
+    Ok((cell, clone))
+}
+
+// Starts the threads of a builder. Its type parameters stand in the order of the builder's.
+pub(crate) fn launch<
+    K: Hash + Eq + Clone + Drop + Send + Sync + 'static,
+    C: AsyncEvictionCallback<K> + Drop + 'static,
+    const N: usize,
+    G: Gate + Drop + 'static,
+    R: Threads + Wait + Copy + Send + 'static,
+>(
+    rt: R,
+    alloc: Global,
+    builder: AsyncLruBuilder<K, C, N, G>,
+    outlet: Outlet<K>,
+    puts: Vec<PutSeat>,
+    takes: Vec<TakeSeat>,
+) -> Result<AsyncLru<K, N>, BuildError>
+    requires some { 0 < N }
+    requires ready { C.ready (arc_value builder.callback) }
+    ensures { IfOk result (λ lru. limits_of lru ≡ limits_told builder.settings) }
+{
+    let settings = builder.settings;
+    let limits = Limits {
+        weight_limit: settings.weight_limit,
+        len_watermark: settings.len_watermark,
+    };
+    let world = World::new(alloc, N, settings.capacity, limits, outlet)?;
+    let Ok(world) = Arc::new(alloc, world) else {
+        return Err(BuildError::Memory);
+    };
+    let mut lru: AsyncLru<K, N> = AsyncLru {
+        world,
+        alloc,
+        actors: Vec::with_capacity(alloc, N)?,
+        eviction_workers: Vec::with_capacity(alloc, settings.num_eviction_workers)?,
+        callback_workers: Vec::with_capacity(alloc, settings.num_callback_workers)?,
+    };
+    if let Err(refused) = start::<K, C, N, G, R>(rt, &mut lru, &builder, puts, takes) {
+        lru.close(&rt);
+        return Err(refused);
+    }
+    Ok(lru)
+}
+
+// Starts all threads of an order. Its type parameters stand in the order of the builder's.
+fn start<
+    K: Hash + Eq + Clone + Drop + Send + Sync + 'static,
+    C: AsyncEvictionCallback<K> + Drop + 'static,
+    const N: usize,
+    G: Gate + Drop + 'static,
+    R: Threads + Wait + Copy + Send + 'static,
+>(
+    rt: R,
+    lru: &mut AsyncLru<K, N>,
+    builder: &AsyncLruBuilder<K, C, N, G>,
+    puts: Vec<PutSeat>,
+    takes: Vec<TakeSeat>,
+) -> Result<(), BuildError>
+    requires { C.ready (arc_value builder.now.callback) }
+    ensures { lru.new.world ≡ lru.old.world }
+{
+    let settings = builder.settings;
+    lru.start_actors(rt, settings.capacity, &builder.gate, puts)?;
+    lru.start_eviction_workers(rt, settings.num_eviction_workers, settings.seed)?;
+    lru.start_callback_workers(rt, &builder.callback, settings.num_callback_workers, takes)
+}
+
+impl<K: Hash + Eq + Clone + Drop + Send + Sync + 'static, const N: usize> AsyncLru<K, N> {
+    fn start_actors<G: Gate + Drop + 'static, R: Threads + Wait + Copy + Send + 'static>(
+        &mut self,
+        rt: R,
+        capacity: usize,
+        gate: &Option<Arc<G, Global>>,
+        puts: Vec<PutSeat>,
+    ) -> Result<(), BuildError>
+        ensures { self.new.world ≡ self.old.world }
+    {
+        let mut puts = puts;
+        puts.reverse();
+        for shard in 0..N {
+            self.start_actor(rt, shard, capacity, gate, puts.pop())?;
+        }
+        Ok(())
+    }
+
+    fn start_actor<G: Gate + Drop + 'static, R: Threads + Wait + Copy + Send + 'static>(
+        &mut self,
+        rt: R,
+        shard: usize,
+        capacity: usize,
+        gate: &Option<Arc<G, Global>>,
+        seat: Option<PutSeat>,
+    ) -> Result<(), BuildError>
+        requires { shard < N }
+        ensures { self.new.world ≡ self.old.world }
+    {
+        self.actors.reserve(1)?;
+        let actor = Actor::new(self.alloc, shard, capacity, usize::MAX / N, seat)?;
+        let gate = match gate {
+            Some(gate) => Some(Arc::try_clone(gate)?),
+            None => None,
+        };
+        let (ended, theirs) = cell_and_clone(self.alloc)?;
+        start_actor(rt, Arc::try_clone(&self.world)?, gate, actor, theirs)?;
+        self.actors.push_reserved(ended);
+        Ok(())
+    }
+
+    fn start_eviction_workers<R: Threads + Wait + Copy + Send + 'static>(
+        &mut self,
+        rt: R,
+        count: usize,
+        seed: u64,
+    ) -> Result<(), BuildError>
+        ensures { self.new.world ≡ self.old.world }
+    {
+        for number in 0..count {
+            self.eviction_workers.reserve(1)?;
+            let seed = seed.wrapping_add(number as u64);
+            let (ended, theirs) = cell_and_clone(self.alloc)?;
+            start_eviction_worker(rt, Arc::try_clone(&self.world)?, seed, theirs)?;
+            self.eviction_workers.push_reserved(ended);
+        }
+        Ok(())
+    }
+
+    fn start_callback_workers<
+        C: AsyncEvictionCallback<K> + Drop + 'static,
+        R: Threads + Wait + Copy + Send + 'static,
+    >(
+        &mut self,
+        rt: R,
+        callback: &Arc<C, Global>,
+        count: usize,
+        takes: Vec<TakeSeat>,
+    ) -> Result<(), BuildError>
+        requires { C.ready (arc_value callback.now) }
+        ensures { self.new.world ≡ self.old.world }
+    {
+        let mut takes = takes;
+        takes.reverse();
+        for _ in 0..count {
+            self.callback_workers.reserve(1)?;
+            let world = Arc::try_clone(&self.world)?;
+            let callback = Arc::try_clone(callback)?;
+            let (ended, theirs) = cell_and_clone(self.alloc)?;
+            start_callback_worker(rt, world, callback, takes.pop(), theirs)?;
+            self.callback_workers.push_reserved(ended);
+        }
+        Ok(())
+    }
+}
+
+impl<K: Drop, const N: usize> AsyncLru<K, N> {
+    // With a receiver of its evicted pairs.
+    pub(crate) fn with_receiver(
+        self,
+        rt: &impl Wait,
+        alone: bool,
+    ) -> Result<(Self, EvictionReceiver<K>), BuildError>
+        ensures { IfOk result (λ made. limits_of made.0 ≡ limits_of self) }
+    {
+        match Arc::try_clone(&self.world) {
+            Ok(world) => Ok((self, EvictionReceiver::new(world, alone))),
+            Err(_) => {
+                self.close(rt);
+                Err(BuildError::Memory)
+            }
+        }
+    }
+}

@@ -1,0 +1,11 @@
+//! A least-recently-used order served by actors: one thread for each shard, threads that ask for evictions, and threads
+//! that call back for each evicted pair.
+#![tactic(auto)]
+
+pub mod async_lru;
+pub mod builder;
+mod launching;
+pub mod ledger_lru;
+pub mod receiver;
+pub mod refusals;
+mod threads;

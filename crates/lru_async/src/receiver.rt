@@ -1,0 +1,34 @@
+//! A receiver of evicted pairs.
+use lru_world::outlet::Taken;
+use lru_world::world::World;
+use std::alloc::Global;
+use std::sync::{Arc, Wait};
+
+/// Receives evicted pairs. A receiver that is dropped without `leave` lets them wait on.
+#[derive(Drop)]
+pub struct EvictionReceiver<K: Drop> {
+    world: Arc<World<K>, Global>,
+    // nobody else takes pairs
+    alone: bool,
+}
+
+impl<K: Drop> EvictionReceiver<K> {
+    pub(crate) fn new(world: Arc<World<K>, Global>, alone: bool) -> Self {
+        EvictionReceiver { world, alone }
+    }
+
+    /// The next evicted pair. It waits for one; `None` once the order is closed and no pair waits.
+    pub fn recv(&self, rt: &impl Wait) -> Option<(K, usize)> {
+        match self.world.outlet.take(rt, &mut None) {
+            Taken::Pair(key, weight) => Some((key, weight)),
+            _ => None,
+        }
+    }
+
+    /// Ends receiving. Without callback workers what waits is lost, and all that is evicted later; with some they go on.
+    pub fn leave(self, rt: &impl Wait) {
+        if self.alone {
+            self.world.outlet.leave(rt);
+        }
+    }
+}

@@ -1,0 +1,93 @@
+//! The threads of an order served by actors. Each lets go of all that it shares and then, as its last step, fills a cell,
+//! for which closing waits: the handle of a thread may not be shared among threads, and so an order that threads share has
+//! none.
+ghost use Rattle.std.specs.Prelude.{◌≡◌, ◌<◌, vec_len};
+ghost use Rattle.std.specs.Arc.{arc_value};
+
+use crate::refusals::BuildError;
+use lru_ledgers::{PutSeat, TakeSeat};
+use lru_letters::ReplyCell;
+use lru_world::actor::Actor;
+use lru_world::callback::{AsyncEvictionCallback, Gate};
+use lru_world::workers::{call_back, evict};
+use lru_world::world::World;
+use rand::rngs::StdRng;
+use rand_core::SeedableRng;
+use std::alloc::Global;
+use std::sync::{Arc, Wait};
+use std::thread;
+use std::thread::Threads;
+
+pub(crate) fn start_actor<
+    K: Clone + Drop + Send + Sync + 'static,
+    G: Gate + Drop + 'static,
+    R: Threads + Wait + Copy + Send + 'static,
+>(
+    rt: R,
+    world: Arc<World<K>, Global>,
+    gate: Option<Arc<G, Global>>,
+    actor: Actor<K>,
+    ended: Arc<ReplyCell<Option<PutSeat>>, Global>,
+) -> Result<(), BuildError> {
+    let job = move || {
+        let seat = actor.run(&rt, &*world, &gate);
+        drop(world);
+        drop(gate);
+        ended.give(&rt, seat);
+    };
+    match thread::spawn(&rt, job) {
+        Ok(_handle) => Ok(()),
+        Err(_) => Err(BuildError::Thread),
+    }
+}
+
+pub(crate) fn start_eviction_worker<
+    K: Drop + Send + Sync + 'static,
+    R: Threads + Wait + Copy + Send + 'static,
+>(
+    rt: R,
+    world: Arc<World<K>, Global>,
+    seed: u64,
+    ended: Arc<ReplyCell<()>, Global>,
+) -> Result<(), BuildError>
+    requires { 0 < vec_len (arc_value world).shards }
+{
+    let job = move ||
+        requires { 0 < vec_len (arc_value world).shards }
+    {
+        evict(&rt, &*world, StdRng::seed_from_u64(seed));
+        drop(world);
+        ended.give(&rt, ());
+    };
+    match thread::spawn(&rt, job) {
+        Ok(_handle) => Ok(()),
+        Err(_) => Err(BuildError::Thread),
+    }
+}
+
+pub(crate) fn start_callback_worker<
+    K: Drop + Send + Sync + 'static,
+    C: AsyncEvictionCallback<K> + Drop + 'static,
+    R: Threads + Wait + Copy + Send + 'static,
+>(
+    rt: R,
+    world: Arc<World<K>, Global>,
+    callback: Arc<C, Global>,
+    seat: Option<TakeSeat>,
+    ended: Arc<ReplyCell<Option<TakeSeat>>, Global>,
+) -> Result<(), BuildError>
+    requires { C.ready (arc_value callback) }
+{
+    let job = move ||
+        requires { C.ready (arc_value callback) }
+    {
+        let seat = call_back(&rt, &*world, &*callback, seat);
+        drop(world);
+        drop(callback);
+        ended.give(&rt, seat);
+    };
+    match thread::spawn(&rt, job) {
+        Ok(_handle) => Ok(()),
+        Err(_) => Err(BuildError::Thread),
+    }
+}

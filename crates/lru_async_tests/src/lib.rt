@@ -1,0 +1,15 @@
+//! Tests of `lru_async`: each call by its effect, and what only running threads show.
+#![tactic(auto)]
+
+#[cfg(test)]
+mod callbacks;
+#[cfg(test)]
+mod calls;
+#[cfg(test)]
+mod replays;
+#[cfg(test)]
+mod rows;
+#[cfg(test)]
+mod running;
+#[cfg(test)]
+mod soak;

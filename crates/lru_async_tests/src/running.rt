@@ -1,0 +1,262 @@
+//! What only running threads show.
+use crate::callbacks::{Counting, Holding, Meeting, Quiet, is_raised};
+use lru_async::async_lru::AsyncLru;
+use lru_ledger::Settled;
+use std::alloc::Global;
+use std::sync::atomic::Ordering;
+use std::sync::{Arc, Wait};
+use std::test::Fail;
+use std::thread;
+use std::thread::Threads;
+
+// Whether so many rows are evicted soon.
+fn evicts<const N: usize>(lru: &AsyncLru<u64, N>, count: usize) -> bool {
+    for _ in 0..1_000_000u32 {
+        if lru.evicted_len() >= count {
+            return true;
+        }
+        thread::yield_now();
+    }
+    false
+}
+
+// Whether two hundred keys that are admitted while the gate holds all stand there, the last one first.
+fn keeps_all<R: Wait>(rt: &R, lru: &AsyncLru<u64, 1>, gate: &Holding) -> bool {
+    for key in 0..200u64 {
+        if lru.admit(rt, key, 1).is_err() {
+            return false;
+        }
+    }
+    gate.open.store(true, Ordering::SeqCst);
+    let Ok(Some(rows)) = lru.snapshot_shard(rt, 0) else {
+        return false;
+    };
+    let mut expected = 200u64;
+    for (key, weight) in &rows {
+        expected = expected.wrapping_sub(1);
+        if *key != expected || *weight != 1 {
+            return false;
+        }
+    }
+    expected == 0
+}
+
+#[test]
+fn a_batch_is_processed_whole(rt: HostRuntime) -> Result<(), Fail> {
+    let alloc: Global = rt.alloc();
+    let gate = Arc::new(alloc, Holding::new(0))?;
+    let quiet = Arc::new(alloc, Quiet)?;
+    let Ok(lru) = AsyncLru::<u64, 1>::builder_with_gate(
+        alloc,
+        1000,
+        quiet,
+        Arc::try_clone(&gate)?,
+    ).build(rt) else {
+        panic!(rt; "no threads");
+    };
+    assert!(rt; keeps_all(&rt, &lru, &*gate));
+    lru.close(&rt);
+    Ok(())
+}
+
+// While the gate holds shard 0, shard 1 answers.
+fn answers_beside<R: Threads + Wait + Sync>(
+    rt: &R,
+    lru: &AsyncLru<u64, 2>,
+    gate: &Holding,
+) -> (bool, bool) {
+    thread::join(
+        rt,
+        || matches!(lru.shard_weight(rt, 0), Ok(Some(0))),
+        || {
+            let held = is_raised(&gate.held);
+            let answer = lru.shard_weight(rt, 1);
+            gate.open.store(true, Ordering::SeqCst);
+            held && matches!(answer, Ok(Some(0)))
+        },
+    )
+}
+
+#[test]
+fn a_held_shard_holds_up_no_other(rt: HostRuntime) -> Result<(), Fail> {
+    let alloc: Global = rt.alloc();
+    let gate = Arc::new(alloc, Holding::new(0))?;
+    let quiet = Arc::new(alloc, Quiet)?;
+    let Ok(lru) = AsyncLru::<u64, 2>::builder_with_gate(
+        alloc,
+        1000,
+        quiet,
+        Arc::try_clone(&gate)?,
+    ).build(rt) else {
+        panic!(rt; "no threads");
+    };
+    assert_eq!(rt; answers_beside(&rt, &lru, &*gate), (true, true));
+    assert!(rt; gate.saw.load(Ordering::SeqCst));
+    lru.close(&rt);
+    Ok(())
+}
+
+// Admits keys 1, 2 and 3 with weight 10, and waits until one is evicted.
+fn fills<R: Wait>(rt: &R, lru: &AsyncLru<u64, 1>) -> bool {
+    for key in 1..4u64 {
+        if lru.admit(rt, key, 10).is_err() {
+            return false;
+        }
+    }
+    evicts(lru, 1)
+}
+
+#[test]
+fn evicted_pairs_are_called(rt: HostRuntime) -> Result<(), Fail> {
+    let alloc: Global = rt.alloc();
+    let counting = Arc::new(alloc, Counting::new())?;
+    let Ok(lru) = AsyncLru::<u64, 1>::builder(alloc, 20, Arc::try_clone(&counting)?).build(rt)
+    else {
+        panic!(rt; "no threads");
+    };
+    let filled = fills(&rt, &lru);
+    let evicted = lru.evicted_len();
+    lru.close(&rt);
+    let [first, second, third, others] = counting.counts();
+    let called = first.wrapping_add(second).wrapping_add(third);
+    assert!(rt;
+        filled && called >= evicted && first <= 1 && second <= 1 && third <= 1 && others == 0
+    );
+    Ok(())
+}
+
+#[test]
+fn too_many_rows_are_evicted(rt: HostRuntime) -> Result<(), Fail> {
+    let alloc: Global = rt.alloc();
+    let quiet = Arc::new(alloc, Quiet)?;
+    let Ok(lru) = AsyncLru::<u64, 1>::builder(alloc, 1000, quiet)
+        .len_watermark(2)
+        .build(rt)
+    else {
+        panic!(rt; "no threads");
+    };
+    let filled = fills(&rt, &lru);
+    // a worker that looks before an eviction is counted asks for one more
+    assert!(rt; filled && matches!(lru.shard_weight(&rt, 0), Ok(Some(0..=20))));
+    lru.close(&rt);
+    Ok(())
+}
+
+// Puts two keys last, which triggers nothing, and then triggers evictions.
+fn evicts_two<R: Wait>(rt: &R, lru: &AsyncLru<u64, 1>) -> bool {
+    let put = lru.insert_tail(rt, 1, 1).is_ok() && lru.insert_tail(rt, 2, 1).is_ok();
+    let weighs = matches!(lru.shard_weight(rt, 0), Ok(Some(2)));
+    let none = lru.evicted_len() == 0;
+    lru.trigger_eviction(rt);
+    put && weighs && none && evicts(lru, 2)
+}
+
+#[test]
+fn two_callbacks_are_called_at_once(rt: HostRuntime) -> Result<(), Fail> {
+    let alloc: Global = rt.alloc();
+    let meeting = Arc::new(alloc, Meeting::new())?;
+    let Ok(lru) = AsyncLru::<u64, 1>::builder(alloc, 0, Arc::try_clone(&meeting)?)
+        .num_callback_workers(2)
+        .build(rt)
+    else {
+        panic!(rt; "no threads");
+    };
+    let evicted = evicts_two(&rt, &lru);
+    lru.close(&rt);
+    assert!(rt; evicted && meeting.met.load(Ordering::SeqCst) == 2);
+    Ok(())
+}
+
+// Shuts down while the limit is passed, the gate holds the eviction and the worker looks on.
+fn shuts<R: Wait>(rt: &R, lru: &AsyncLru<u64, 1>, gate: &Holding) -> bool {
+    let sent = lru.admit(rt, 1, 10).is_ok();
+    let held = is_raised(&gate.held);
+    let over = lru.over_limit() && lru.evicted_len() == 0;
+    lru.shutdown(rt);
+    gate.open.store(true, Ordering::SeqCst);
+    sent && held && over
+}
+
+#[test]
+fn close_returns_while_a_limit_is_passed(rt: HostRuntime) -> Result<(), Fail> {
+    let alloc: Global = rt.alloc();
+    let gate = Arc::new(alloc, Holding::new(1))?;
+    let quiet = Arc::new(alloc, Quiet)?;
+    let Ok(lru) = AsyncLru::<u64, 1>::builder_with_gate(
+        alloc,
+        0,
+        quiet,
+        Arc::try_clone(&gate)?,
+    ).build(rt) else {
+        panic!(rt; "no threads");
+    };
+    assert!(rt; shuts(&rt, &lru, &*gate));
+    lru.close(&rt);
+    assert!(rt; gate.saw.load(Ordering::SeqCst));
+    Ok(())
+}
+
+#[test]
+fn pairs_are_lost_once_the_receiver_left(rt: HostRuntime) -> Result<(), Fail> {
+    let alloc: Global = rt.alloc();
+    let quiet = Arc::new(alloc, Quiet)?;
+    let Ok((lru, receiver)) = AsyncLru::<u64, 1>::builder(alloc, 0, quiet)
+        .num_callback_workers(0)
+        .build_with_eviction_receiver(rt)
+    else {
+        panic!(rt; "no threads");
+    };
+    receiver.leave(&rt);
+    let evicted = lru.admit(&rt, 1, 1).is_ok() && evicts(&lru, 1);
+    let weighs = matches!(lru.shard_weight(&rt, 0), Ok(Some(0)));
+    assert_eq!(rt; (evicted, weighs, lru.lost_pairs(&rt)), (true, true, 1));
+    lru.close(&rt);
+    Ok(())
+}
+
+#[test]
+fn a_receiver_gets_the_evicted_pairs(rt: HostRuntime) -> Result<(), Fail> {
+    let alloc: Global = rt.alloc();
+    let quiet = Arc::new(alloc, Quiet)?;
+    let Ok((lru, receiver)) = AsyncLru::<u64, 1>::builder(alloc, 20, quiet)
+        .num_callback_workers(0)
+        .build_with_eviction_receiver(rt)
+    else {
+        panic!(rt; "no threads");
+    };
+    let filled = fills(&rt, &lru);
+    let first = receiver.recv(&rt);
+    assert_eq!(rt; (filled, first), (true, Some((1, 10))));
+    lru.close(&rt);
+    receiver.leave(&rt);
+    Ok(())
+}
+
+// How many slips were put, and whether all of them are left, in order.
+fn all_left(settled: &Settled<u64>) -> (usize, bool) {
+    let Some(puts) = settled.puts.first() else {
+        return (0, false);
+    };
+    let mut same = puts.len() == settled.left.len() && settled.lost.is_empty();
+    for (slip, (left, _)) in puts.iter().zip(&settled.left) {
+        same = same && *slip == *left;
+    }
+    (puts.len(), same)
+}
+
+#[test]
+fn a_ledger_keeps_what_nobody_takes(rt: HostRuntime) -> Result<(), Fail> {
+    let alloc: Global = rt.alloc();
+    let quiet = Arc::new(alloc, Quiet)?;
+    let Ok(ledger) = AsyncLru::<u64, 1>::builder(alloc, 20, quiet)
+        .num_callback_workers(0)
+        .build_with_ledger(rt)
+    else {
+        panic!(rt; "no threads");
+    };
+    let filled = fills(&rt, ledger.lru());
+    let settled = ledger.close(&rt);
+    let (count, same) = all_left(&settled);
+    assert!(rt; filled && count >= 1 && same);
+    Ok(())
+}

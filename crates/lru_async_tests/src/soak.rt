@@ -1,0 +1,119 @@
+//! Many senders under a limit: every evicted pair is accounted for.
+use lru_async::async_lru::AsyncLru;
+use lru_ledger::{Settled, Slip};
+use lru_world::callback::AsyncEvictionCallback;
+use rand::RngExt;
+use rand::rngs::StdRng;
+use rand_core::SeedableRng;
+use std::alloc::Global;
+use std::sync::atomic::{AtomicUsize, Ordering};
+use std::sync::{Arc, Wait};
+use std::test::Fail;
+use std::thread;
+use std::thread::Threads;
+
+// Counts calls, and adds up keys and weights.
+#[derive(Drop)]
+struct Adding {
+    calls: AtomicUsize,
+    hashes: AtomicUsize,
+    weights: AtomicUsize,
+}
+
+impl AsyncEvictionCallback<u64> for Adding {
+    ghost ready = { λ _. Unit {0} };
+
+    fn call(&self, key: u64, weight: usize) {
+        self.calls.fetch_add(1, Ordering::SeqCst);
+        let hash = lru_actors::key::hash_key(&key);
+        self.hashes.fetch_add(hash as usize, Ordering::SeqCst);
+        self.weights.fetch_add(weight, Ordering::SeqCst);
+    }
+}
+
+// Fifty thousand drawn sends. Whether each was taken.
+fn draw_sends<R: Wait>(rt: &R, lru: &AsyncLru<u64, 4>, seed: u64) -> bool {
+    let mut rng = StdRng::seed_from_u64(seed);
+    let mut taken = true;
+    for _ in 0..50_000u32 {
+        let key = rng.random_range(0..400u64);
+        let weight = rng.random_range(0..6usize);
+        let sent = match rng.random_range(0..8u8) {
+            0 => lru.promote(rt, &key).is_ok(),
+            1 => lru.insert_tail(rt, key, weight).is_ok(),
+            2 => lru.increment_weight(rt, &key, weight, Some(9)).is_ok(),
+            3 => lru.remove(rt, &key).is_ok(),
+            _ => lru.admit(rt, key, weight).is_ok(),
+        };
+        taken = taken && sent;
+    }
+    taken
+}
+
+// Four senders at once.
+fn four_send<R: Threads + Wait + Sync>(rt: &R, lru: &AsyncLru<u64, 4>) -> bool {
+    let (first, second) = thread::join(
+        rt,
+        || thread::join(rt, || draw_sends(rt, lru, 1), || draw_sends(rt, lru, 2)),
+        || thread::join(rt, || draw_sends(rt, lru, 3), || draw_sends(rt, lru, 4)),
+    );
+    first.0 && first.1 && second.0 && second.1
+}
+
+// Count, hashes and weights of slips, added up.
+fn sums(slips: &[Slip]) -> (usize, usize, usize) {
+    let mut hashes = 0usize;
+    let mut weights = 0usize;
+    for slip in slips {
+        hashes = hashes.wrapping_add(slip.hash as usize);
+        weights = weights.wrapping_add(slip.weight);
+    }
+    (slips.len(), hashes, weights)
+}
+
+// The sums over lists of slips.
+fn all_sums(lists: &Vec<Vec<Slip>>) -> (usize, usize, usize) {
+    let mut all = (0usize, 0usize, 0usize);
+    for slips in lists {
+        let (count, hashes, weights) = sums(slips.as_slice());
+        all = (
+            all.0.wrapping_add(count),
+            all.1.wrapping_add(hashes),
+            all.2.wrapping_add(weights),
+        );
+    }
+    all
+}
+
+#[test]
+fn every_pair_is_accounted_for(rt: HostRuntime) -> Result<(), Fail> {
+    let alloc: Global = rt.alloc();
+    let adding = Adding {
+        calls: AtomicUsize::new(0),
+        hashes: AtomicUsize::new(0),
+        weights: AtomicUsize::new(0),
+    };
+    let adding = Arc::new(alloc, adding)?;
+    let Ok(ledger) = AsyncLru::<u64, 4>::builder(alloc, 300, Arc::try_clone(&adding)?)
+        .num_eviction_workers(2)
+        .num_callback_workers(2)
+        .build_with_ledger(rt)
+    else {
+        panic!(rt; "no threads");
+    };
+    let sent = four_send(&rt, ledger.lru());
+    let settled = ledger.close(&rt);
+    let called = (
+        adding.calls.load(Ordering::SeqCst),
+        adding.hashes.load(Ordering::SeqCst),
+        adding.weights.load(Ordering::SeqCst),
+    );
+    let puts = all_sums(&settled.puts);
+    let takes = all_sums(&settled.takes);
+    let lost = sums(settled.lost.as_slice());
+    // all was taken and called: the callback workers ended last
+    assert!(rt; sent && puts.0 > 0 && called == takes && settled.left.is_empty());
+    assert!(rt; puts.0 == takes.0.wrapping_add(lost.0));
+    assert!(rt; puts.1 == takes.1.wrapping_add(lost.1) && puts.2 == takes.2.wrapping_add(lost.2));
+    Ok(())
+}
