@@ -2,6 +2,7 @@
 
 use pingora_lru::Lru;
 use pingora_lru::recorded::{RecordedLru, Registry, Seat};
+use pingora_lru_async::async_lru::{AsyncLru, SendRefused};
 use rand_core::Rng;
 use std::alloc::{AllocError, Global};
 use std::sync::Wait;
@@ -33,4 +34,18 @@ pub fn serve_on_record<B: Registry>(
     bytes: usize,
 ) -> Result<bool, AllocError> {
     Ok(lru.promote(rt, seat, key)? || lru.admit(rt, seat, key, key, bytes).is_ok())
+}
+
+/// Sends an object to the actor of its shard, and goes on. Where that is refused, the name comes back.
+pub fn send(
+    rt: &impl Wait,
+    lru: &AsyncLru<String, 4>,
+    name: String,
+    bytes: usize,
+) -> Result<(), String> {
+    match lru.admit(rt, name, bytes) {
+        Ok(_) => Ok(()),
+        Err(SendRefused::Memory(name)) => Err(name),
+        Err(SendRefused::Closed(name)) => Err(name),
+    }
 }
