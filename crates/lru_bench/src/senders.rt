@@ -186,13 +186,11 @@ pub fn measure<R: Print + Clock + Threads + Wait + Copy + Send + Sync + 'static,
             let lru = Lru::<u64, N>::with_capacity(alloc, usize::MAX, ROWS as usize / N)?;
             let name = format!(in alloc; "behind locks, N = {N}")?;
             time(&rt, alloc, watch, &lru, name.as_str(), work, senders)?;
-            for limit in [usize::MAX, ROWS as usize / 2] {
+            for (limit, who) in [
+                (usize::MAX, "actors"),
+                (ROWS as usize / 2, "actors that evict"),
+            ] {
                 let lru = actors::<R, N>(rt, alloc, limit)?;
-                let passed = if limit == usize::MAX {
-                    ""
-                } else {
-                    " that evict"
-                };
                 let name = format!(in alloc; "by {who}, N = {N}")?;
                 time(&rt, alloc, watch, &lru, name.as_str(), work, senders)?;
                 lru.close(&rt);
