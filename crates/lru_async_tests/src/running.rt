@@ -167,20 +167,34 @@ fn two_callbacks_are_called_at_once(rt: HostRuntime) -> Result<(), Fail> {
     Ok(())
 }
 
-// Shuts down while the limit is passed, the gate holds the eviction and the worker looks on.
+// Whether all rows weigh so much soon.
+fn weighs<const N: usize>(lru: &AsyncLru<u64, N>, weight: usize) -> bool {
+    for _ in 0..1_000_000u32 {
+        if lru.weight() == weight {
+            return true;
+        }
+        thread::yield_now();
+    }
+    false
+}
+
+// Shuts down while the limit is passed and the gate holds the first eviction. One row stays, so that it is passed to the
+// end and the worker has to look at the stop.
 fn shuts<R: Wait>(rt: &R, lru: &AsyncLru<u64, 1>, gate: &Holding) -> bool {
-    let sent = lru.admit(rt, 1, 10).is_ok();
+    let sent = lru.insert_tail(rt, 1, 10).is_ok() && lru.insert_tail(rt, 2, 10).is_ok();
+    let put = weighs(lru, 20);
+    lru.trigger_eviction(rt);
     let held = is_raised(&gate.held);
     let over = lru.over_limit() && lru.evicted_len() == 0;
     lru.shutdown(rt);
     gate.open.store(true, Ordering::SeqCst);
-    sent && held && over
+    sent && put && held && over
 }
 
 #[test]
 fn close_returns_while_a_limit_is_passed(rt: HostRuntime) -> Result<(), Fail> {
     let alloc: Global = rt.alloc();
-    let gate = Arc::new(alloc, Holding::new(1))?;
+    let gate = Arc::new(alloc, Holding::new(2))?;
     let quiet = Arc::new(alloc, Quiet)?;
     let Ok(lru) = AsyncLru::<u64, 1>::builder_with_gate(
         alloc,

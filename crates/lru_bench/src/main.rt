@@ -1,6 +1,6 @@
 //! `lru_bench [time]`: what a promote costs in a short and in a long list, and what the calls of `Lru` cost
 //! to 1, 2 and 4 threads, among rows that a core's cache holds and among many more; what messages cost to an
-//! actor's shard, what it costs to record calls, and what touches and spills of two tiers cost.
+//! actor's shard and to actors on threads, what it costs to record calls, and what touches and spills of two tiers cost.
 //!
 //! It goes through seeded traces and prints what it counted, which is the same at each run. With the
 //! argument `time` each line ends with the nanoseconds that one call took, which are not.
@@ -11,6 +11,7 @@ ghost use Rattle.std.specs.Prelude.{◌<◌};
 mod actors;
 mod lists;
 mod recorded;
+mod senders;
 mod shards;
 mod tiers;
 mod trace;
@@ -32,6 +33,9 @@ fn main(rt: HostRuntime) -> io::Result<()> {
     lists::measure(&rt, rt.alloc(), watch, 1_000_000)?;
     actors::measure(&rt, rt.alloc(), watch, MANY)?;
     recorded::measure(&rt, rt.alloc(), watch, 100_000)?;
+    senders::measure::<_, 1>(rt, rt.alloc(), watch)?;
+    senders::measure::<_, 4>(rt, rt.alloc(), watch)?;
+    senders::measure::<_, 16>(rt, rt.alloc(), watch)?;
     tiers::measure(&rt, rt.alloc(), watch, 100_000)?;
     tiers::measure(&rt, rt.alloc(), watch, MANY)?;
     for draw in [Draw::Uniform, Draw::Skewed] {
