@@ -18,6 +18,9 @@ use lru_folder::reports::{ShardLoadReport, TempFileCleanupReport};
 use std::alloc::{AllocError, Global};
 use std::fmt::Display;
 
+/// The most bytes that are asked for at once.
+const PIECE_LEN: usize = 8192;
+
 /// Why an open file was not read to its end.
 #[derive(Debug, Drop)]
 enum ReadError {
@@ -45,7 +48,7 @@ impl From<FolderFault> for ReadError {
     }
 }
 
-/// The bytes of the file that was just opened, of which there are so many.
+/// The bytes of the file that was just opened, of which there are so many, read in pieces.
 fn read_opened<F: Folder>(alloc: Global, folder: &mut F, len: u64) -> Result<Vec<u8>, ReadError>
     requires { IsReading (F.opened folder.old) }
     ensures whole { F.keeps folder.old → (left : List ℕ) → F.opened folder.old ≡ Reading left → len ≡ length left → IfOk result (λ bytes. bytes.items ≡ left) }
@@ -60,7 +63,7 @@ fn read_opened<F: Folder>(alloc: Global, folder: &mut F, len: u64) -> Result<Vec
     let len = len as usize;
     let mut bytes = Vec::with_capacity(alloc, len)?;
     while bytes.len() < len {
-        let piece = folder.read(len - bytes.len())?;
+        let piece = folder.read(PIECE_LEN.min(len - bytes.len()))?;
         if piece.is_empty() {
             break;
         }

@@ -4,6 +4,8 @@
 #[cfg(test)]
 mod cleanup_tests;
 #[cfg(test)]
+mod fault_tests;
+#[cfg(test)]
 mod host_folder_tests;
 #[cfg(test)]
 mod loading_memory_tests;

@@ -1,3 +1,4 @@
+pub mod PieceSteps
 pub mod SaveSteps
 pub mod Putting
 pub mod TurnsLemmas

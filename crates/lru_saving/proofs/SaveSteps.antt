@@ -70,6 +70,9 @@ module _ {F : Type 0} (clock : F → ℕ) (stopped_since : F → ℕ → Files �
   empty_at one at is is_created =
       ap (λ (f : Files). get f temp) (is_created ∙ ap (λ p. created p (files start)) is) ∙ get-insert_same (files start) temp []
 
+  pub open_at : (one : F) (mode : Opened) → mode ≡ Writing temp → get (files one) temp ≡ Some [] → get (files one) (written_path mode) ≡ Some []
+  open_at one mode is empty = ap (λ (o : Opened). get (files one) (written_path o)) is ∙ empty
+
   pub after_write : (mid new : F) (mode : Opened) → get (files mid) temp ≡ Some [] → Leaves mid → mode ≡ Writing temp → Passes clock stopped_since files (SomeFront (written_path mode) bytes) mid new → Leaves new
   after_write mid new mode empty so_far is call =
       goes_on clock stopped_since files (IsOldOrNew temp path bytes (files start)) (SomeFront temp bytes) start mid new so_far

@@ -1,15 +1,45 @@
 // The file of one shard, saved: it is written under another name, which then becomes the shard's.
-ghost use Rattle.std.specs.Prelude.{◌≢◌, ◌≡◌, ◌↔◌, IfErr, IfOk, OnOk, string_bytes};
+ghost use Rattle.std.specs.FinMap.{get};
+ghost use Rattle.std.specs.Prelude.{◌≢◌, ◌≡◌, ◌↔◌, ℕ, List, Some, IfErr, IfOk, IsErrOf, OnErr, OnOk, string_bytes};
 ghost use Rattle.lru_folder.specs.Blames.{failed_call, blame_of};
-ghost use Rattle.lru_folder.specs.Folder.{LeavesOnly};
+ghost use Rattle.lru_folder.specs.Files.{appended, SomeFront};
+ghost use Rattle.lru_folder.specs.Folder.{HasCause, IsWriting, LeavesOnly, Passes, written_path};
 ghost use Rattle.lru_folder.specs.Places.{folder_of, is_there};
 ghost use Rattle.lru_saving.specs.Saving.{IsOldOrNew, IsSaved, IsStepOf, HasReason};
 ghost use Rattle.lru_saving.specs.Turns.{shard_path, temp_path, Ends, SavesOne, turn_of};
 
 use lru_folder::errors::{ShardFileError, ShardSaveFailure};
+use lru_folder::fault::FolderFault;
 use lru_folder::folder::Folder;
+use lru_folder::folder_call::FolderCall;
 use lru_folder::names::{path_of, shard_path, temp_name};
 use std::alloc::{AllocError, Global};
+
+/// The most bytes that one write passes on.
+const PIECE_LEN: usize = 8192;
+
+/// Puts the bytes at the end of the open file, in pieces. A fault may leave any front of them there.
+fn write_pieces<F: Folder>(folder: &mut F, bytes: &[u8]) -> Result<(), FolderFault>
+    requires { IsWriting (F.opened folder.old) }
+
+    // All pieces together do what one write of the bytes does, to a file that is there.
+    ensures done { F.keeps folder.old → (held : List ℕ) → get (F.files folder.old) (written_path (F.opened folder.old)) ≡ Some held
+        → OnOk result (F.files folder.new ≡ appended (written_path (F.opened folder.old)) bytes.now (F.files folder.old)) }
+    ensures time { F.keeps folder.old → (held : List ℕ) → get (F.files folder.old) (written_path (F.opened folder.old)) ≡ Some held
+        → Passes F.clock F.stopped_since F.files (SomeFront (written_path (F.opened folder.old)) bytes.now) folder.old folder.new }
+
+    ensures mode { F.opened folder.new ≡ F.opened folder.old }
+    ensures last { F.keeps folder.old → OnErr result (F.last_call folder.new ≡ FolderCall.Write) }
+    ensures cause { F.keeps folder.old → HasCause (F.faults folder.old) (F.faults folder.new) result }
+    ensures found { F.keeps folder.old → IsErrOf result FolderFault.NotFound → ⊥ }
+    ensures places { F.keeps folder.old → F.folders folder.new ≡ F.folders folder.old }
+    ensures kept { F.keeps folder.old ↔ F.keeps folder.new }
+{
+    for piece in bytes.chunks(PIECE_LEN) {
+        folder.write(piece)?;
+    }
+    Ok(())
+}
 
 /// Saves the bytes under the temporary path, which then becomes the file's. A fault leaves the temporary file as it is.
 pub(crate) fn save_file<F: Folder>(
@@ -40,7 +70,7 @@ pub(crate) fn save_file<F: Folder>(
     if let Err(source) = folder.create(&temp) {
         return Err(ShardFileError::Create { path: temp, source });
     }
-    if let Err(source) = folder.write(bytes) {
+    if let Err(source) = write_pieces(folder, bytes) {
         return Err(ShardFileError::Write { path: temp, source });
     }
     if let Err(source) = folder.flush() {

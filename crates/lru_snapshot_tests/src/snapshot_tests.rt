@@ -60,6 +60,55 @@ fn bytes_are_loaded_or_nothing_changes(rt: HostRuntime) -> Result<(), Fail> {
     Ok(())
 }
 
+/// A record with this key and this weight, and value 0.
+const fn record(key: u8, weight: [u8; 8]) -> [u8; 24] {
+    [
+        key, 0, 0, 0, 0, 0, 0, 0, 0, 0, 0, 0, 0, 0, 0, 0, weight[0], weight[1], weight[2],
+        weight[3], weight[4], weight[5], weight[6], weight[7],
+    ]
+}
+
+/// A core whose shard 0 has one row, of key 4 and weight 0, with the bytes of that shard, the counts of both, and the
+/// evicted totals.
+fn shown(core: &LruCore<Keyed, 2>, alloc: Global) -> Result<(Vec<u8>, [usize; 4]), AllocError> {
+    let counts = [
+        core.len(),
+        core.weight(),
+        core.evicted_len(),
+        core.evicted_weight(),
+    ];
+    Ok((shard_bytes(alloc, core, 0)?, counts))
+}
+
+/// A weight of 1, and the greatest that one of two shards may have.
+const ONE: [u8; 8] = [1, 0, 0, 0, 0, 0, 0, 0];
+
+const GREATEST: [u8; 8] = [255, 255, 255, 255, 255, 255, 255, 127];
+
+// A shard that refuses what it is given is as it was, and so are all counts.
+#[test]
+fn refused_bytes_change_nothing(rt: HostRuntime) -> Result<(), Fail> {
+    let alloc = rt.alloc();
+    let held = [record(2, ONE), record(4, ONE)];
+    let twice = [record(2, ONE), record(2, ONE)];
+    let heavy = [record(0, GREATEST), record(2, ONE)];
+    let refused: [(&[u8], LoadError); 5] = [
+        (&LONG, LoadError::Damaged),
+        (&record(1, ONE), LoadError::Damaged),
+        (twice.as_flattened(), LoadError::Damaged),
+        (held.as_flattened(), LoadError::Damaged),
+        (heavy.as_flattened(), LoadError::Unit(Cause::Weight)),
+    ];
+    let mut core = empty::<2>(alloc)?;
+    core.insert_tail(4, Keyed { key: 4, value: 40 }, 0)?;
+    let before = shown(&core, alloc)?;
+    for (bytes, error) in refused {
+        assert_eq!(rt; load_shard(alloc, &mut core, 0, bytes), Err(error));
+        assert!(rt; shown(&core, alloc)? == before);
+    }
+    Ok(())
+}
+
 /// How each refusal is shown.
 const TEXTS: [(LoadError, &str); 4] = [
     (LoadError::Damaged, "damaged"),
