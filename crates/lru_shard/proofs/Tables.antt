@@ -6,7 +6,7 @@ use Rattle.std.specs.List.{cons_option, list_any}
 use Rattle.std.proofs.lemmas.Bool.{cond_both, eq-eqb, ne_eqb, cases_eq}
 use Rattle.std.proofs.lemmas.List.{map-append}
 use Rattle.std.proofs.lemmas.List.Elements.{filter-append, filter_map-append}
-use Rattle.lru_shard.specs.declared.unit.Node.{Node}
+use Rattle.lru_shard.specs.Representation.Table.{Node}
 use Rattle.lru_shard.specs.Row.{Row, row_of, is_held, pair_of, times, with_first, without, weight_of}
 use Rattle.lru_shard.specs.Shard.{shard, IsShard}
 use Rattle.lru_shard.specs.Representation.Table.{row_at, rows_of, Knows, KnowsAll, Stands, IsTied, IsUnit, pairs_of, FindsAll}
@@ -186,8 +186,12 @@ module _ {T : Type 0} where
       pub there : IsAt (rows_of look order.live) k (row_at k n)
       there = at_here look order.live k n here
 
+      -- the key stands at its index
+      pub item_here : item_of order.live n.list_index ≡ Some k
+      item_here = ap (λ live. item_of live n.list_index) here.whole ∙ item_middle here.before here.after n.list_index k here.no_index_before
+
       pub is_live : IsLive order n.list_index
-      is_live = let e = ap (λ live. item_of live n.list_index) here.whole ∙ item_middle here.before here.after n.list_index k here.no_index_before in is_some_from (item_of order.live n.list_index) k e
+      is_live = is_some_from (item_of order.live n.list_index) k item_here
 
       pub live-without : list.without order.live n.list_index ≡ here.before ++ here.after
       live-without = ap (λ live. list.without live n.list_index) here.whole ∙ without_middle here.before here.after n.list_index k here.no_index_before here.no_index_after
