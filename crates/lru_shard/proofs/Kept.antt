@@ -1,15 +1,17 @@
 -- Laws of rows in their slots, and of the places of keys.
-use Rattle.std.proofs.Common.{◌≡◌, ◌≢◌, zero, suc, ℕ, ◌+◌, ◌<◌, ◌≤◌, true, false, cond, eqb, List, [], ◌∷◌, ◌++◌, length, Some, None, refl, sym, ap, ◌∙◌, arith, subst, inl, inr, length-append}
+use Rattle.std.proofs.Common.{◌≡◌, ◌≢◌, zero, suc, ℕ, ◌+◌, ◌<◌, ◌≤◌, true, false, cond, eqb, List, [], ◌∷◌, ◌++◌, length, map, Some, None, refl, sym, ap, ◌∙◌, arith, subst, inl, inr, length-append}
 use Rattle.std.specs.Prelude.{Option, option_map, is_some, get_or, set, drop, slice_index_or}
 use Rattle.std.proofs.lemmas.Bool.{cond-true, cond-false, eq-eqb, ne_eqb, cases_eq, leb-false}
 use Rattle.std.proofs.lemmas.List.{get_or-set_same, get_or-set_other, get_or_past, length-set}
-use Rattle.std.proofs.Math.Path.{fun_ext}
+use Rattle.std.proofs.lemmas.List.Elements.{filter_map-append}
+use Rattle.std.specs.List.{cons_option}
+use Rattle.lru_shard.specs.Row.{pair_of}
 use Rattle.lru_shard.specs.declared.slots.Held.{Held}
-use Rattle.lru_shard.specs.Representation.Slots.{held, held_at}
-use Rattle.lru_shard.specs.Representation.Table.{Node, node_of, node_in, look_in, rows_of, IsFitted, IsKept}
+use Rattle.lru_shard.specs.Representation.Slots.{held, held_at, pairs_at, HoldsAll}
+use Rattle.lru_shard.specs.Representation.Table.{Node, node_of, node_in, look_in, rows_of, Knows, KnowsAll, IsFitted, IsKept}
 use Rattle.lru_shard.specs.Shard.{size_of, and_row, refusal, is_full, most_rows}
 use Rattle.lru_shard.proofs.Refusals.{allowed_short}
-use Rattle.lru_shard.proofs.Tables.{long, unit_moved, IsHere, item_here, here, live-without, live-promoted}
+use Rattle.lru_shard.proofs.Tables.{rows-cons, long, unit_moved, IsHere, item_here, here, live-without, live-promoted}
 use Rattle.lru_shard.proofs.UnitCalls.{Puts, Takes, unit_same, unit_new, unit_tail}
 use Rattle.lru_list.specs.Linked as list
 use Rattle.lru_list.specs.Linked.{Linked, linked, indices_of, item_of, promoted, pushed_head, pushed_tail, removed, next_slot, made, IsNumbered}
@@ -48,6 +50,48 @@ module _ {T : Type 0} where
 
   pub look_none : (place : ℕ → Option ℕ) (slots : List (Option (Held T))) (k : ℕ) → place k ≡ None → look_in place slots k ≡ None
   look_none place slots k p = ap (node_in slots) p
+
+  -- what an order's pair knows of its slot
+  module _ (slots : List (Option (Held T))) where
+    from_held : (j : ℕ) (n : Node T) (o : Option (Held T)) → held_at slots j ≡ o → option_map (node_of j) o ≡ Some n → held_at slots n.list_index ≡ Some (held n.«data» n.weight)
+    from_held j n None r e = cc
+    from_held j n (Some h) r e =
+        let is : node_of j h ≡ n = cc in
+        ap (λ (m : Node T). held_at slots m.list_index) (sym is) ∙ r ∙ ap (λ (m : Node T). Some (held m.«data» m.weight)) is
+
+    from_node : (o : Option ℕ) (n : Node T) → node_in slots o ≡ Some n → held_at slots n.list_index ≡ Some (held n.«data» n.weight)
+    from_node None n e = cc
+    from_node (Some j) n e = from_held j n (held_at slots j) refl e
+
+    pub holds_known : (place : ℕ → Option ℕ) (p : ℕ × ℕ) (known : Knows (look_in place slots) p) → held_at slots p.0 ≡ Some (held known.node.«data» known.node.weight)
+    holds_known place p known = ap (held_at slots) (sym known.place) ∙ from_node (place p.1) known.node known.found
+
+    pub holds_all : (place : ℕ → Option ℕ) (live : List (ℕ × ℕ)) → KnowsAll (look_in place slots) live → HoldsAll slots (indices_of live)
+    holds_all place [] h = tt
+    holds_all place (p ∷ ps) h = ((held h.0.node.«data» h.0.node.weight, holds_known place p h.0), holds_all place ps h.1)
+
+    pub pairs-cons : (i : ℕ) (is : List ℕ) (h : Held T) → held_at slots i ≡ Some h → pairs_at slots (i ∷ is) ≡ (h.«data», h.weight) ∷ pairs_at slots is
+    pairs-cons i is h e = ap (λ o. cons_option (option_map (λ (x : Held T). (x.«data», x.weight)) o) (pairs_at slots is)) e
+
+    pub pairs-rows : (place : ℕ → Option ℕ) (live : List (ℕ × ℕ)) → KnowsAll (look_in place slots) live → pairs_at slots (indices_of live) ≡ map pair_of (rows_of (look_in place slots) live)
+    pairs-rows place [] h = refl
+    pairs-rows place (p ∷ ps) h =
+        pairs-cons p.0 (indices_of ps) (held h.0.node.«data» h.0.node.weight) (holds_known place p h.0)
+        ∙ ap (λ zs. (h.0.node.«data», h.0.node.weight) ∷ zs) (pairs-rows place ps h.1)
+        ∙ sym (ap (map pair_of) (rows-cons (look_in place slots) p ps h.0.node h.0.found))
+
+    pub holds_split : (is : List ℕ) (i : ℕ) → HoldsAll slots (is ++ i ∷ []) → HoldsAll slots is × ((h : Held T) × (held_at slots i ≡ Some h))
+    holds_split [] i h = (tt, h.0)
+    holds_split (j ∷ js) i h = let m = holds_split js i h.1 in ((h.0, m.0), m.1)
+
+    pub pairs-push : (is : List ℕ) (i : ℕ) (h : Held T) → held_at slots i ≡ Some h → pairs_at slots (is ++ i ∷ []) ≡ pairs_at slots is ++ (h.«data», h.weight) ∷ []
+    pairs-push is i h e =
+        filter_map-append (λ (j : ℕ). option_map (λ (x : Held T). (x.«data», x.weight)) (held_at slots j)) is (i ∷ [])
+        ∙ ap (λ o. pairs_at slots is ++ cons_option (option_map (λ (x : Held T). (x.«data», x.weight)) o) []) e
+
+    pub length-pairs : (is : List ℕ) → HoldsAll slots is → length (pairs_at slots is) ≡ length is
+    length-pairs [] h = refl
+    length-pairs (i ∷ is) h = ap length (pairs-cons i is h.0.0 h.0.1) ∙ omega (arith, length-pairs is h.1)
 
   -- places and slots that are found as before
   module _ (place place' : ℕ → Option ℕ) (slots slots' : List (Option (Held T))) (p : (k : ℕ) → place' k ≡ place k) (s : (i : ℕ) → held_at slots' i ≡ held_at slots i) where

@@ -4,7 +4,7 @@ ghost use Rattle.lru_shard.specs.Shard.{number_of};
 ghost use Rattle.lru_shard.specs.Unit.{raised, started};
 
 use crate::slots::{Held, Rows};
-use lru_list::linked_list::{LinkedList, LinkedListIter, MOST_ITEMS};
+use lru_list::linked_list::{LinkedList, LinkedListIndices, LinkedListIter, MOST_ITEMS};
 use std::alloc::{AllocError, Global};
 use std::iter::FusedIterator;
 use std::marker::Model;
@@ -145,7 +145,7 @@ impl<T> LruUnit<T> {
         ensures { result ≡ map pair_of self.now.rows }
     {
         LruUnitIter {
-            keys: self.order.iter(),
+            places: self.order.indices(),
             rows: &self.rows,
         }
     }
@@ -509,19 +509,19 @@ impl<T: Drop> LruUnit<T> {
 /// The data and the weight of each row that is left to give, most recent first.
 #[derive(Drop)]
 pub struct LruUnitIter<'a, T> {
-    keys: LinkedListIter<'a, u64>,
+    places: LinkedListIndices<'a, u64>,
     rows: &'a Rows<T>,
 }
 
 impl<'a, T> Model for LruUnitIter<'a, T> {
     ghost use Rattle.std.specs.Prelude.{List, ℕ};
-    ghost use Rattle.lru_shard.specs.Representation.Table.{look_of, pairs_of, FindsAll};
+    ghost use Rattle.lru_shard.specs.Representation.Slots.{pairs_at, HoldsAll};
 
     ghost Value = { List (T × ℕ) };
 
-    ghost view = { λ i. pairs_of (look_of i.rows.now) i.keys };
+    ghost view = { λ i. pairs_at i.rows.now.slots.items i.places };
 
-    ghost invariant = { λ i. FindsAll (look_of i.rows.now) i.keys };
+    ghost invariant = { λ i. HoldsAll i.rows.now.slots.items i.places };
 }
 
 impl<'a, T> Iterator for LruUnitIter<'a, T> {
@@ -538,10 +538,7 @@ impl<'a, T> Iterator for LruUnitIter<'a, T> {
     ghost remaining = { λ rest. at_most (length rest) };
 
     fn next(&mut self) -> Option<(&'a T, usize)> {
-        let key = self.keys.next()?;
-        let Some(place) = self.rows.place_of(*key) else {
-            unreachable!()
-        };
+        let place = self.places.next()?;
         let held = self.rows.held(place);
         Some((&held.data, held.weight))
     }
@@ -551,7 +548,7 @@ impl<'a, T> Iterator for LruUnitIter<'a, T> {
         ensures upper { IfSome result.1 (UpTo (at_most (length self.now))) }
         ensures exact { result ≡ (length self.now, Some (length self.now)) }
     {
-        self.keys.size_hint()
+        self.places.size_hint()
     }
 }
 
@@ -562,10 +559,7 @@ impl<'a, T> DoubleEndedIterator for LruUnitIter<'a, T> {
     ghost next_back_gives = { TakesLast shown };
 
     fn next_back(&mut self) -> Option<(&'a T, usize)> {
-        let key = self.keys.next_back()?;
-        let Some(place) = self.rows.place_of(*key) else {
-            unreachable!()
-        };
+        let place = self.places.next_back()?;
         let held = self.rows.held(place);
         Some((&held.data, held.weight))
     }
@@ -573,7 +567,7 @@ impl<'a, T> DoubleEndedIterator for LruUnitIter<'a, T> {
 
 impl<'a, T> ExactSizeIterator for LruUnitIter<'a, T> {
     fn len(&self) -> usize {
-        self.keys.len()
+        self.places.len()
     }
 }
 

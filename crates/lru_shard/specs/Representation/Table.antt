@@ -79,10 +79,6 @@ module _ {T : Type 0} where
     pub unit : IsUnit (look_in place slots) order used cap
     pub fitted : IsFitted place slots order
 
-  -- the pairs of data and weight that an iterator has left to give
-  abbrev pub pairs_of : (ℕ → Option (Node T)) → List ℕ → List (T × ℕ)
-  pairs_of look keys = filter_map (λ k. option_map (λ n. (n.«data», n.weight)) (look k)) keys
-
   -- each key is found
   abbrev pub FindsAll : (ℕ → Option (Node T)) → List ℕ → Type 0
   FindsAll look [] = Unit {0}
