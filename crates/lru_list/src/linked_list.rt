@@ -475,9 +475,9 @@ impl<K> LinkedList<K> {
         let nodes = self.nodes.as_slice();
         LinkedListIndices {
             nodes,
-            head: nodes[HEAD as usize].next,
-            tail: nodes[TAIL as usize].prev,
-            left: self.len,
+            first: nodes[HEAD as usize].next,
+            last: nodes[TAIL as usize].prev,
+            count: self.len,
         }
     }
 }
@@ -558,9 +558,9 @@ impl<'a, K> FusedIterator for LinkedListIter<'a, K> {}
 #[derive(Drop)]
 pub struct LinkedListIndices<'a, K> {
     nodes: &'a [Node<K>],
-    head: u32,
-    tail: u32,
-    left: u32,
+    first: u32,
+    last: u32,
+    count: u32,
 }
 
 impl<'a, K> Model for LinkedListIndices<'a, K> {
@@ -570,9 +570,9 @@ impl<'a, K> Model for LinkedListIndices<'a, K> {
 
     ghost use Rattle.lru_list.specs.Representation.Nodes.{places_of, IsSpan};
 
-    ghost view = { λ it. places_of it.nodes.now it.head it.left };
+    ghost view = { λ it. places_of it.nodes.now it.first it.count };
 
-    ghost invariant = { λ it. IsSpan it.nodes.now it.head it.tail it.left };
+    ghost invariant = { λ it. IsSpan it.nodes.now it.first it.last it.count };
 }
 
 impl<'a, K> Iterator for LinkedListIndices<'a, K> {
@@ -583,15 +583,15 @@ impl<'a, K> Iterator for LinkedListIndices<'a, K> {
     ghost remaining = { λ rest. at_most (length rest) };
 
     fn next(&mut self) -> Option<Index> {
-        if self.left == 0 {
+        if self.count == 0 {
             return None;
         }
         let nodes = self.nodes;
-        let first = self.head;
-        let node = &nodes[first as usize];
-        self.head = node.next;
-        self.left -= 1;
-        Some(first as usize)
+        let index = self.first;
+        let node = &nodes[index as usize];
+        self.first = node.next;
+        self.count -= 1;
+        Some(index as usize)
     }
 
     fn size_hint(&self) -> (usize, Option<usize>)
@@ -608,21 +608,21 @@ impl<'a, K> DoubleEndedIterator for LinkedListIndices<'a, K> {
     ghost next_back_gives = { TakesLast itself };
 
     fn next_back(&mut self) -> Option<Index> {
-        if self.left == 0 {
+        if self.count == 0 {
             return None;
         }
         let nodes = self.nodes;
-        let last = self.tail;
-        let node = &nodes[last as usize];
-        self.tail = node.prev;
-        self.left -= 1;
-        Some(last as usize)
+        let place = self.last;
+        let node = &nodes[place as usize];
+        self.last = node.prev;
+        self.count -= 1;
+        Some(place as usize)
     }
 }
 
 impl<'a, K> ExactSizeIterator for LinkedListIndices<'a, K> {
     fn len(&self) -> usize {
-        self.left as usize
+        self.count as usize
     }
 }
 

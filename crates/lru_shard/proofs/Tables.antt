@@ -7,7 +7,7 @@ use Rattle.std.proofs.lemmas.Bool.{cond_both, eq-eqb, ne_eqb, cases_eq}
 use Rattle.std.proofs.lemmas.List.{map-append}
 use Rattle.std.proofs.lemmas.List.Elements.{filter-append, filter_map-append}
 use Rattle.lru_shard.specs.Representation.Table.{Node}
-use Rattle.lru_shard.specs.Row.{Row, row_of, is_held, pair_of, times, with_first, without, weight_of}
+use Rattle.lru_shard.specs.Row.{Row, row_of, is_held, times, with_first, without, weight_of}
 use Rattle.lru_shard.specs.Shard.{shard, IsShard}
 use Rattle.lru_shard.specs.Representation.Table.{row_at, rows_of, Knows, KnowsAll, Stands, IsTied, IsUnit, FindsAll}
 use Rattle.lru_shard.proofs.Rows.{times-append, times_yes, times_no}

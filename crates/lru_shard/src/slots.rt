@@ -71,12 +71,12 @@ impl<T: Drop> Rows<T> {
             Ok(_) => {}
             Err(_) => unreachable!(),
         }
-        self.slots[place] = Some(held);
+        self.write(place, held);
     }
 
-    /// Writes a row in place of the one that is there.
+    /// Writes a row in place of what the slot holds.
     pub(crate) fn write(&mut self, place: Index, held: Held<T>)
-        requires { IsSome (held_at self.old.slots.items place) }
+        requires { place < length self.old.slots.items }
         ensures places { self.new.places ≡ self.old.places }
         ensures slots { self.new.slots.items ≡ set self.old.slots.items place (Some held) }
     {

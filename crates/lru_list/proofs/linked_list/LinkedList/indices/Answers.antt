@@ -1,4 +1,4 @@
-use Rattle.std.proofs.Common.{List, length, get_or, arith, sym, subst, ap, ◌∙◌}
+use Rattle.std.proofs.Common.{List, get_or, arith, sym, subst, ap, ◌∙◌}
 use Rattle.std.proofs.lemmas.List.{get_or-map}
 use Rattle.lru_list.specs.declared.linked_list.Node.{Node}
 use Rattle.lru_list.specs.Representation.Nodes.{at, nexts, order_of, places_of, IsSpan, IsList}

@@ -6,4 +6,4 @@ use Rattle.lru_list.proofs.linked_list.LinkedListIndicesExactSizeIterator.len.Go
 pub returns-clause-value : goal.returns-clause-value
 returns-clause-value g c =
     let it = c.self.inside in
-    rw (← c.self.view_is) (sym (length-path (nexts it.nodes.now) it.left it.head))
+    rw (← c.self.view_is) (sym (length-path (nexts it.nodes.now) it.count it.first))

@@ -1,6 +1,4 @@
-use Rattle.std.proofs.Common.{◌≡◌, Some, refl, sym, subst, ◌∙◌, rules}
-use Rattle.lru_shard.specs.declared.slots.Held.{Held}
-use Rattle.lru_shard.specs.Representation.Slots.{held}
+use Rattle.std.proofs.Common.{◌≡◌, Some, refl, sym, ◌∙◌, rules}
 use Rattle.lru_shard.proofs.Kept.{held_read}
 use Rattle.lru_shard.proofs.slots.Rows.update.Goals as goal
 

@@ -6,7 +6,7 @@ use Rattle.lru_shard.specs.Row.{Row, row, with_first}
 use Rattle.lru_shard.specs.Shard.{shard, size_of, MayRefuse}
 use Rattle.lru_shard.specs.Representation.Slots.{held}
 use Rattle.lru_shard.specs.Representation.Table.{place_in, look_of, node_of, rows_of}
-use Rattle.lru_shard.proofs.Kept.{look_none, there, write_puts, fitted_write, wide_promoted}
+use Rattle.lru_shard.proofs.Kept.{held_range, look_none, there, write_puts, fitted_write, wide_promoted}
 use Rattle.lru_shard.proofs.Tables.{is_live}
 use Rattle.lru_shard.proofs.UnitCalls.{found_row, part, heavy_first, fits_first, shows_first, unit_first, no_row_there}
 use Rattle.lru_shard.proofs.unit.LruUnit.admit.Goals as goal
@@ -41,6 +41,9 @@ returns-then-weight-self g c =
       };
       held = c.new.ensures.held;
     })
+
+pub write-requires : goal.write-requires
+write-requires g c = held_range c.self.inside.rows.slots.items c.in-Some.place c.held.result.now c.held.ensures
 
 pub promote-requires : goal.promote-requires
 promote-requires g c =

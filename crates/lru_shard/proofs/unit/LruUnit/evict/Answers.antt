@@ -1,4 +1,4 @@
-use Rattle.std.proofs.Common.{◌≡◌, ℕ, Some, None, refl, sym, ap, ◌∙◌}
+use Rattle.std.proofs.Common.{◌≡◌, ℕ, Some, None, sym, ap, ◌∙◌}
 use Rattle.std.specs.Prelude.{nat_eq, set, is_some}
 use Rattle.std.specs.HashMap as hash
 use Rattle.lru_list.specs.Linked.{Linked}

@@ -1,4 +1,4 @@
-use Rattle.std.proofs.Common.{◌≡◌, ℕ, None, cond, eqb, refl, sym, ap, ◌∙◌, arith, rules}
+use Rattle.std.proofs.Common.{ℕ, None, sym, ap, ◌∙◌, arith, rules}
 use Rattle.std.specs.Prelude.{nat_eq, set, length, is_some, option_map}
 use Rattle.std.specs.HashMap as hash
 use Rattle.lru_list.specs.Linked.{Linked}
@@ -7,7 +7,7 @@ use Rattle.lru_shard.specs.Shard.{shard}
 use Rattle.lru_shard.specs.Representation.Slots.{held_at}
 use Rattle.lru_shard.specs.Representation.Table.{place_in, look_of, node_of, rows_of}
 use Rattle.lru_shard.proofs.Edits.{without-absent}
-use Rattle.lru_shard.proofs.Kept.{look_none, there, row_in, found_in, kept_same, look_same, forget_none, take_takes, fitted_take, wide_removed}
+use Rattle.lru_shard.proofs.Kept.{look_none, there, row_in, kept_same, look_same, forget_none, take_takes, fitted_take, wide_removed}
 use Rattle.lru_shard.proofs.Tables.{is_live}
 use Rattle.lru_shard.proofs.UnitCalls.{found_row, part, shows_without, unit_without, rows_same, no_times, no_row_there}
 use Rattle.lru_shard.proofs.unit.LruUnit.remove.Goals as goal

@@ -1,4 +1,4 @@
-use Rattle.std.proofs.Common.{refl, sym, ap, subst, arith}
+use Rattle.std.proofs.Common.{sym, ap, subst, arith}
 use Rattle.std.specs.Prelude.{length}
 use Rattle.lru_shard.specs.Representation.Slots.{held_at}
 use Rattle.lru_shard.specs.Representation.Table.{place_in, IsKept}
