@@ -54,7 +54,7 @@ module _ {K : Type 0} where
     pub live_once : (i : ℕ) → times i (indices_of l.live) ≤ 1
     live_once i = omega (arith, all_once i)
 
-    stands_in : (i : ℕ) → 1 ≤ times i (indices_of l.live) + times i (indices_of l.freed) → (2 ≤ i) × (i < made l + 2)
+    pub stands_in : (i : ℕ) → 1 ≤ times i (indices_of l.live) + times i (indices_of l.freed) → (2 ≤ i) × (i < made l + 2)
     stands_in i there = in_range (made l + 2) i (omega (arith, there, numbered i, times-append i (indices_of l.live) (indices_of l.freed)))
 
     pub live_range : (i : ℕ) → IsLive l i → (2 ≤ i) × (i < made l + 2)

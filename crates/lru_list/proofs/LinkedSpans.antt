@@ -101,6 +101,9 @@ module _ {K : Type 0} (ns : List (Node K)) where
           last = λ some. let b = before f (omega (arith, some, length-front)) front_chain in (b.0, shorter ∙ b.1);
         }
 
+    pub last_place : path (nexts ns) (suc n) head ≡ path (nexts ns) n head ++ tail ∷ []
+    last_place = whole ∙ ap (λ ps. ps ++ tail ∷ []) (sym shorter)
+
     pub last_item : (x : K) → slice_get (items ns) tail ≡ Some x → rest_of ns head (suc n) ≡ rest_of ns head n ++ x ∷ []
     last_item x e =
         let f = (h.last (omega arith)).0 in

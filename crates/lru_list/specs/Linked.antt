@@ -23,6 +23,10 @@ no_slot = 4294967295
 abbrev pub most_items : ℕ
 most_items = 4294967293
 
+-- what an index that is given shows
+abbrev pub itself : ℕ → ℕ
+itself i = i
+
 -- how often a number stands in a list
 abbrev pub times : ℕ → List ℕ → ℕ
 times i xs = count_by (λ x. x == i) xs

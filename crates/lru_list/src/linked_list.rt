@@ -10,7 +10,7 @@ ghost use Rattle.std.specs.Borrow.{sem};
 ghost use Rattle.std.specs.Iterator.{at_most, UpTo};
 ghost use Rattle.std.specs.Iterator.SizeHint.{IsWithinCount};
 ghost use Rattle.std.specs.Map.Iter.{TakesFirst, TakesLast, ShowsInOrder, ShowsInReverse, deref};
-ghost use Rattle.lru_list.specs.Linked.{Linked, linked, no_slot, items_of, IsNumbered, IsLive, IsPlace, head_of, tail_of, next_of, prev_of, item_at, pushed_head, pushed_tail, promoted, Pushes, Removes, PopsTail, number_of};
+ghost use Rattle.lru_list.specs.Linked.{Linked, linked, no_slot, items_of, indices_of, itself, IsNumbered, IsLive, IsPlace, head_of, tail_of, next_of, prev_of, item_at, pushed_head, pushed_tail, promoted, Pushes, Removes, PopsTail, number_of};
 ghost use Rattle.lru_list.specs.Representation.Nodes.{nexts, prevs, items, at as link_at, TakesSlot};
 
 use std::alloc::{AllocError, Global};
@@ -467,6 +467,19 @@ impl<K> LinkedList<K> {
             left: self.len,
         }
     }
+
+    /// An iterator over the indices of the items, from head to tail.
+    pub fn indices(&self) -> LinkedListIndices<'_, K>
+        ensures rest { result ≡ indices_of self.now.live }
+    {
+        let nodes = self.nodes.as_slice();
+        LinkedListIndices {
+            nodes,
+            first: nodes[HEAD as usize].next,
+            last: nodes[TAIL as usize].prev,
+            count: self.len,
+        }
+    }
 }
 
 /// An iterator over the items of a list, from head to tail.
@@ -540,3 +553,77 @@ impl<'a, K> ExactSizeIterator for LinkedListIter<'a, K> {
 }
 
 impl<'a, K> FusedIterator for LinkedListIter<'a, K> {}
+
+/// An iterator over the indices of a list's items, from head to tail.
+#[derive(Drop)]
+pub struct LinkedListIndices<'a, K> {
+    nodes: &'a [Node<K>],
+    first: u32,
+    last: u32,
+    count: u32,
+}
+
+impl<'a, K> Model for LinkedListIndices<'a, K> {
+    ghost use Rattle.std.specs.Prelude.{List, ℕ};
+
+    ghost Value = { List ℕ };
+
+    ghost use Rattle.lru_list.specs.Representation.Nodes.{places_of, IsSpan};
+
+    ghost view = { λ it. places_of it.nodes.now it.first it.count };
+
+    ghost invariant = { λ it. IsSpan it.nodes.now it.first it.last it.count };
+}
+
+impl<'a, K> Iterator for LinkedListIndices<'a, K> {
+    type Item = Index;
+
+    ghost next_gives = { TakesFirst itself };
+
+    ghost remaining = { λ rest. at_most (length rest) };
+
+    fn next(&mut self) -> Option<Index> {
+        if self.count == 0 {
+            return None;
+        }
+        let nodes = self.nodes;
+        let index = self.first;
+        let node = &nodes[index as usize];
+        self.first = node.next;
+        self.count -= 1;
+        Some(index as usize)
+    }
+
+    fn size_hint(&self) -> (usize, Option<usize>)
+        ensures lower { IsWithinCount result.0 (at_most (length self.now)) }
+        ensures upper { IfSome result.1 (UpTo (at_most (length self.now))) }
+        ensures exact { result ≡ (length self.now, Some (length self.now)) }
+    {
+        let len = self.len();
+        (len, Some(len))
+    }
+}
+
+impl<'a, K> DoubleEndedIterator for LinkedListIndices<'a, K> {
+    ghost next_back_gives = { TakesLast itself };
+
+    fn next_back(&mut self) -> Option<Index> {
+        if self.count == 0 {
+            return None;
+        }
+        let nodes = self.nodes;
+        let place = self.last;
+        let node = &nodes[place as usize];
+        self.last = node.prev;
+        self.count -= 1;
+        Some(place as usize)
+    }
+}
+
+impl<'a, K> ExactSizeIterator for LinkedListIndices<'a, K> {
+    fn len(&self) -> usize {
+        self.count as usize
+    }
+}
+
+impl<'a, K> FusedIterator for LinkedListIndices<'a, K> {}

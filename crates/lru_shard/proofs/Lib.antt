@@ -1,3 +1,4 @@
+mod Kept
 pub mod Rows
 pub mod Refusals
 pub mod Edits

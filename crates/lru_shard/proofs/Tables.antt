@@ -6,10 +6,10 @@ use Rattle.std.specs.List.{cons_option, list_any}
 use Rattle.std.proofs.lemmas.Bool.{cond_both, eq-eqb, ne_eqb, cases_eq}
 use Rattle.std.proofs.lemmas.List.{map-append}
 use Rattle.std.proofs.lemmas.List.Elements.{filter-append, filter_map-append}
-use Rattle.lru_shard.specs.declared.unit.Node.{Node}
-use Rattle.lru_shard.specs.Row.{Row, row_of, is_held, pair_of, times, with_first, without, weight_of}
+use Rattle.lru_shard.specs.Representation.Table.{Node}
+use Rattle.lru_shard.specs.Row.{Row, row_of, is_held, times, with_first, without, weight_of}
 use Rattle.lru_shard.specs.Shard.{shard, IsShard}
-use Rattle.lru_shard.specs.Representation.Table.{row_at, rows_of, Knows, KnowsAll, Stands, IsTied, IsUnit, pairs_of, FindsAll}
+use Rattle.lru_shard.specs.Representation.Table.{row_at, rows_of, Knows, KnowsAll, Stands, IsTied, IsUnit, FindsAll}
 use Rattle.lru_shard.proofs.Rows.{times-append, times_yes, times_no}
 use Rattle.lru_shard.proofs.Edits.{IsAt, without-at, row_at_key}
 use Rattle.lru_list.proofs.Chains.{times-append as list-times-append, times_here as list-times_here, absent_head, absent_tail}
@@ -71,7 +71,7 @@ stands_without (u ∷ us) vs c p ne (inl e) = inl e
 stands_without (u ∷ us) vs c p ne (inr h) = inr (stands_without us vs c p ne h)
 
 module _ {T : Type 0} where
-  rows-cons : (look : ℕ → Option (Node T)) (p : ℕ × ℕ) (ps : List (ℕ × ℕ)) (n : Node T) → look p.1 ≡ Some n → rows_of look (p ∷ ps) ≡ row_at p.1 n ∷ rows_of look ps
+  pub rows-cons : (look : ℕ → Option (Node T)) (p : ℕ × ℕ) (ps : List (ℕ × ℕ)) (n : Node T) → look p.1 ≡ Some n → rows_of look (p ∷ ps) ≡ row_at p.1 n ∷ rows_of look ps
   rows-cons look p ps n h = ap (λ o. cons_option (option_map (row_at p.1) o) (rows_of look ps)) h
 
   pub rows-append : (look : ℕ → Option (Node T)) (ps qs : List (ℕ × ℕ)) → rows_of look (ps ++ qs) ≡ rows_of look ps ++ rows_of look qs
@@ -186,8 +186,12 @@ module _ {T : Type 0} where
       pub there : IsAt (rows_of look order.live) k (row_at k n)
       there = at_here look order.live k n here
 
+      -- the key stands at its index
+      pub item_here : item_of order.live n.list_index ≡ Some k
+      item_here = ap (λ live. item_of live n.list_index) here.whole ∙ item_middle here.before here.after n.list_index k here.no_index_before
+
       pub is_live : IsLive order n.list_index
-      is_live = let e = ap (λ live. item_of live n.list_index) here.whole ∙ item_middle here.before here.after n.list_index k here.no_index_before in is_some_from (item_of order.live n.list_index) k e
+      is_live = is_some_from (item_of order.live n.list_index) k item_here
 
       pub live-without : list.without order.live n.list_index ≡ here.before ++ here.after
       live-without = ap (λ live. list.without live n.list_index) here.whole ∙ without_middle here.before here.after n.list_index k here.no_index_before here.no_index_after
@@ -357,13 +361,6 @@ module _ {T : Type 0} where
   rows_of-keys look [] = refl
   rows_of-keys look (p ∷ ps) = ap (cons_option (option_map (row_at p.1) (look p.1))) (rows_of-keys look ps)
 
-  pub pairs_of-rows : (look : ℕ → Option (Node T)) (keys : List ℕ) → FindsAll look keys → pairs_of look keys ≡ map pair_of (rows_by look keys)
-  pairs_of-rows look [] h = refl
-  pairs_of-rows look (k ∷ ks) h =
-      ap (λ o. cons_option (option_map (λ (n : Node T). (n.«data», n.weight)) o) (pairs_of look ks)) h.0.1
-      ∙ ap (λ ps. (h.0.0.«data», h.0.0.weight) ∷ ps) (pairs_of-rows look ks h.1)
-      ∙ sym (ap (λ o. map pair_of (cons_option (option_map (row_at k) o) (rows_by look ks))) h.0.1)
-
   -- the keys of the rows in order
   pub keys_of-rows : (look : ℕ → Option (Node T)) (keys : List ℕ) → FindsAll look keys → map (λ (r : Row T). r.key) (rows_by look keys) ≡ keys
   keys_of-rows look [] h = refl
@@ -377,16 +374,6 @@ module _ {T : Type 0} where
   pub finds_split : (look : ℕ → Option (Node T)) (ks : List ℕ) (k : ℕ) → FindsAll look (ks ++ k ∷ []) → FindsAll look ks × ((n : Node T) × (look k ≡ Some n))
   finds_split look [] k h = (tt, h.0)
   finds_split look (x ∷ ks) k h = let m = finds_split look ks k h.1 in ((h.0, m.0), m.1)
-
-  pub pairs_of_push : (look : ℕ → Option (Node T)) (ks : List ℕ) (k : ℕ) (n : Node T) → look k ≡ Some n → pairs_of look (ks ++ k ∷ []) ≡ pairs_of look ks ++ (n.«data», n.weight) ∷ []
-  pairs_of_push look ks k n h =
-      filter_map-append (λ (q : ℕ). option_map (λ (m : Node T). (m.«data», m.weight)) (look q)) ks (k ∷ [])
-      ∙ ap (λ o. pairs_of look ks ++ cons_option (option_map (λ (m : Node T). (m.«data», m.weight)) o) []) h
-
-  pub length-pairs_of : (look : ℕ → Option (Node T)) (ks : List ℕ) → FindsAll look ks → length (pairs_of look ks) ≡ length ks
-  length-pairs_of look [] h = refl
-  length-pairs_of look (k ∷ ks) h =
-      ap (λ o. length (cons_option (option_map (λ (n : Node T). (n.«data», n.weight)) o) (pairs_of look ks))) h.0.1 ∙ omega (arith, length-pairs_of look ks h.1)
 
   pub rows_by_push : (look : ℕ → Option (Node T)) (ks : List ℕ) (k : ℕ) (n : Node T) → look k ≡ Some n → rows_by look (ks ++ k ∷ []) ≡ rows_by look ks ++ row_at k n ∷ []
   rows_by_push look ks k n h =

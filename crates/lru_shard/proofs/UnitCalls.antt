@@ -2,7 +2,7 @@
 use Rattle.std.proofs.Common.{◌≡◌, ℕ, ◌+◌, ◌-◌, ◌<◌, ◌≤◌, true, false, cond, eqb, List, [], ◌∷◌, ◌++◌, length, Some, None, Ok, Err, refl, sym, ap, ◌∙◌, arith, subst, inl, inr}
 use Rattle.std.specs.Prelude.{Option, Result, option_map, is_some, max}
 use Rattle.std.proofs.lemmas.Bool.{true≢false, false≢true, cond-true, cond-false, eq-eqb, ne_eqb, cases_eq, cases_Bool, cond_both, leb-false}
-use Rattle.lru_shard.specs.declared.unit.Node.{Node}
+use Rattle.lru_shard.specs.Representation.Table.{Node}
 use Rattle.lru_shard.specs.declared.unit.Cause.{Cause}
 use Rattle.lru_shard.specs.declared.unit.Cause.TheVariants.{Memory, Weight, Length}
 use Rattle.lru_list.specs.declared.linked_list.PushError.{PushError}
@@ -34,17 +34,17 @@ pub refused_push : {K : Type 0} (old pushed : Linked K) (x : K) (e : PushError K
 refused_push old pushed x (NoMemory y) new h = h.3
 refused_push old pushed x (Full y) new h = h.2
 
+pub there_is : {A : Type 0} (o : Option A) → is_some o ≡ true → (n : A) × (o ≡ Some n)
+there_is None h = absurd (false≢true h)
+there_is (Some n) h = (n, refl)
+
+pub not_there : {A : Type 0} (o : Option A) → is_some o ≡ false → o ≡ None
+not_there None h = refl
+not_there (Some n) h = absurd (true≢false h)
+
 module _ {T : Type 0} where
   pub tailed_same : (rows : List (Row T)) (k : ℕ) (r : Row T) → row_of rows k ≡ Some r → (d : T) (w : ℕ) → tailed rows k d w ≡ rows
   tailed_same rows k r h d w = ap (λ o. cond (is_some o) rows (with_last rows (row k d w))) h
-
-  pub there_is : (o : Option (Node T)) → is_some o ≡ true → (n : Node T) × (o ≡ Some n)
-  there_is None h = absurd (false≢true h)
-  there_is (Some n) h = (n, refl)
-
-  pub not_there : (o : Option (Node T)) → is_some o ≡ false → o ≡ None
-  not_there None h = refl
-  not_there (Some n) h = absurd (true≢false h)
 
   -- the table after a node is put at a key
   abbrev pub Puts : ℕ → Node T → (ℕ → Option (Node T)) → (ℕ → Option (Node T)) → Type 0

@@ -1,12 +1,11 @@
 //! One shard: rows in the order of their last use, under a cap on their weight.
-ghost use Rattle.std.specs.Prelude.{◌≡◌, ℕ, ◌+◌, ◌<◌, cond, nat_eq, eqb, length, Some, None, IsTrue};
-ghost use Rattle.std.specs.HashMap as hash;
+ghost use Rattle.std.specs.Prelude.{◌≡◌, ◌+◌, length, Some, None};
 ghost use Rattle.lru_shard.specs.Shard.{number_of};
 ghost use Rattle.lru_shard.specs.Unit.{raised, started};
 
-use lru_list::linked_list::{Index, LinkedList, LinkedListIter, MOST_ITEMS};
+use crate::slots::{Held, Rows};
+use lru_list::linked_list::{LinkedList, LinkedListIndices, LinkedListIter, MOST_ITEMS};
 use std::alloc::{AllocError, Global};
-use std::collections::HashMap;
 use std::iter::FusedIterator;
 use std::marker::Model;
 
@@ -48,34 +47,6 @@ impl<D> Refused<D> {
     }
 }
 
-// What the table holds of a key: its data, its place in the order, and its weight.
-#[derive(Drop)]
-struct Node<T> {
-    data: T,
-    list_index: Index,
-    weight: usize,
-}
-
-// Makes room for one more node. Where that is refused, nothing changes.
-fn make_room<T>(table: &mut HashMap<u64, Node<T>>) -> bool
-    ensures room { IsTrue result → 0 < hash.spare table.new }
-    ensures same { (k : ℕ) → hash.get nat_eq table.new k ≡ hash.get nat_eq table.old k }
-{
-    table.reserve(1).is_ok()
-}
-
-// Puts the node of a new key into the room that was made for it.
-#[inline(always)]
-fn put_node<T: Drop>(table: &mut HashMap<u64, Node<T>>, key: u64, node: Node<T>)
-    requires { 0 < hash.spare table.old }
-    ensures { (k : ℕ) → hash.get nat_eq table.new k ≡ cond (eqb key k) (Some node) (hash.get nat_eq table.old k) }
-{
-    match table.insert(key, node) {
-        Ok(_) => {}
-        Err(_) => unreachable!(),
-    }
-}
-
 // The weight of a row that is there, with `delta` added.
 fn raised(weight: usize, delta: usize, max_weight: Option<usize>) -> usize
     ensures { result ≡ raised weight delta max_weight }
@@ -103,26 +74,24 @@ fn started(delta: usize, max_weight: Option<usize>) -> usize
 /// Only `with_capacity`, `reserve` and a call that makes a row for a missing key take memory.
 #[derive(Drop)]
 pub struct LruUnit<T> {
-    lookup_table: HashMap<u64, Node<T>>,
+    rows: Rows<T>,
     order: LinkedList<u64>,
     used_weight: usize,
     cap: usize,
 }
 
 impl<T> Model for LruUnit<T> {
-    ghost use Rattle.std.specs.Prelude.{nat_eq};
-    ghost use Rattle.std.specs.HashMap as hash;
     ghost use Rattle.lru_shard.specs.Shard.{Shard, shard, shard_code};
 
     ghost Value = { Shard T };
 
     ghost coded = { shard_code T.code };
 
-    ghost use Rattle.lru_shard.specs.Representation.Table.{rows_of, IsUnit};
+    ghost use Rattle.lru_shard.specs.Representation.Table.{place_in, look_of, rows_of, IsKept};
 
-    ghost view = { λ u. shard (rows_of (hash.get nat_eq u.lookup_table) u.order.live) u.cap };
+    ghost view = { λ u. shard (rows_of (look_of u.rows) u.order.live) u.cap };
 
-    ghost invariant = { λ u. IsUnit (hash.get nat_eq u.lookup_table) u.order u.used_weight u.cap };
+    ghost invariant = { λ u. IsKept (place_in u.rows) u.rows.slots.items u.order u.used_weight u.cap };
 }
 
 impl<T> LruUnit<T> {
@@ -140,7 +109,7 @@ impl<T> LruUnit<T> {
         ensures { IfOk result (λ unit. unit ≡ shard [] cap) }
     {
         Ok(LruUnit {
-            lookup_table: HashMap::with_capacity(alloc, capacity)?,
+            rows: Rows::with_capacity(alloc, capacity)?,
             order: LinkedList::with_capacity(alloc, capacity)?,
             used_weight: 0,
             cap,
@@ -151,7 +120,7 @@ impl<T> LruUnit<T> {
     pub fn reserve(&mut self, additional: usize) -> Result<(), AllocError>
         ensures { self.new ≡ self.old }
     {
-        self.lookup_table.reserve(additional)?;
+        self.rows.reserve(additional)?;
         self.order.reserve(additional)
     }
 
@@ -176,8 +145,8 @@ impl<T> LruUnit<T> {
         ensures { result ≡ map pair_of self.now.rows }
     {
         LruUnitIter {
-            keys: self.order.iter(),
-            lookup_table: &self.lookup_table,
+            places: self.order.indices(),
+            rows: &self.rows,
         }
     }
 
@@ -185,27 +154,25 @@ impl<T> LruUnit<T> {
     pub fn peek(&self, key: u64) -> Option<&T>
         ensures { option_copied result ≡ option_map (λ r. r.value) (row_of self.now.rows key) }
     {
-        let node = self.lookup_table.get(&key)?;
-        Some(&node.data)
+        let place = self.rows.place_of(key)?;
+        Some(&self.rows.held(place).data)
     }
 
     /// The weight of a key.
     pub fn peek_weight(&self, key: u64) -> Option<usize>
         ensures { result ≡ option_map (λ r. r.weight) (row_of self.now.rows key) }
     {
-        let node = self.lookup_table.get(&key)?;
-        Some(node.weight)
+        let place = self.rows.place_of(key)?;
+        Some(self.rows.held(place).weight)
     }
 
     /// The data and the weight of the row that was used longest ago.
     pub fn peek_lru(&self) -> Option<(&T, usize)>
         ensures { option_map shown result ≡ option_map pair_of (last_row self.now.rows) }
     {
-        let key = self.order.iter().next_back()?;
-        let Some(node) = self.lookup_table.get(key) else {
-            unreachable!()
-        };
-        Some((&node.data, node.weight))
+        let place = self.order.tail()?;
+        let held = self.rows.held(place);
+        Some((&held.data, held.weight))
     }
 
     /// The key of the row that was used longest ago.
@@ -235,11 +202,10 @@ impl<T> LruUnit<T> {
         ensures answer { result ≡ is_held self.old.rows key }
         ensures rows { self.new ≡ shard (accessed self.old.rows key) self.old.cap }
     {
-        let Some(node) = self.lookup_table.get(&key) else {
+        let Some(place) = self.rows.place_of(key) else {
             return false;
         };
-        let index = node.list_index;
-        self.order.promote(index);
+        self.order.promote(place);
         true
     }
 
@@ -276,17 +242,15 @@ impl<T: Drop> LruUnit<T> {
     pub fn admit(&mut self, key: u64, data: T, weight: usize) -> Result<usize, Refused<T>>
         ensures { Admits self.old key «data» weight result self.new }
     {
-        let Some(node) = self.lookup_table.get_mut(&key) else {
+        let Some(place) = self.rows.place_of(key) else {
             return self.admit_new(key, data, weight);
         };
-        let old = node.weight;
+        let old = self.rows.held(place).weight;
         if weight > self.cap - (self.used_weight - old) {
             return Err(Refused::new(Cause::Weight, data));
         }
-        node.data = data;
-        node.weight = weight;
-        let index = node.list_index;
-        self.order.promote(index);
+        self.rows.write(place, Held { data, weight });
+        self.order.promote(place);
         self.used_weight = self.used_weight - old + weight;
         Ok(old)
     }
@@ -299,18 +263,14 @@ impl<T: Drop> LruUnit<T> {
         if let Some(cause) = self.refusal_of_new(weight) {
             return Err(Refused::new(cause, data));
         }
-        if !make_room(&mut self.lookup_table) {
+        let len = self.order.len();
+        if !self.rows.make_room(len) {
             return Err(Refused::new(Cause::Memory, data));
         }
-        let Ok(list_index) = self.order.push_head(key) else {
+        let Ok(place) = self.order.push_head(key) else {
             return Err(Refused::new(Cause::Memory, data));
         };
-        let node = Node {
-            data,
-            list_index,
-            weight,
-        };
-        put_node(&mut self.lookup_table, key, node);
+        self.rows.put(key, place, Held { data, weight });
         self.used_weight += weight;
         Ok(0)
     }
@@ -323,24 +283,20 @@ impl<T: Drop> LruUnit<T> {
     pub fn insert_tail(&mut self, key: u64, data: T, weight: usize) -> Result<bool, Refused<T>>
         ensures { InsertsTail self.old key «data» weight result self.new }
     {
-        if self.lookup_table.contains_key(&key) {
+        if self.rows.place_of(key).is_some() {
             return Ok(false);
         }
         if let Some(cause) = self.refusal_of_new(weight) {
             return Err(Refused::new(cause, data));
         }
-        if !make_room(&mut self.lookup_table) {
+        let len = self.order.len();
+        if !self.rows.make_room(len) {
             return Err(Refused::new(Cause::Memory, data));
         }
-        let Ok(list_index) = self.order.push_tail(key) else {
+        let Ok(place) = self.order.push_tail(key) else {
             return Err(Refused::new(Cause::Memory, data));
         };
-        let node = Node {
-            data,
-            list_index,
-            weight,
-        };
-        put_node(&mut self.lookup_table, key, node);
+        self.rows.put(key, place, Held { data, weight });
         self.used_weight += weight;
         Ok(true)
     }
@@ -362,21 +318,20 @@ impl<T: Drop> LruUnit<T> {
         requires { F.IsAlwaysCallable admit_data }
         ensures { IncrementsWeight (F.post admit_data) self.old key delta max_weight result self.new }
     {
-        let Some(node) = self.lookup_table.get_mut(&key) else {
+        let Some(place) = self.rows.place_of(key) else {
             let weight = started(delta, max_weight);
             if let Err(cause) = self.admit_made(key, admit_data, weight) {
                 return Err(cause);
             }
             return Ok((0, weight, true));
         };
-        let old = node.weight;
+        let old = self.rows.held(place).weight;
         let weight = raised(old, delta, max_weight);
         if weight > self.cap - (self.used_weight - old) {
             return Err(Cause::Weight);
         }
-        node.weight = weight;
-        let index = node.list_index;
-        self.order.promote(index);
+        self.rows.set_weight(place, weight);
+        self.order.promote(place);
         self.used_weight = self.used_weight - old + weight;
         Ok((old, weight, false))
     }
@@ -395,18 +350,15 @@ impl<T: Drop> LruUnit<T> {
         if let Some(cause) = self.refusal_of_new(weight) {
             return Err(cause);
         }
-        if !make_room(&mut self.lookup_table) {
+        let len = self.order.len();
+        if !self.rows.make_room(len) {
             return Err(Cause::Memory);
         }
-        let Ok(list_index) = self.order.push_head(key) else {
+        let Ok(place) = self.order.push_head(key) else {
             return Err(Cause::Memory);
         };
-        let node = Node {
-            data: admit_data(),
-            list_index,
-            weight,
-        };
-        put_node(&mut self.lookup_table, key, node);
+        let data = admit_data();
+        self.rows.put(key, place, Held { data, weight });
         self.used_weight += weight;
         Ok(())
     }
@@ -432,17 +384,16 @@ impl<T: Drop> LruUnit<T> {
         requires admit_data { A.IsAlwaysCallable admit_data }
         ensures { UpdatesOrAdmits (Updates (U.post update)) (A.post admit_data) self.old key result self.new }
     {
-        let Some(node) = self.lookup_table.get_mut(&key) else {
+        let Some(place) = self.rows.place_of(key) else {
             return self.admit_given(key, admit_data);
         };
-        let old = node.weight;
-        let weight = update(&mut node.data, old).max(1);
+        let old = self.rows.held(place).weight;
+        let weight = self.rows.update(place, update).max(1);
         if weight > self.cap - (self.used_weight - old) {
             return Err(Refused::new(Cause::Weight, None));
         }
-        node.weight = weight;
-        let index = node.list_index;
-        self.order.promote(index);
+        self.rows.set_weight(place, weight);
+        self.order.promote(place);
         self.used_weight = self.used_weight - old + weight;
         Ok((Some(old), weight))
     }
@@ -461,24 +412,20 @@ impl<T: Drop> LruUnit<T> {
         if self.is_full() {
             return Err(Refused::new(Cause::Length, None));
         }
-        if !make_room(&mut self.lookup_table) {
+        let len = self.order.len();
+        if !self.rows.make_room(len) {
             return Err(Refused::new(Cause::Memory, None));
         }
-        let Ok(list_index) = self.order.push_head(key) else {
+        let Ok(place) = self.order.push_head(key) else {
             return Err(Refused::new(Cause::Memory, None));
         };
         let (data, given) = admit_data();
         let weight = given.max(1);
         if weight > self.cap - self.used_weight {
-            self.order.remove(list_index);
+            self.order.remove(place);
             return Err(Refused::new(Cause::Weight, Some((data, given))));
         }
-        let node = Node {
-            data,
-            list_index,
-            weight,
-        };
-        put_node(&mut self.lookup_table, key, node);
+        self.rows.put(key, place, Held { data, weight });
         self.used_weight += weight;
         Ok((None, weight))
     }
@@ -490,14 +437,14 @@ impl<T: Drop> LruUnit<T> {
     pub fn set_weight(&mut self, key: u64, weight: usize) -> Result<Option<usize>, Cause>
         ensures { SetsWeight self.old key weight result self.new }
     {
-        let Some(node) = self.lookup_table.get_mut(&key) else {
+        let Some(place) = self.rows.place_of(key) else {
             return Ok(None);
         };
-        let old = node.weight;
+        let old = self.rows.held(place).weight;
         if weight > self.cap - (self.used_weight - old) {
             return Err(Cause::Weight);
         }
-        node.weight = weight;
+        self.rows.set_weight(place, weight);
         self.used_weight = self.used_weight - old + weight;
         Ok(Some(old))
     }
@@ -507,12 +454,9 @@ impl<T: Drop> LruUnit<T> {
         ensures answer { result ≡ option_map pair_of (row_of self.old.rows key) }
         ensures rows { self.new ≡ shard (without self.old.rows key) self.old.cap }
     {
-        let Node {
-            data,
-            list_index,
-            weight,
-        } = self.lookup_table.remove(&key)?;
-        self.order.remove(list_index);
+        let place = self.rows.forget(key)?;
+        let Held { data, weight } = self.rows.take(place);
+        self.order.remove(place);
         self.used_weight -= weight;
         Some((data, weight))
     }
@@ -532,7 +476,8 @@ impl<T: Drop> LruUnit<T> {
         if let Some(cause) = self.refusal_of_new(weight) {
             return Err(cause);
         }
-        if !make_room(&mut self.lookup_table) {
+        let len = self.order.len();
+        if !self.rows.make_room(len) {
             return Err(Cause::Memory);
         }
         let Ok(place) = self.order.push_head(key) else {
@@ -541,12 +486,7 @@ impl<T: Drop> LruUnit<T> {
         let Some((data, _)) = from.remove(key) else {
             unreachable!()
         };
-        let node = Node {
-            data,
-            list_index: place,
-            weight,
-        };
-        put_node(&mut self.lookup_table, key, node);
+        self.rows.put(key, place, Held { data, weight });
         self.used_weight += weight;
         Ok(Some(weight))
     }
@@ -557,14 +497,10 @@ impl<T: Drop> LruUnit<T> {
         ensures rows { self.new ≡ shard (without_last self.old.rows) self.old.cap }
     {
         let key = self.order.pop_tail()?;
-        let Some(node) = self.lookup_table.remove(&key) else {
+        let Some(place) = self.rows.forget(key) else {
             unreachable!()
         };
-        let Node {
-            data,
-            list_index: _,
-            weight,
-        } = node;
+        let Held { data, weight } = self.rows.take(place);
         self.used_weight -= weight;
         Some((data, weight))
     }
@@ -573,20 +509,19 @@ impl<T: Drop> LruUnit<T> {
 /// The data and the weight of each row that is left to give, most recent first.
 #[derive(Drop)]
 pub struct LruUnitIter<'a, T> {
-    keys: LinkedListIter<'a, u64>,
-    lookup_table: &'a HashMap<u64, Node<T>>,
+    places: LinkedListIndices<'a, u64>,
+    rows: &'a Rows<T>,
 }
 
 impl<'a, T> Model for LruUnitIter<'a, T> {
-    ghost use Rattle.std.specs.Prelude.{List, ℕ, nat_eq};
-    ghost use Rattle.std.specs.HashMap as hash;
-    ghost use Rattle.lru_shard.specs.Representation.Table.{pairs_of, FindsAll};
+    ghost use Rattle.std.specs.Prelude.{List, ℕ};
+    ghost use Rattle.lru_shard.specs.Representation.Slots.{pairs_at, HoldsAll};
 
     ghost Value = { List (T × ℕ) };
 
-    ghost view = { λ i. pairs_of (hash.get nat_eq i.lookup_table.now) i.keys };
+    ghost view = { λ i. pairs_at i.rows.now.slots.items i.places };
 
-    ghost invariant = { λ i. FindsAll (hash.get nat_eq i.lookup_table.now) i.keys };
+    ghost invariant = { λ i. HoldsAll i.rows.now.slots.items i.places };
 }
 
 impl<'a, T> Iterator for LruUnitIter<'a, T> {
@@ -603,11 +538,9 @@ impl<'a, T> Iterator for LruUnitIter<'a, T> {
     ghost remaining = { λ rest. at_most (length rest) };
 
     fn next(&mut self) -> Option<(&'a T, usize)> {
-        let key = self.keys.next()?;
-        let Some(node) = self.lookup_table.get(key) else {
-            unreachable!()
-        };
-        Some((&node.data, node.weight))
+        let place = self.places.next()?;
+        let held = self.rows.held(place);
+        Some((&held.data, held.weight))
     }
 
     fn size_hint(&self) -> (usize, Option<usize>)
@@ -615,7 +548,7 @@ impl<'a, T> Iterator for LruUnitIter<'a, T> {
         ensures upper { IfSome result.1 (UpTo (at_most (length self.now))) }
         ensures exact { result ≡ (length self.now, Some (length self.now)) }
     {
-        self.keys.size_hint()
+        self.places.size_hint()
     }
 }
 
@@ -626,17 +559,15 @@ impl<'a, T> DoubleEndedIterator for LruUnitIter<'a, T> {
     ghost next_back_gives = { TakesLast shown };
 
     fn next_back(&mut self) -> Option<(&'a T, usize)> {
-        let key = self.keys.next_back()?;
-        let Some(node) = self.lookup_table.get(key) else {
-            unreachable!()
-        };
-        Some((&node.data, node.weight))
+        let place = self.places.next_back()?;
+        let held = self.rows.held(place);
+        Some((&held.data, held.weight))
     }
 }
 
 impl<'a, T> ExactSizeIterator for LruUnitIter<'a, T> {
     fn len(&self) -> usize {
-        self.keys.len()
+        self.places.len()
     }
 }
 

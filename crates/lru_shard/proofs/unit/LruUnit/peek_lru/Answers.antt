@@ -1,34 +1,37 @@
-use Rattle.std.proofs.Common.{◌≡◌, Some, None, sym, ap, ◌∙◌, subst, rules}
-use Rattle.std.specs.Prelude.{nat_eq, option_map}
-use Rattle.std.specs.HashMap as hash
-use Rattle.lru_shard.specs.Row.{pair_of, last_row}
-use Rattle.lru_shard.specs.Representation.Table.{row_at, FindsAll}
-use Rattle.lru_shard.proofs.Edits.{last_row_push}
-use Rattle.lru_shard.proofs.Tables.{rows_of-keys, rows_by, finds_all, finds_split, rows_by_push}
+use Rattle.std.proofs.Common.{◌≡◌, Some, sym, ap, ◌∙◌, rules}
+use Rattle.std.specs.Prelude.{is_some}
+use Rattle.lru_list.proofs.LinkedModels.{last_item, no_tail}
+use Rattle.lru_shard.specs.declared.slots.Held.{Held}
+use Rattle.lru_shard.specs.Representation.Slots.{held}
+use Rattle.lru_shard.specs.Representation.Table.{place_in, look_of, rows_of}
+use Rattle.lru_shard.proofs.Kept.{holds_known}
+use Rattle.lru_shard.proofs.Tables.{last_found}
+use Rattle.lru_shard.proofs.UnitCalls.{answer_evicted}
 use Rattle.lru_shard.proofs.unit.LruUnit.peek_lru.Goals as goal
 
-pub returns-in_err-key : goal.returns-in_err-key
-returns-in_err-key g c =
+pub returns-in_err-place : goal.returns-in_err-place
+returns-in_err-place g c =
     let i = c.self.inside in
-    let look = hash.get nat_eq i.lookup_table in
-    let none = sym c.iter.ensures.rest ∙ c.in_err-key.ensures.steps.0 in
-    rw (← c.self.view_is) (rw (rows_of-keys look i.order.live ∙ ap (rows_by look) none) (search rules))
+    let none = no_tail i.order (sym c.in_err-place.ensures.index) in
+    rw (← c.self.view_is) (rw (ap (rows_of (look_of i.rows)) none) (search rules))
 
-pub unreachable-requires : goal.unreachable-requires
-unreachable-requires g c =
+pub held-held-requires : goal.held-held-requires
+held-held-requires g c =
     let i = c.self.inside in
-    let look = hash.get nat_eq i.lookup_table in
-    let keys = sym c.iter.ensures.rest ∙ c.in_ok-key.ensures.steps in
-    let split = finds_split look c.next_back.new.self c.in_ok-key.key.now (subst (FindsAll look) keys (finds_all look i.order.live c.self.invariant.tied.known)) in
-    let bad : None ≡ Some split.1.0 = c.in_default.ensures.value ∙ split.1.1 in cc
+    let look = look_of i.rows in
+    let last = last_item i.order c.in_ok-place.place c.self.invariant.unit.numbered (sym c.in_ok-place.ensures.index) in
+    let found = last_found look i.order i.used_weight i.cap c.self.invariant.unit last.rest c.in_ok-place.place last.item last.live_is in
+    let held_is = holds_known i.rows.slots.items (place_in i.rows) (c.in_ok-place.place, last.item) (record { node = found.0; found = found.1.0; place = found.1.1 }) in
+    ap is_some held_is
 
 pub returns : goal.returns
 returns g c =
     let i = c.self.inside in
-    let look = hash.get nat_eq i.lookup_table in
-    let keys = sym c.iter.ensures.rest ∙ c.in_ok-key.ensures.steps in
-    let split = finds_split look c.next_back.new.self c.in_ok-key.key.now (subst (FindsAll look) keys (finds_all look i.order.live c.self.invariant.tied.known)) in
-    let node = c.in-Some.node.now in
-    rw (← c.self.view_is) (sym (ap (λ rows. option_map pair_of (last_row rows))
-    (rows_of-keys look i.order.live ∙ ap (rows_by look) keys ∙ rows_by_push look c.next_back.new.self c.in_ok-key.key.now node (sym c.in-Some.ensures.value))
-    ∙ ap (option_map pair_of) (last_row_push (rows_by look c.next_back.new.self) (row_at c.in_ok-key.key.now node))))
+    let look = look_of i.rows in
+    let last = last_item i.order c.in_ok-place.place c.self.invariant.unit.numbered (sym c.in_ok-place.ensures.index) in
+    let found = last_found look i.order i.used_weight i.cap c.self.invariant.unit last.rest c.in_ok-place.place last.item last.live_is in
+    let held_is = holds_known i.rows.slots.items (place_in i.rows) (c.in_ok-place.place, last.item) (record { node = found.0; found = found.1.0; place = found.1.1 }) in
+    let both : Some c.held-held.result.now ≡ Some (held found.0.«data» found.0.weight) = sym c.held-held.ensures ∙ held_is in
+    let same : c.held-held.result.now ≡ held found.0.«data» found.0.weight = cc in
+    rw (← c.self.view_is) (ap (λ (h : Held g.row.T.Denot). Some (h.«data», h.weight)) same
+    ∙ answer_evicted look i.order i.used_weight i.cap c.self.invariant.unit last.rest c.in_ok-place.place last.item last.live_is found.0 found.1.0)

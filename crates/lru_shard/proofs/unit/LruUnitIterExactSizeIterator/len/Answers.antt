@@ -1,11 +1,8 @@
 use Rattle.std.proofs.Common.{sym, ◌∙◌}
-use Rattle.std.specs.Prelude.{nat_eq}
-use Rattle.std.specs.HashMap as hash
-use Rattle.lru_shard.proofs.Tables.{length-pairs_of}
+use Rattle.lru_shard.proofs.Kept.{length-pairs}
 use Rattle.lru_shard.proofs.unit.LruUnitIterExactSizeIterator.len.Goals as goal
 
 pub returns-clause-value : goal.returns-clause-value
 returns-clause-value g c =
     let i = c.self.inside in
-    let look = hash.get nat_eq i.lookup_table.now in
-    rw (← c.self.view_is) (c.len.ensures.value ∙ sym (length-pairs_of look i.keys c.self.invariant))
+    rw (← c.self.view_is) (c.len.ensures.value ∙ sym (length-pairs i.rows.now.slots.items i.places c.self.invariant))
