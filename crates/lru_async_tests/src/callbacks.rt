@@ -5,6 +5,10 @@ use lru_world::callback::{AsyncEvictionCallback, Gate};
 use std::sync::atomic::{AtomicBool, AtomicUsize, Ordering};
 use std::thread;
 
+/// How often one looks for what another thread does, with a yield each: far more often than it takes, also on a busy
+/// machine.
+pub const LOOKS: u32 = 10_000_000;
+
 /// A callback that does nothing.
 #[derive(Drop)]
 pub struct Quiet;
@@ -17,7 +21,7 @@ impl<K: Drop> AsyncEvictionCallback<K> for Quiet {
 
 /// Whether a flag is raised soon.
 pub fn is_raised(flag: &AtomicBool) -> bool {
-    for _ in 0..1_000_000u32 {
+    for _ in 0..LOOKS {
         if flag.load(Ordering::SeqCst) {
             return true;
         }
@@ -135,7 +139,7 @@ impl AsyncEvictionCallback<u64> for Meeting {
 
     fn call(&self, _key: u64, _weight: usize) {
         self.calls.fetch_add(1, Ordering::SeqCst);
-        for _ in 0..1_000_000u32 {
+        for _ in 0..LOOKS {
             if self.calls.load(Ordering::SeqCst) == 2 {
                 self.met.fetch_add(1, Ordering::SeqCst);
                 return;
