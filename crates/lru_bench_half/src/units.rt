@@ -39,7 +39,7 @@ impl Order for Unit {
     }
 
     fn peek(&self, key: u64) -> bool {
-        self.unit.peek(key).is_some()
+        self.unit.contains(key)
     }
 
     fn peek_weight(&self, key: u64) -> bool {

@@ -230,7 +230,7 @@ impl<T, const N: usize> LruCore<T, N> {
     {
         let _units = &self.units;
         let shard = (key % N as u64) as usize;
-        self.units[shard].peek(key).is_some()
+        self.units[shard].contains(key)
     }
 
     /// The weight of a key.

@@ -68,6 +68,21 @@ fn iterates_from_both_ends(rt: HostRuntime) -> Result<(), Fail> {
 }
 
 #[test]
+fn tells_its_indices_from_both_ends(rt: HostRuntime) -> Result<(), Fail> {
+    let mut list = LinkedListU64::with_capacity(rt.alloc(), 0)?;
+    list.push_head(7)?;
+    list.push_tail(8)?;
+    list.push_head(9)?;
+    let mut indices = list.indices();
+    assert_eq!(rt;
+        (indices.next(), indices.next_back(), indices.len()),
+        (Some(4), Some(3), 1)
+    );
+    assert_eq!(rt; (indices.next_back(), indices.next()), (Some(2), None));
+    Ok(())
+}
+
+#[test]
 fn uses_a_freed_slot_again(rt: HostRuntime) -> Result<(), Fail> {
     let mut list = LinkedListU64::with_capacity(rt.alloc(), 0)?;
     assert_eq!(rt; list.push_head(1)?, 2);

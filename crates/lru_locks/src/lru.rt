@@ -61,7 +61,7 @@ impl<T, const N: usize> Locked<T, N> {
     fn holds(&self, key: u64) -> bool
         ensures { result ≡ is_held self.now.unit.rows key }
     {
-        self.unit.peek(key).is_some()
+        self.unit.contains(key)
     }
 
     #[tactic(auto, using(crate::proofs::LruCaps::row_weight_light))]

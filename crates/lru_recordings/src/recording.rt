@@ -65,7 +65,7 @@ fn promote_past<T>(unit: &mut LruUnit<T>, key: u64, top: usize) -> bool
 fn holds<T>(unit: &LruUnit<T>, key: u64) -> bool
     ensures { result ≡ is_held unit.now.rows key }
 {
-    unit.peek(key).is_some()
+    unit.contains(key)
 }
 
 // The data, cloned, and the weight of the last row.

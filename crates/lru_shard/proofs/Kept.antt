@@ -5,14 +5,14 @@ use Rattle.std.proofs.lemmas.Bool.{cond-true, cond-false, eq-eqb, ne_eqb, cases_
 use Rattle.std.proofs.lemmas.List.{get_or-set_same, get_or-set_other, length-set}
 use Rattle.std.proofs.lemmas.List.Elements.{filter_map-append}
 use Rattle.std.specs.List.{cons_option}
-use Rattle.lru_shard.specs.Row.{pair_of}
+use Rattle.lru_shard.specs.Row.{pair_of, is_held}
 use Rattle.lru_shard.specs.declared.slots.Held.{Held}
 use Rattle.lru_shard.specs.Representation.Slots.{held, held_at, pairs_at, HoldsAll}
 use Rattle.lru_shard.specs.Representation.Table.{Node, node_of, node_in, look_in, rows_of, Knows, KnowsAll, IsFitted, IsKept}
 use Rattle.lru_shard.specs.Shard.{size_of, and_row, refusal, is_full, most_rows}
 use Rattle.lru_shard.proofs.Refusals.{allowed_short}
 use Rattle.lru_shard.proofs.Tables.{rows-cons, long, unit_moved, IsHere, item_here, here, live-without, live-promoted}
-use Rattle.lru_shard.proofs.UnitCalls.{Puts, Takes, unit_same, unit_new, unit_tail}
+use Rattle.lru_shard.proofs.UnitCalls.{no_row_there, found_row, Puts, Takes, unit_same, unit_new, unit_tail}
 use Rattle.lru_list.specs.Linked as list
 use Rattle.lru_list.specs.Linked.{Linked, linked, indices_of, item_of, promoted, pushed_head, pushed_tail, removed, next_slot, made, IsNumbered}
 use Rattle.lru_list.proofs.Chains.{times_here}
@@ -397,3 +397,13 @@ module _ {T : Type 0} where
             ap (λ (o : Linked ℕ). length o.live) is,
           ));
         }
+
+    -- a key has a row where it has a place
+    pub held_at_place : (k : ℕ) → is_some (place k) ≡ is_held (rows_of (look_in place slots) order.live) k
+    held_at_place k = go (place k) refl
+      where
+        go : (o : Option ℕ) → place k ≡ o → is_some (place k) ≡ is_held (rows_of (look_in place slots) order.live) k
+        go None e = ap is_some e ∙ sym (ap is_some (no_row_there (look_in place slots) order used cap kept.unit k (look_none place slots k e)))
+        go (Some i) e =
+            let row = row_in place slots order used cap kept k i e in
+            ap is_some e ∙ sym (ap is_some (found_row (look_in place slots) order used cap kept.unit k (node_of i row.0) (found_in place slots order used cap kept k i e)))

@@ -150,6 +150,13 @@ impl<T> LruUnit<T> {
         }
     }
 
+    /// Whether a key has a row. No row is read for it, as `peek` does.
+    pub fn contains(&self, key: u64) -> bool
+        ensures { result ≡ is_held self.now.rows key }
+    {
+        self.rows.place_of(key).is_some()
+    }
+
     /// The data of a key.
     pub fn peek(&self, key: u64) -> Option<&T>
         ensures { option_copied result ≡ option_map (λ r. r.value) (row_of self.now.rows key) }
