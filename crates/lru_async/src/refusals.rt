@@ -35,7 +35,7 @@ impl<T: Drop> SendRefused<T> {
     }
 }
 
-/// Why nothing was built. Threads that were started are stopped and joined.
+/// Why nothing was built. Threads that were started are told to stop, and have ended their work.
 #[derive(Clone, Copy, Debug, PartialEq, Eq)]
 pub enum BuildError {
     /// Number 1: there was no memory.
