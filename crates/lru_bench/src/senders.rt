@@ -15,7 +15,12 @@ use std::{io, thread};
 
 const ROWS: u32 = 50_000;
 
-const CALLS: usize = 200_000;
+// How many calls a row makes; fewer where their time does not count.
+fn calls_of(watch: Watch) -> usize
+    ensures { 0 < result }
+{
+    if watch.is_timed { 200_000 } else { 20_000 }
+}
 
 /// A callback that does nothing.
 #[derive(Drop)]
@@ -110,8 +115,9 @@ fn time<O: Order, R: Print + Clock + Threads + Wait + Sync>(
     work: Work,
     senders: usize,
 ) -> io::Result<()> {
-    let trace = trace::keys(alloc, Draw::Uniform, 13, ROWS, CALLS)?;
-    let calls = (CALLS / senders.max(1)).max(1);
+    let all = calls_of(watch);
+    let trace = trace::keys(alloc, Draw::Uniform, 13, ROWS, all)?;
+    let calls = (all / senders.max(1)).max(1);
     for key in 0..ROWS as u64 {
         if !order.admit(rt, key) {
             return Err(io::Error::from(io::ErrorKind::OutOfMemory));
@@ -131,7 +137,7 @@ fn time<O: Order, R: Print + Clock + Threads + Wait + Sync>(
         .iter()
         .fold(0usize, |sum, count| sum.wrapping_add(*count));
     let what = format!(in alloc; "{name}, senders = {senders}, {}", work.name())?;
-    watch.tell(rt, what.as_str(), count, CALLS, start)
+    watch.tell(rt, what.as_str(), count, all, start)
 }
 
 // An order whose actors evict beyond so many rows.
