@@ -1,9 +1,10 @@
-//! `lru_bench [time]`: what a promote costs in a short and in a long list, and what the calls of `Lru` cost
+//! `lru_bench [threads] [time]`: what a promote costs in a short and in a long list, and what the calls of `Lru` cost
 //! to 1, 2 and 4 threads, among rows that a core's cache holds and among many more; what messages cost to an
 //! actor's shard and to actors on threads, what it costs to record calls, and what touches and spills of two tiers cost.
 //!
 //! It goes through seeded traces and prints what it counted, which is the same at each run. With the
-//! argument `time` each line ends with the nanoseconds that one call took, which are not.
+//! argument `time` each line ends with the nanoseconds that one call took, which are not. With the argument `threads` it
+//! prints the rows alone that the harness in `bench/` puts beside those of its peers.
 #![tactic(auto)]
 
 ghost use Rattle.std.specs.Prelude.{◌<◌};
@@ -13,6 +14,7 @@ mod lists;
 mod recorded;
 mod senders;
 mod shards;
+mod threads;
 mod tiers;
 mod trace;
 mod watch;
@@ -28,7 +30,14 @@ const MANY: u32 = 1_000_000;
 
 fn main(rt: HostRuntime) -> io::Result<()> {
     let is_timed = env::args(&rt)?.skip(1).any(|word| word.as_str() == "time");
+    let is_beside_peers = env::args(&rt)?
+        .skip(1)
+        .any(|word| word.as_str() == "threads");
     let watch = Watch { is_timed };
+    threads::measure(&rt, rt.alloc(), watch, FEW as usize)?;
+    if is_beside_peers {
+        return threads::measure(&rt, rt.alloc(), watch, MANY as usize);
+    }
     lists::measure(&rt, rt.alloc(), watch, 1_000)?;
     lists::measure(&rt, rt.alloc(), watch, 1_000_000)?;
     actors::measure(&rt, rt.alloc(), watch, MANY)?;
