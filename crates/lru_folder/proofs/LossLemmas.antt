@@ -1,8 +1,8 @@
 -- What a loss of power may leave, after calls.
-use Rattle.std.proofs.Common.{◌≡◌, ◌≢◌, inl, inr, ⊎_elim, ◌≤◌, ℕ, List, Option, Some, None, is_some, refl, sym, ◌∙◌, ap, subst, arith}
+use Rattle.std.proofs.Common.{◌≡◌, ◌≢◌, inl, inr, ⊎_elim, ◌≤◌, ℕ, List, ◌++◌, Option, Some, None, is_some, refl, sym, ◌∙◌, ap, subst, arith}
 use Rattle.std.specs.FinMap.{get, insert, remove}
-use Rattle.lru_folder.specs.Files.{Files}
-use Rattle.lru_folder.specs.Losses.{IsSpread, LossStep, Loses, LosesOnly, IsFromStart, loss_of}
+use Rattle.lru_folder.specs.Files.{Files, bytes_at, appended}
+use Rattle.lru_folder.specs.Losses.{IsSpread, LossStep, Loses, LosesOnly, IsFromStart, loss_of, loosened}
 use Rattle.lru_folder.proofs.FilesLemmas.{decide, get-insert_same, get-insert_other, get-remove_same, get-remove_other}
 
 -- a map with these bytes at a path, or with none there
@@ -38,6 +38,25 @@ pub spread-overwritten : (path : List ℕ) (loose : List ℕ → Type 0) (files 
     → IsSpread loose files m
 spread-overwritten path loose files was m here first second =
     spread-then loose files was m first (spread-more (λ q. q ≡ path) loose was m (λ q e. subst loose (sym e) here) second)
+
+-- a loose path's bytes do not count
+pub spread-alike : (path : List ℕ) (loose : List ℕ → Type 0) (files other m : Files) → loose path → is_some (get files path) ≡ is_some (get other path)
+    → ((q : List ℕ) → q ≢ path → get files q ≡ get other q) → IsSpread loose files m → IsSpread loose other m
+spread-alike path loose files other m here some same h = record {
+  there = λ q. elim (decide q path) [
+    | inl e ↦ subst (λ p. is_some (get m p) ≡ is_some (get other p)) (sym e) (h.there path ∙ some)
+    | inr ne ↦ h.there q ∙ ap is_some (same q ne)
+  ];
+  others = λ q firm. h.others q firm ∙ same q (λ e. firm (subst loose (sym e) here));
+}
+
+-- nor does how much was written there
+pub spread-appended : (path one two : List ℕ) (loose : List ℕ → Type 0) (files m : Files) → IsSpread (loosened path loose) (appended path one files) m
+    → IsSpread (loosened path loose) (appended path two files) m
+spread-appended path one two loose files m h =
+    spread-alike path (loosened path loose) (appended path one files) (appended path two files) m (inl refl)
+    (ap is_some (get-insert_same files path (bytes_at files path ++ one)) ∙ sym (ap is_some (get-insert_same files path (bytes_at files path ++ two))))
+    (λ q ne. get-insert_other files path (bytes_at files path ++ one) q ne ∙ sym (get-insert_other files path (bytes_at files path ++ two) q ne)) h
 
 -- a map that is spread from one that differs at a path alone, with what stood at that path
 pub spread-back : (path : List ℕ) (loose before : List ℕ → Type 0) (files old m : Files) → ((q : List ℕ) → q ≢ path → get files q ≡ get old q)
