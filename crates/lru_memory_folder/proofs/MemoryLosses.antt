@@ -16,7 +16,7 @@ use Rattle.lru_memory_folder.proofs.LosingLemmas.{LostSince-only, left-push, loo
 use Rattle.lru_memory_folder.proofs.MemoryLemmas.{history, ended_well}
 
 module _ (old new : Memory) (deed : Deed) (end : End) (is : history new ≡ with_call (history old) deed end) where
-  n : Noted
+  abbrev n : Noted
   n = record { deed = deed; end = end }
 
   lost : (t : ℕ) (m : Files) → lost_since_of new t m ≡ LostSince (old.calls ++ n ∷ []) t (at_opening (from_entries old.begun)) m

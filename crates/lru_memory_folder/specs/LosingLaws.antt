@@ -1,10 +1,10 @@
 -- The spread of the map now is among what a loss of power may leave.
 use Rattle.std.proofs.Common.{◌≡◌, ◌≢◌, inl, inr, ⊎_elim, ◌≤◌, ℕ, zero, suc, List, [], ◌∷◌, ◌++◌, length, take, is_some, refl, sym, ◌∙◌, ap, subst, arith}
 use Rattle.std.specs.FinMap.{get}
-use Rattle.lru_folder.specs.Files.{Files, bytes_at, appended}
+use Rattle.lru_folder.specs.Files.{Files}
 use Rattle.lru_folder.specs.Losses.{IsSpread, IsOverwritten, Loss, loosened}
-use Rattle.lru_folder.proofs.FilesLemmas.{decide, alike, get-insert_same, get-insert_other}
-use Rattle.lru_folder.proofs.LossLemmas.{put_back, get-put_back_same, get-put_back_other, spread-back}
+use Rattle.lru_folder.proofs.FilesLemmas.{decide, alike}
+use Rattle.lru_folder.proofs.LossLemmas.{put_back, get-put_back_same, get-put_back_other, spread-back, spread-appended}
 use Rattle.lru_memory_folder.specs.declared.calls.End.{End}
 use Rattle.lru_memory_folder.specs.declared.calls.End.TheVariants.{Done, NotFound, Failed}
 use Rattle.lru_memory_folder.specs.Calls.{Deed, Creates, Writes, Renames, Removes, Syncs, Looks, Noted, after}
@@ -36,23 +36,6 @@ overwritten path loss own m h =
       ),
     )
 
--- a loose path's bytes do not count
-spread-alike : (path : List ℕ) (loose : List ℕ → Type 0) (files other m : Files) → loose path → is_some (get files path) ≡ is_some (get other path)
-    → ((q : List ℕ) → q ≢ path → get files q ≡ get other q) → IsSpread loose files m → IsSpread loose other m
-spread-alike path loose files other m here some same h = record {
-  there = λ q. elim (decide q path) [
-    | inl e ↦ subst (λ p. is_some (get m p) ≡ is_some (get other p)) (sym e) (h.there path ∙ some)
-    | inr ne ↦ h.there q ∙ ap is_some (same q ne)
-  ];
-  others = λ q firm. h.others q firm ∙ same q (λ e. firm (subst loose (sym e) here));
-}
-
-fronts : (path one two : List ℕ) (loose : List ℕ → Type 0) (files m : Files) → IsSpread (loosened path loose) (appended path one files) m → IsSpread (loosened path loose) (appended path two files) m
-fronts path one two loose files m h =
-    spread-alike path (loosened path loose) (appended path one files) (appended path two files) m (inl refl)
-    (ap is_some (get-insert_same files path (bytes_at files path ++ one)) ∙ sym (ap is_some (get-insert_same files path (bytes_at files path ++ two))))
-    (λ q ne. get-insert_other files path (bytes_at files path ++ one) q ne ∙ sym (get-insert_other files path (bytes_at files path ++ two) q ne)) h
-
 own_done : (deed : Deed) (loss : Loss) → CountsOwn loss → CountsOwn (loss_after (record { deed = deed; end = Done }) loss)
 own_done (Creates path) loss own m h = inr (inr h)
 own_done (Writes path piece) loss own m h = inr (inr h)
@@ -71,7 +54,7 @@ own_none Looks loss own m h = inl (own m h)
 
 own_failed : (deed : Deed) (part : ℕ) (loss : Loss) → CountsOwn loss → CountsOwn (loss_after (record { deed = deed; end = Failed part }) loss)
 own_failed (Creates path) part loss own m h = inr (inl (overwritten path loss own m h))
-own_failed (Writes path piece) part loss own m h = inr (inr (fronts path (take part piece) piece loss.loose loss.files m h))
+own_failed (Writes path piece) part loss own m h = inr (inr (spread-appended path (take part piece) piece loss.loose loss.files m h))
 own_failed (Renames from to) part loss own m h = inl (own m h)
 own_failed (Removes path) part loss own m h = inl (own m h)
 own_failed (Syncs path) part loss own m h = inl (own m h)

@@ -94,13 +94,13 @@ const CALLS: [(u64, u64, (Ended, &str, &str), (Ended, &str, &str)); 3] = [
     ),
     (
         1,
-        5,
+        6,
         (Ended::OneFailed, "old", "cd"),
         (Ended::BothFailed, "old", "old"),
     ),
     (
-        5,
-        9,
+        6,
+        11,
         (Ended::OneFailed, "ab", "old"),
         (Ended::OneFailed, "ab", "old"),
     ),

@@ -6,7 +6,7 @@ use std::test::Fail;
 
 /// The calls of a save of one shard of 8193 bytes, after the one that makes the folder: the text of the failure that each
 /// of them causes, and how many bytes the temp file then has.
-const CALLS: [(u64, &str, Option<usize>); 5] = [
+const CALLS: [(u64, &str, Option<usize>); 6] = [
     (
         1,
         "failed to save shard 0: failed to create c.0.0000002a.tmp: input or output failed",
@@ -29,6 +29,11 @@ const CALLS: [(u64, &str, Option<usize>); 5] = [
     ),
     (
         5,
+        "failed to save shard 0: failed to sync c.0.0000002a.tmp: input or output failed",
+        Some(8193),
+    ),
+    (
+        6,
         "failed to save shard 0: failed to rename file from c.0.0000002a.tmp to c.0: input or output failed",
         Some(8193),
     ),
@@ -74,7 +79,7 @@ fn each_call_of_two_pieces(rt: HostRuntime) -> Result<(), Fail> {
 
 #[test]
 fn no_call_is_left(rt: HostRuntime) -> Result<(), Fail> {
-    let (failures, folder) = save(rt.alloc(), 6)?;
+    let (failures, folder) = save(rt.alloc(), 7)?;
     assert!(rt; failures.is_empty());
     assert!(rt; folder.get("c.0") == Some([7; 8193].as_slice()));
     Ok(())

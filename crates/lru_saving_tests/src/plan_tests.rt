@@ -7,7 +7,7 @@ use std::test::Fail;
 
 /// The calls of a save of three shards after the one that makes the folder: their numbers, their shards, and the text
 /// of the failure that each of them causes.
-const CALLS: [(u64, usize, &str); 12] = [
+const CALLS: [(u64, usize, &str); 15] = [
     (
         1,
         0,
@@ -26,45 +26,60 @@ const CALLS: [(u64, usize, &str); 12] = [
     (
         4,
         0,
-        "failed to save shard 0: failed to rename file from d/c.0.0000002a.tmp to d/c.0: input or output failed",
+        "failed to save shard 0: failed to sync d/c.0.0000002a.tmp: input or output failed",
     ),
     (
         5,
-        1,
-        "failed to save shard 1: failed to create d/c.1.0000002b.tmp: input or output failed",
+        0,
+        "failed to save shard 0: failed to rename file from d/c.0.0000002a.tmp to d/c.0: input or output failed",
     ),
     (
         6,
         1,
-        "failed to save shard 1: failed to write to d/c.1.0000002b.tmp: input or output failed",
+        "failed to save shard 1: failed to create d/c.1.0000002b.tmp: input or output failed",
     ),
     (
         7,
         1,
-        "failed to save shard 1: failed to flush temp file d/c.1.0000002b.tmp: input or output failed",
+        "failed to save shard 1: failed to write to d/c.1.0000002b.tmp: input or output failed",
     ),
     (
         8,
         1,
-        "failed to save shard 1: failed to rename file from d/c.1.0000002b.tmp to d/c.1: input or output failed",
+        "failed to save shard 1: failed to flush temp file d/c.1.0000002b.tmp: input or output failed",
     ),
     (
         9,
-        2,
-        "failed to save shard 2: failed to create d/c.2.0000002c.tmp: input or output failed",
+        1,
+        "failed to save shard 1: failed to sync d/c.1.0000002b.tmp: input or output failed",
     ),
     (
         10,
-        2,
-        "failed to save shard 2: failed to write to d/c.2.0000002c.tmp: input or output failed",
+        1,
+        "failed to save shard 1: failed to rename file from d/c.1.0000002b.tmp to d/c.1: input or output failed",
     ),
     (
         11,
         2,
-        "failed to save shard 2: failed to flush temp file d/c.2.0000002c.tmp: input or output failed",
+        "failed to save shard 2: failed to create d/c.2.0000002c.tmp: input or output failed",
     ),
     (
         12,
+        2,
+        "failed to save shard 2: failed to write to d/c.2.0000002c.tmp: input or output failed",
+    ),
+    (
+        13,
+        2,
+        "failed to save shard 2: failed to flush temp file d/c.2.0000002c.tmp: input or output failed",
+    ),
+    (
+        14,
+        2,
+        "failed to save shard 2: failed to sync d/c.2.0000002c.tmp: input or output failed",
+    ),
+    (
+        15,
         2,
         "failed to save shard 2: failed to rename file from d/c.2.0000002c.tmp to d/c.2: input or output failed",
     ),

@@ -183,13 +183,14 @@ fn stopped(alloc: Global, n: u64, part: usize) -> Result<MemoryFolder, Fail> {
 const TEMP: &str = "c.0.0000002a.tmp";
 
 /// Stops at each of its calls, a write stopped after so many bytes: what the file and the temp file then have.
-const STOPS: [(u64, usize, &str, Option<&str>); 6] = [
+const STOPS: [(u64, usize, &str, Option<&str>); 7] = [
     (0, 0, "old", None),
     (1, 0, "old", Some("")),
     (1, 2, "old", Some("ne")),
     (2, 0, "old", Some("new")),
     (3, 0, "old", Some("new")),
-    (4, 0, "new", None),
+    (4, 0, "old", Some("new")),
+    (5, 0, "new", None),
 ];
 
 // A stop at each call leaves the file old or new, and the temp file missing or a front of the new bytes.
