@@ -82,7 +82,7 @@ module _ {F : Type 0} (m : Meaning F) (temp path bytes : List ℕ) (apart : temp
   -- once the temporary file, whole and synced, has become the file
   module _ (files : Files) (loose : List ℕ → Type 0) (same : IsApart files) (whole : get files temp ≡ Some bytes)
       (firm : (q : List ℕ) → loose q → firmed temp (loosened temp (m.loose start)) q) where
-    at_last : Files
+    abbrev at_last : Files
     at_last = renamed temp path files
 
     elsewhere : (q : List ℕ) → q ≢ path → q ≢ temp → get at_last q ≡ get (m.files start) q
@@ -95,7 +95,7 @@ module _ {F : Type 0} (m : Meaning F) (temp path bytes : List ℕ) (apart : temp
     not_loose q (inr h) = (h.1.0, ⊎_elim (λ e. absurd (h.0 e)) (λ o. o) (firm q h.1.1).1)
 
     -- as it was at the path
-    unnamed : Files
+    abbrev unnamed : Files
     unnamed = put_back path (get (m.files start) path) at_last
 
     apart_again : (q : List ℕ) → q ≢ temp → get unnamed q ≡ get (m.files start) q
