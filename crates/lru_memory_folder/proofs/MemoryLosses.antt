@@ -93,11 +93,13 @@ settled_at deed old new (Err e) h = tt
 settled_at deed old new (Ok x) h = λ q l. loose_now old new deed Done h q l
 
 -- the paths that are loose then
-pub settled : {T : Type 0} (deed : Memory → Deed) (found : Bool) (fate : Option ℕ) (was old new : Memory) (result : Result T FolderFault) → was ≡ old
-    → Goes (deed was) (end_of fate found) (history was) (history new) result → OnOk result ((q : List ℕ) → loose_of new q → loose_done (deed old) (loose_of old) q)
+pub settled : {T : Type 0} (deed : Memory → Deed) (found : Bool) (fate : Option ℕ) (was old : Memory) (new : History) (result : Result T FolderFault) → was ≡ old
+    → Goes (deed was) (end_of fate found) (history was) new result
+    → OnOk result ((q : List ℕ) → (loss_left new.calls (at_opening (from_entries new.begun))).loose q → loose_done (deed old) (loose_of old) q)
 settled deed found fate was old new result is goes =
-    subst (λ (m : Memory). OnOk result ((q : List ℕ) → loose_of new q → loose_done (deed m) (loose_of m) q)) is
-    (settled_at (deed was) was new result (whole_call (deed was) found fate was new result goes))
+    let later : Memory = record { begun = new.begun; calls = new.calls; made = was.made; opened = was.opened; plan = was.plan; last = was.last } in
+    subst (λ (m : Memory). OnOk result ((q : List ℕ) → loose_of later q → loose_done (deed m) (loose_of m) q)) is
+    (settled_at (deed was) was later result (whole_call (deed was) found fate was later result goes))
 
 synced_at : {T : Type 0} (path : List ℕ) (old new : Memory) (result : Result T FolderFault) → OnOk result (history new ≡ with_call (history old) (Syncs path) Done)
     → OnOk result (IsSynced clock_of files_of lost_since_of loose_of path old new)
