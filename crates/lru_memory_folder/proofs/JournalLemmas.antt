@@ -6,7 +6,7 @@ use Rattle.lru_memory_folder.specs.Calls.{Noted, effect, after}
 use Rattle.lru_memory_folder.specs.DeedInside.{noted_of}
 use Rattle.lru_memory_folder.proofs.CallsLemmas.{after-push}
 
-noted-push : (calls : List Ended) (e : Ended) → map noted_of (calls ++ e ∷ []) ≡ map noted_of calls ++ noted_of e ∷ []
+pub noted-push : (calls : List Ended) (e : Ended) → map noted_of (calls ++ e ∷ []) ≡ map noted_of calls ++ noted_of e ∷ []
 noted-push [] e = refl
 noted-push (c ∷ cs) e = ap (λ l. noted_of c ∷ l) (noted-push cs e)
 

@@ -77,6 +77,20 @@ impl MemoryFolder {
         find(self.store.held(), path)
     }
 
+    /// The folder as a loss of power may leave it: its files after the first `names` name changes that were done since the last
+    /// `sync` that succeeded, or since the folder began, all of them where there are fewer, with the one byte in each path
+    /// that was loose before the next name change. It begins anew, and no call is made to fail.
+    pub fn after_loss(&self, names: usize, byte: u8) -> Result<MemoryFolder, AllocError>
+        ensures lost { IfOk result (λ folder. lost_since_of self.now (clock_of self.now) (files_of folder)) }
+        ensures begins { IfOk result (λ folder. (folder.calls ≡ []) × (folder.opened ≡ mode.Closed) × (folder.plan ≡ Works)) }
+    {
+        Ok(MemoryFolder {
+            store: self.store.after_loss(names, byte)?,
+            plan: Plan::Works,
+            last: FolderCall::Make,
+        })
+    }
+
     /// Makes the `n`-th call from now, counted from 0, answer `Io`, and no other. A `write` puts at most the first `part`
     /// bytes before; any other call does nothing.
     pub fn fail_at(&mut self, n: u64, part: usize)

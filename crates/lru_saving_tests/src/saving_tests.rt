@@ -207,6 +207,32 @@ fn a_stop_leaves_old_or_new(rt: HostRuntime) -> Result<(), Fail> {
     Ok(())
 }
 
+/// What a loss of power may leave of that save, once it was stopped at a call: the name changes that are kept, and what the
+/// file and the temp file then have. A path whose bytes were not safe has an `X`.
+const LOSSES: [(u64, usize, &str, Option<&str>); 5] = [
+    // Stopped at its sync.
+    (3, 0, "old", None),
+    (3, 1, "old", Some("X")),
+    // Stopped at its rename.
+    (4, 0, "old", Some("new")),
+    // Not stopped.
+    (9, 0, "old", Some("new")),
+    (9, 1, "new", None),
+];
+
+#[test]
+fn a_loss_of_power_leaves_old_or_new(rt: HostRuntime) -> Result<(), Fail> {
+    for (call, names, file, temp) in LOSSES {
+        let folder = stopped(rt.alloc(), call, 0)?.after_loss(names, b'X')?;
+        assert!(rt; folder.get("c.0") == Some(file.as_bytes()));
+        match temp {
+            Some(bytes) => assert!(rt; folder.get(TEMP) == Some(bytes.as_bytes())),
+            None => assert!(rt; folder.get(TEMP).is_none()),
+        }
+    }
+    Ok(())
+}
+
 #[test]
 fn a_failure_names_its_path(rt: HostRuntime) -> Result<(), Fail> {
     let alloc = rt.alloc();
