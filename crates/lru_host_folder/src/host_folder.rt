@@ -6,7 +6,8 @@ use crate::host_open::HostOpen;
 use lru_folder::fault::FolderFault;
 use lru_folder::folder::Folder;
 use lru_folder::listed::Listed;
-use std::fs::OpenFile;
+use std::alloc::Allocator;
+use std::fs::{DirEntry, OpenFile, OpenOptions};
 use std::io::{ErrorKind, Read, Write};
 use std::marker::Model;
 use std::rt::Files;
@@ -54,6 +55,72 @@ fn fault(error: io::Error) -> FolderFault {
     }
 }
 
+/// The folder of a path, as the system names it: the text before the last slash.
+fn folder_of(path: &str) -> &str {
+    match path.rsplit_once('/') {
+        None => ".",
+        Some(("", _)) => "/",
+        Some((dir, _)) => dir,
+    }
+}
+
+/// One read, made again where a signal interrupts it.
+fn read_once<T: Read>(file: &mut T, piece: &mut [u8]) -> io::Result<usize> {
+    for _ in 0..u64::MAX {
+        match file.read(piece) {
+            Err(error) if error.kind() == ErrorKind::Interrupted => {}
+            answer => return answer,
+        }
+    }
+    Err(io::Error::from(ErrorKind::Interrupted))
+}
+
+impl<R: Files> HostFolder<R> {
+    /// Opens a file that was not there before, so that no link and no other saver's file is written through.
+    fn create_new(&self, path: &str) -> io::Result<R::File> {
+        OpenOptions::new()
+            .write(true)
+            .create_new(true)
+            .open(&self.rt, path)
+    }
+
+    /// Creates a file. One of the same name is removed first: it is a leftover.
+    fn create_anew(&self, path: &str) -> io::Result<R::File> {
+        match self.create_new(path) {
+            Err(error) if error.kind() == ErrorKind::AlreadyExists => {
+                fs::remove_file(&self.rt, path)?;
+                self.create_new(path)
+            }
+            created => created,
+        }
+    }
+
+    /// Renames a file, and syncs the folder of its new name, so that a loss of power keeps that name.
+    fn rename_for_good(&self, from: &str, to: &str) -> io::Result<()> {
+        fs::rename(&self.rt, from, to)?;
+        fs::open(&self.rt, folder_of(to))?.sync_all()
+    }
+
+    /// Opens a file to read, with its length. What is no file, as a link or a pipe, is refused before it is opened.
+    fn open_file(&self, path: &str) -> io::Result<(R::File, u64)> {
+        if !fs::symlink_metadata(&self.rt, path)?.is_file() {
+            return Err(io::Error::from(ErrorKind::InvalidInput));
+        }
+        let file = fs::open(&self.rt, path)?;
+        let len = file.metadata()?.len();
+        Ok((file, len))
+    }
+}
+
+/// Whether an entry of a folder is a file; one that has vanished meanwhile is none.
+fn is_file<R: Files, A: Allocator>(entry: &DirEntry<R, A>) -> io::Result<bool> {
+    match entry.file_type() {
+        Ok(kind) => Ok(kind.is_file()),
+        Err(error) if error.kind() == ErrorKind::NotFound => Ok(false),
+        Err(error) => Err(error),
+    }
+}
+
 impl<R: Files + AllocGlobal + Clone + Drop> HostFolder<R> {
     /// The names in a folder as the system gives them, and how many are no UTF-8.
     fn names(&self, dir: &str) -> io::Result<(Vec<String>, usize)> {
@@ -62,7 +129,7 @@ impl<R: Files + AllocGlobal + Clone + Drop> HostFolder<R> {
         for entry in fs::read_dir(&self.rt, dir)? {
             match entry {
                 Ok(entry) => {
-                    if entry.file_type()?.is_file() {
+                    if is_file(&entry)? {
                         names.push(String::from_str(self.rt.alloc(), entry.file_name())?)?;
                     }
                 }
@@ -115,7 +182,7 @@ impl<R: Files + AllocGlobal + Clone + Drop> Folder for HostFolder<R> {
 
     fn create(&mut self, path: &str) -> Result<(), FolderFault> {
         self.file = HostOpen::Closed;
-        match fs::create(&self.rt, path) {
+        match self.create_anew(path) {
             Ok(file) => {
                 self.file = HostOpen::Writing(file);
                 Ok(())
@@ -147,19 +214,15 @@ impl<R: Files + AllocGlobal + Clone + Drop> Folder for HostFolder<R> {
 
     fn rename(&mut self, from: &str, to: &str) -> Result<(), FolderFault> {
         self.file = HostOpen::Closed;
-        fs::rename(&self.rt, from, to).map_err(fault)
+        self.rename_for_good(from, to).map_err(fault)
     }
 
     fn open(&mut self, path: &str) -> Result<u64, FolderFault> {
         self.file = HostOpen::Closed;
-        let file = match fs::open(&self.rt, path) {
-            Ok(file) => file,
-            Err(error) => return Err(fault(error)),
-        };
-        match file.metadata() {
-            Ok(metadata) => {
+        match self.open_file(path) {
+            Ok((file, len)) => {
                 self.file = HostOpen::Reading(file);
-                Ok(metadata.len())
+                Ok(len)
             }
             Err(error) => Err(fault(error)),
         }
@@ -171,7 +234,7 @@ impl<R: Files + AllocGlobal + Clone + Drop> Folder for HostFolder<R> {
             unreachable!()
         };
         let mut piece = vec![in alloc; 0u8; max]?;
-        match file.read(&mut piece) {
+        match read_once(file, &mut piece) {
             Ok(count) => {
                 piece.truncate(count);
                 Ok(piece)

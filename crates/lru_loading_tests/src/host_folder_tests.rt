@@ -185,7 +185,7 @@ fn a_folder_stands_where_the_file_should_be(rt: HostRuntime) -> Result<(), Fail>
         &rt,
         &lines,
         &[
-            "] failed to load shard 0: failed to read from no_file/c.0: input or output failed. Skipping shard.",
+            "] failed to load shard 0: failed to open no_file/c.0: input or output failed. Skipping shard.",
             "] Loaded 0/1 shards (missing: 0, errored: 1). LRU state may be incomplete.",
         ],
     );
