@@ -15,6 +15,7 @@ extern void *__libc_memalign(size_t, size_t);
 static unsigned long requests;
 
 static int refused(void) {
+    /* (the first request comes before the program starts a thread) */
     static unsigned long number;
     static int is_read;
     if (!is_read) {
@@ -22,8 +23,7 @@ static int refused(void) {
         is_read = 1;
         number = text ? strtoul(text, NULL, 10) : 0;
     }
-    requests += 1;
-    return requests == number;
+    return __atomic_add_fetch(&requests, 1, __ATOMIC_SEQ_CST) == number;
 }
 
 void *malloc(size_t size) { return refused() ? NULL : __libc_malloc(size); }
