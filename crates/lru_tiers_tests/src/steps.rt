@@ -19,6 +19,19 @@ pub enum Call {
 // A call, the text of its answer, and that of both tiers after it.
 pub type Step = (Call, &'static str, &'static str);
 
+fn spill<const N: usize>(
+    alloc: Global,
+    tiered: &mut TieredCore<u64, N>,
+    a: usize,
+    b: usize,
+) -> Result<String, AllocError> {
+    if a >= N || b >= N {
+        return format!(in alloc; "none");
+    }
+    let answer = tiered.spill_step(a, b);
+    format!(in alloc; "{answer:?}")
+}
+
 fn answer_of<const N: usize>(
     alloc: Global,
     tiered: &mut TieredCore<u64, N>,
@@ -42,11 +55,7 @@ fn answer_of<const N: usize>(
             let answer = tiered.peek_weight(key);
             format!(in alloc; "{answer:?}")
         }
-        Call::SpillStep { a, b } if a < N && b < N => {
-            let answer = tiered.spill_step(a, b);
-            format!(in alloc; "{answer:?}")
-        }
-        Call::SpillStep { .. } => format!(in alloc; "none"),
+        Call::SpillStep { a, b } => spill(alloc, tiered, a, b),
         Call::Balance => {
             let answer = tiered.balance(alloc, rng);
             format!(in alloc; "{answer:?}")
