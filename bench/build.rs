@@ -12,7 +12,7 @@ fn main() {
     println!("cargo:rustc-link-lib=static=libc_c");
     println!("cargo:rustc-link-lib=static=os_c");
     for name in ["malloc", "calloc", "realloc", "free", "posix_memalign"] {
-        println!("cargo:rustc-link-arg=-Wl,--wrap={name}");
+        println!("cargo:rustc-link-arg-bin=bench=-Wl,--wrap={name}");
     }
     println!("cargo:rerun-if-changed={}", library.join("liblru_bench_half.a").display());
 }

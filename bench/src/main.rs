@@ -1,4 +1,6 @@
 //! Measures each call beside its peers, in one run: ratios of the thread's time, medians over rounds.
+mod draws;
+mod orders;
 mod peers;
 mod plan;
 mod traces;

@@ -1,4 +1,5 @@
 //! The orders that are measured: those of `crates/lru_bench_half`, and peers from Rust.
+use crate::orders::{Order, Sparse};
 use crate::plan::{Phase, Work};
 use crate::watch;
 
@@ -58,21 +59,10 @@ impl Subject {
                 assert_eq!(done, plan.len(), "{} ended early", self.name());
             }
             Subject::Hashlink => walk(&mut hashlink::LruCache::new(limit), plan, keys, &mut counts),
-            // (its `new` would take room for all rows at once)
-            Subject::Lru => walk(&mut Sparse { cache: lru::LruCache::unbounded(), limit }, plan, keys, &mut counts),
+            Subject::Lru => walk(&mut Sparse::new(limit), plan, keys, &mut counts),
         }
         counts
     }
-}
-
-/// An order with a limit on the number of its rows.
-trait Order {
-    fn admit(&mut self, key: u64) -> bool;
-    fn promote(&mut self, key: u64) -> bool;
-    fn peek(&self, key: u64) -> bool;
-    fn remove(&mut self, key: u64) -> bool;
-    fn get_or_admit(&mut self, key: u64) -> bool;
-    fn odd_rows(&self) -> u64;
 }
 
 fn walk<O: Order>(order: &mut O, plan: &[Phase], keys: &[u64], counts: &mut [u64]) {
@@ -89,71 +79,5 @@ fn walk<O: Order>(order: &mut O, plan: &[Phase], keys: &[u64], counts: &mut [u64
         };
         *count = done as u64;
         watch::mark();
-    }
-}
-
-impl Order for hashlink::LruCache<u64, u64> {
-    fn admit(&mut self, key: u64) -> bool {
-        self.insert(key, key);
-        true
-    }
-
-    fn promote(&mut self, key: u64) -> bool {
-        self.get(&key).is_some()
-    }
-
-    fn peek(&self, key: u64) -> bool {
-        hashlink::LruCache::peek(self, &key).is_some()
-    }
-
-    fn remove(&mut self, key: u64) -> bool {
-        hashlink::LruCache::remove(self, &key).is_some()
-    }
-
-    fn get_or_admit(&mut self, key: u64) -> bool {
-        if self.get(&key).is_some() {
-            return true;
-        }
-        self.insert(key, key);
-        false
-    }
-
-    fn odd_rows(&self) -> u64 {
-        self.iter().map(|(_, data)| data % 2).sum()
-    }
-}
-
-struct Sparse {
-    cache: lru::LruCache<u64, u64>,
-    limit: usize,
-}
-
-impl Order for Sparse {
-    fn admit(&mut self, key: u64) -> bool {
-        self.cache.put(key, key);
-        if self.cache.len() > self.limit {
-            self.cache.pop_lru();
-        }
-        true
-    }
-
-    fn promote(&mut self, key: u64) -> bool {
-        self.cache.get(&key).is_some()
-    }
-
-    fn peek(&self, key: u64) -> bool {
-        self.cache.peek(&key).is_some()
-    }
-
-    fn remove(&mut self, key: u64) -> bool {
-        self.cache.pop(&key).is_some()
-    }
-
-    fn get_or_admit(&mut self, key: u64) -> bool {
-        self.cache.get(&key).is_some() || !self.admit(key)
-    }
-
-    fn odd_rows(&self) -> u64 {
-        self.cache.iter().map(|(_, data)| data % 2).sum()
     }
 }

@@ -1,4 +1,5 @@
 //! Seeded traces, and the phases that go through them.
+use crate::draws::Draws;
 
 /// What a phase does with each of its keys.
 #[derive(Clone, Copy)]
@@ -32,23 +33,6 @@ impl Phase {
 pub struct Plan {
     pub keys: Vec<u64>,
     pub phases: Vec<Phase>,
-}
-
-/// Numbers that look random: the generator that is known as splitmix64.
-struct Draws(u64);
-
-impl Draws {
-    fn next(&mut self) -> u64 {
-        self.0 = self.0.wrapping_add(0x9e37_79b9_7f4a_7c15);
-        let mut word = self.0;
-        word = (word ^ (word >> 30)).wrapping_mul(0xbf58_476d_1ce4_e5b9);
-        word = (word ^ (word >> 27)).wrapping_mul(0x94d0_49bb_1331_11eb);
-        word ^ (word >> 31)
-    }
-
-    fn below(&mut self, count: usize) -> usize {
-        (self.next() % count as u64) as usize
-    }
 }
 
 /// Places below `rows`, each drawn as often as 1 in its rank: the law of Zipf.

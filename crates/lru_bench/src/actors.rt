@@ -1,7 +1,7 @@
 //! Messages through an actor's shard, in batches of 1 and of 64, beside the calls of a shard of one owner.
 ghost use Rattle.std.specs.Prelude.{◌<◌};
 
-use crate::trace::{self, Draw};
+use crate::trace;
 use crate::watch::Watch;
 use pingora_lru::unit::LruUnit;
 use pingora_lru_async::async_lru::{Effect, LruMsg, ShardState, process_batch};
@@ -79,7 +79,7 @@ fn send(actor: &mut Actor, keys: &[u64], size: usize, is_new: bool) -> Result<us
 pub fn measure<R: Print + Clock>(rt: &R, alloc: Global, watch: Watch, rows: u32) -> io::Result<()>
     requires { 0 < rows }
 {
-    let trace = trace::keys(alloc, Draw::Uniform, 7, rows, CALLS)?;
+    let trace = trace::uniform_keys(alloc, 7, rows, CALLS)?;
     let mut all = Vec::with_capacity(alloc, rows as usize)?;
     for key in 0..rows as u64 {
         all.push(key)?;

@@ -1,7 +1,7 @@
 //! Promotes in one list, short and long.
 ghost use Rattle.std.specs.Prelude.{◌<◌};
 
-use crate::trace::{self, Draw};
+use crate::trace;
 use crate::watch::Watch;
 use pingora_lru::unit::LruUnit;
 use std::alloc::Global;
@@ -15,7 +15,7 @@ const CALLS: usize = 1_000_000;
 pub fn measure<R: Print + Clock>(rt: &R, alloc: Global, watch: Watch, rows: u32) -> io::Result<()>
     requires { 0 < rows }
 {
-    let trace = trace::keys(alloc, Draw::Uniform, 7, rows, CALLS)?;
+    let trace = trace::uniform_keys(alloc, 7, rows, CALLS)?;
     let mut unit = LruUnit::with_capacity(alloc, rows as usize, usize::MAX)?;
     for key in 0..rows as u64 {
         if unit.admit(key, key, 1).is_err() {

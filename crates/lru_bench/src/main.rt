@@ -1,25 +1,22 @@
-//! `lru_bench [time]`: what a promote costs in a short and in a long list, and what the calls of `Lru` cost
+//! `lru_bench [threads] [time]`: what a promote costs in a short and in a long list, and what the calls of `Lru` cost
 //! to 1, 2 and 4 threads, among rows that a core's cache holds and among many more; what messages cost to an
 //! actor's shard and to actors on threads, what it costs to record calls, and what touches and spills of two tiers cost.
 //!
 //! It goes through seeded traces and prints what it counted, which is the same at each run. With the
-//! argument `time` each line ends with the nanoseconds that one call took, which are not.
+//! argument `time` each line ends with the nanoseconds that one call took, which are not. With the argument `threads` it
+//! prints the rows alone that the harness in `bench/` puts beside those of its peers.
 #![tactic(auto)]
-
-ghost use Rattle.std.specs.Prelude.{◌<◌};
 
 mod actors;
 mod lists;
 mod recorded;
 mod senders;
-mod shards;
+mod threads;
 mod tiers;
 mod trace;
 mod watch;
 
-use shards::{Trial, Work};
 use std::{env, io};
-use trace::Draw;
 use watch::Watch;
 
 const FEW: u32 = 50_000;
@@ -28,7 +25,15 @@ const MANY: u32 = 1_000_000;
 
 fn main(rt: HostRuntime) -> io::Result<()> {
     let is_timed = env::args(&rt)?.skip(1).any(|word| word.as_str() == "time");
+    let is_beside_peers = env::args(&rt)?
+        .skip(1)
+        .any(|word| word.as_str() == "threads");
     let watch = Watch { is_timed };
+    threads::measure(&rt, rt.alloc(), watch, FEW as usize)?;
+    threads::measure(&rt, rt.alloc(), watch, MANY as usize)?;
+    if is_beside_peers {
+        return Ok(());
+    }
     lists::measure(&rt, rt.alloc(), watch, 1_000)?;
     lists::measure(&rt, rt.alloc(), watch, 1_000_000)?;
     actors::measure(&rt, rt.alloc(), watch, MANY)?;
@@ -37,34 +42,5 @@ fn main(rt: HostRuntime) -> io::Result<()> {
     senders::measure::<_, 4>(rt, rt.alloc(), watch)?;
     senders::measure::<_, 16>(rt, rt.alloc(), watch)?;
     tiers::measure(&rt, rt.alloc(), watch, 100_000)?;
-    tiers::measure(&rt, rt.alloc(), watch, MANY)?;
-    for draw in [Draw::Uniform, Draw::Skewed] {
-        for work in [Work::Promote, Work::Peek, Work::AdmitAndEvict, Work::Mix] {
-            let few = Trial {
-                rows: FEW,
-                calls: 200_000,
-                work,
-                draw,
-            };
-            shards::measure::<_, 1>(&rt, rt.alloc(), watch, few)?;
-            shards::measure::<_, 8>(&rt, rt.alloc(), watch, few)?;
-            shards::measure::<_, 16>(&rt, rt.alloc(), watch, few)?;
-        }
-        for work in [Work::Promote, Work::PromoteApart, Work::AdmitAndEvict] {
-            let many = Trial {
-                rows: MANY,
-                calls: 1_000_000,
-                work,
-                draw,
-            };
-            shards::measure::<_, 16>(&rt, rt.alloc(), watch, many)?;
-        }
-    }
-    let apart = Trial {
-        rows: FEW,
-        calls: 200_000,
-        work: Work::PromoteApart,
-        draw: Draw::Uniform,
-    };
-    shards::measure::<_, 16>(&rt, rt.alloc(), watch, apart)
+    tiers::measure(&rt, rt.alloc(), watch, MANY)
 }

@@ -1,7 +1,7 @@
 //! Promotes in an order that records its calls, beside those of one that does not.
 ghost use Rattle.std.specs.Prelude.{◌≡◌, ◌<◌};
 
-use crate::trace::{self, Draw};
+use crate::trace;
 use crate::watch::Watch;
 use pingora_lru::Lru;
 use pingora_lru::recorded::{Blank, Names, RecordedLru, Registry};
@@ -61,7 +61,7 @@ pub fn measure<R: Print + Clock + Wait>(
 ) -> io::Result<()>
     requires { 0 < rows }
 {
-    let trace = trace::keys(alloc, Draw::Uniform, 7, rows, CALLS)?;
+    let trace = trace::uniform_keys(alloc, 7, rows, CALLS)?;
     let lru = Lru::<u64, 8>::with_capacity(alloc, usize::MAX, rows as usize)?;
     for key in 0..rows as u64 {
         if lru.admit(rt, key, key, 1).is_err() {

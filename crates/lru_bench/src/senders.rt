@@ -2,7 +2,7 @@
 
 ghost use Rattle.std.specs.Prelude.{◌<◌};
 
-use crate::trace::{self, Draw};
+use crate::trace;
 use crate::watch::Watch;
 use pingora_lru::Lru;
 use pingora_lru_async::async_lru::{AsyncEvictionCallback, AsyncLru};
@@ -116,7 +116,7 @@ fn time<O: Order, R: Print + Clock + Threads + Wait + Sync>(
     senders: usize,
 ) -> io::Result<()> {
     let all = calls_of(watch);
-    let trace = trace::keys(alloc, Draw::Uniform, 13, ROWS, all)?;
+    let trace = trace::uniform_keys(alloc, 13, ROWS, all)?;
     let calls = (all / senders.max(1)).max(1);
     for key in 0..ROWS as u64 {
         if !order.admit(rt, key) {

@@ -1,7 +1,7 @@
 //! Touches and spills of two tiers, beside the promotes of one core and its evictions with an admission each.
 ghost use Rattle.std.specs.Prelude.{◌<◌};
 
-use crate::trace::{self, Draw};
+use crate::trace;
 use crate::watch::Watch;
 use pingora_lru::lru_core::LruCore;
 use pingora_lru::tiered::{Tier, TieredCore};
@@ -110,7 +110,7 @@ fn measure_tiers<R: Print + Clock>(
 pub fn measure<R: Print + Clock>(rt: &R, alloc: Global, watch: Watch, rows: u32) -> io::Result<()>
     requires { 0 < rows }
 {
-    let trace = trace::keys(alloc, Draw::Uniform, 7, rows, 1_000_000)?;
+    let trace = trace::uniform_keys(alloc, 7, rows, 1_000_000)?;
     measure_core(rt, alloc, watch, rows, &trace)?;
     measure_tiers(rt, alloc, watch, rows, &trace)
 }

@@ -22,8 +22,8 @@ impl Watch {
     ) -> io::Result<()> {
         print!(rt; "{what}: {count}")?;
         if self.is_timed && calls > 0 {
-            let spent = start.elapsed(rt)?.as_nanos();
-            print!(rt; ", {} ns", spent / calls as u128)?;
+            let tenths = start.elapsed(rt)?.as_nanos().saturating_mul(10) / calls as u128;
+            print!(rt; ", {}.{} ns", tenths / 10, tenths % 10)?;
         }
         println!(rt; "")
     }

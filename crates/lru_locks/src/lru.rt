@@ -2,14 +2,15 @@
 ghost use Rattle.std.specs.Prelude.{◌≡◌, ℕ, ◌+◌, ◌-◌, ◌%◌, ◌^◌, ◌<◌, ◌≤◌, min, max, not, length, vec_len, IfOk, IfErr, IfSome, OnOk, Ok, None, All};
 ghost use Rattle.lru_rules.specs.Limits.{cap_of};
 
+use crate::lock::ShortLock;
 use crossbeam_utils::CachePadded;
 use lru_rules::eviction::{EvictError, drawn_shards, is_past, place_after};
 use lru_rules::totals::Totals;
 use lru_shard::unit::{Cause, LruUnit, Refused};
 use rand_core::Rng;
 use std::alloc::{AllocError, Global};
+use std::sync::Wait;
 use std::sync::atomic::{AtomicUsize, Ordering};
-use std::sync::{RwLock, Wait};
 
 // What a sum modulo 2^64 grows by where one of its numbers changes.
 fn growth(before: usize, after: usize) -> usize
@@ -212,14 +213,14 @@ impl<T: Drop, const N: usize> Locked<T, N> {
 fn empty_units<T: Drop, const N: usize>(
     alloc: Global,
     capacity: usize,
-) -> Result<Vec<CachePadded<RwLock<Locked<T, N>>>>, AllocError>
+) -> Result<Vec<CachePadded<ShortLock<Locked<T, N>>>>, AllocError>
     requires { 0 < N }
     ensures { IfOk result (λ units. vec_len units ≡ N) }
 {
     let mut units = Vec::with_capacity(alloc, N)?;
     for _ in 0..N {
         let locked = Locked::with_capacity(alloc, capacity)?;
-        units.push(CachePadded::new(RwLock::new(locked)))?;
+        units.push(CachePadded::new(ShortLock::new(locked)))?;
     }
     Ok(units)
 }
@@ -265,7 +266,7 @@ impl Counters {
 #[derive(Drop)]
 pub struct Lru<T, const N: usize> {
     // no two shards share a cache line, so that a thread at one doesn't slow a thread at another
-    units: Vec<CachePadded<RwLock<Locked<T, N>>>>,
+    units: Vec<CachePadded<ShortLock<Locked<T, N>>>>,
     // how many rows each unit has
     lens: Vec<CachePadded<AtomicUsize>>,
     counters: CachePadded<Counters>,

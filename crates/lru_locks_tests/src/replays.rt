@@ -1,5 +1,6 @@
 // Drawn calls on an `Lru` and on a core answer the same, and leave the same, by one thread and by two.
 ghost use Rattle.lru_runs.specs.Calls.{IsAllowed};
+ghost use Rattle.std.specs.Prelude.{◌<◌};
 
 use crate::shown::{core_state_of, state_of, text_of};
 use crate::steps::answer_of;
@@ -23,8 +24,21 @@ enum Of {
     Shard(u64),
 }
 
-fn drawn_call<const N: usize>(rng: &mut StdRng, of: Of) -> Call<u64>
-    ensures { IsAllowed N result }
+// What is drawn for a call, whichever it will be.
+struct Drawn {
+    key: u64,
+    // any key, also where those of one shard alone are called
+    any: u64,
+    shard: u64,
+    data: u64,
+    weight: usize,
+    most: usize,
+    kinds: u8,
+}
+
+fn draw(rng: &mut StdRng, of: Of) -> Drawn
+    ensures most { result.most < 8 }
+    ensures kinds { 0 < result.kinds }
 {
     let any = rng.random_range(0..8u64);
     let data = rng.random_range(0..1000u64);
@@ -34,6 +48,34 @@ fn drawn_call<const N: usize>(rng: &mut StdRng, of: Of) -> Call<u64>
         Of::All => (any, rng.random_range(0..5u64), 15u8),
         Of::Shard(shard) => (any / 2 * 2 + shard % 2, shard % 2, 12u8),
     };
+    Drawn {
+        key,
+        any,
+        shard,
+        data,
+        weight,
+        most,
+        kinds,
+    }
+}
+
+// A bound of an increment, in three of four calls.
+fn bound(most: usize) -> Option<usize> {
+    if most < 6 { Some(most) } else { None }
+}
+
+fn drawn_call<const N: usize>(rng: &mut StdRng, of: Of) -> Call<u64>
+    ensures { IsAllowed N result }
+{
+    let Drawn {
+        key,
+        any,
+        shard,
+        data,
+        weight,
+        most,
+        kinds,
+    } = draw(rng, of);
     match rng.random_range(0..kinds) {
         0 => Call::Admit { key, data, weight },
         1 => Call::InsertTail { key, data, weight },
@@ -41,7 +83,7 @@ fn drawn_call<const N: usize>(rng: &mut StdRng, of: Of) -> Call<u64>
             key,
             data,
             delta: weight,
-            max_weight: if most < 6 { Some(most) } else { None },
+            max_weight: bound(most),
         },
         3 => Call::UpdateOrAdmit {
             key,
