@@ -14,6 +14,7 @@
 mod table;
 
 use std::env::Env;
+use std::io::ErrorKind;
 use std::process::ExitCode;
 use std::{env, io};
 use table::{Session, Table, empty_table, leaves};
@@ -22,6 +23,14 @@ use table::{Session, Table, empty_table, leaves};
 fn request(line: &str) -> Option<(u64, usize)> {
     let (id, bytes) = line.split_once(' ')?;
     Some((id.parse().ok()?, bytes.parse().ok()?))
+}
+
+/// The line, or `None` where it is no text.
+fn text_of(line: io::Result<String>) -> io::Result<Option<String>> {
+    match line {
+        Err(error) if error.kind() == ErrorKind::InvalidData => Ok(None),
+        line => Ok(Some(line?)),
+    }
 }
 
 /// The budget that the arguments give, if they do.
@@ -61,8 +70,7 @@ fn main(rt: HostRuntime) -> io::Result<ExitCode> {
     let mut number = 0u64;
     for line in rt.lines(rt.alloc()) {
         number = number.saturating_add(1);
-        let line = line?;
-        let Some((id, bytes)) = request(&line) else {
+        let Some((id, bytes)) = text_of(line)?.and_then(|line| request(&line)) else {
             println!(rt; "error line {number}")?;
             return Ok(ExitCode::from(2));
         };

@@ -17,6 +17,7 @@ use pingora_lru::tiered::Tier;
 use rand::rngs::StdRng;
 use rand_core::SeedableRng;
 use std::env::Env;
+use std::io::ErrorKind;
 use std::process::ExitCode;
 use std::{env, io};
 
@@ -24,6 +25,14 @@ use std::{env, io};
 fn two_numbers(words: &str) -> Option<(u64, usize)> {
     let (first, second) = words.split_once(' ')?;
     Some((first.parse().ok()?, second.parse().ok()?))
+}
+
+/// The line, or `None` where it is no text.
+fn text_of(line: io::Result<String>) -> io::Result<Option<String>> {
+    match line {
+        Err(error) if error.kind() == ErrorKind::InvalidData => Ok(None),
+        line => Ok(Some(line?)),
+    }
 }
 
 /// The budgets that the arguments give, if they do.
@@ -59,8 +68,7 @@ fn main(rt: HostRuntime) -> io::Result<ExitCode> {
     let mut number = 0u64;
     for line in rt.lines(rt.alloc()) {
         number = number.saturating_add(1);
-        let line = line?;
-        let Some((key, bytes)) = two_numbers(&line) else {
+        let Some((key, bytes)) = text_of(line)?.and_then(|line| two_numbers(&line)) else {
             println!(rt; "error line {number}")?;
             return Ok(ExitCode::from(2));
         };

@@ -10,7 +10,7 @@ use Rattle.lru_shard.proofs.Rows.{times_yes, times-cons, without_absent, distinc
 use Rattle.lru_traces.specs.declared.player.Request.{Request}
 use Rattle.lru_traces.specs.declared.player.Tally.{Tally}
 use Rattle.lru_traces.specs.Traces.{Rows, load, front, let_in, kept_after, tally_after, played_on, played, no_tally, distance, is_near, near_on, near}
-use Rattle.lru_traces.proofs.Windows.{Ones, OneSizes, load_one, ones_without, kept_none, small_mod}
+use Rattle.lru_traces.proofs.Windows.{Ones, OneSizes, load_one, ones_without, kept, kept_none, let_all, small_mod, used}
 
 is_near_more : (limit : ℕ) (o : Option ℕ) → is_near limit o ≡ is_near (suc limit) (option_map (λ n. suc n) o)
 is_near_more limit None = refl
@@ -110,3 +110,16 @@ all_near limits qs ts sizes fits e = ap (map (λ (t : Tally). t.hits)) e ∙ go 
     go : (ns : List ℕ) → map (λ (t : Tally). t.hits) (map (λ n. played n qs) ns) ≡ map (λ n. near n qs) ns
     go [] = refl
     go (n ∷ ns) = ap (λ h. h ∷ map (λ (t : Tally). t.hits) (map (λ m. played m qs) ns)) (hits_near n qs sizes fits) ∙ ap (λ hs. near n qs ∷ hs) (go ns)
+
+kept_take : (limit : ℕ) (qs : List Request) (rows : Rows) → OneSizes qs → Ones rows → HasDistinctKeys rows → kept limit (take limit rows) qs ≡ take limit (let_all rows qs)
+kept_take limit [] rows sizes ones distinct = refl
+kept_take limit (q ∷ qs) rows sizes ones distinct =
+    ap (λ rs. kept limit rs qs) (kept_front limit rows q sizes.0 ones distinct)
+    ∙ kept_take limit qs (let_in rows q) sizes.1 (load_one q sizes.0, ones_without q.key rows ones) (distinct-first rows (row q.key tt (load q)) distinct)
+
+-- a cache keeps the objects that are near
+pub kept_near : (limit : ℕ) (qs : List Request) (k : ℕ) → OneSizes qs → is_held (kept limit [] qs) k ≡ is_near limit (distance (used qs) k)
+kept_near limit qs k sizes =
+    ap (λ rs. is_held (kept limit rs qs) k) (sym (take_all limit no_rows (omega arith)))
+    ∙ ap (λ rs. is_held rs k) (kept_take limit qs no_rows sizes tt (λ j. omega arith))
+    ∙ near_held limit (used qs) k

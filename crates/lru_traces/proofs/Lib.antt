@@ -2,3 +2,4 @@ pub mod Fronts
 pub mod Places
 pub mod Windows
 pub mod Distances
+pub mod Order

@@ -165,7 +165,7 @@ held_all k [] rows = refl
 held_all k (q ∷ qs) rows =
     held_all k qs (let_in rows q) ∙ ap (λ b. is_asked k qs || b) (held_in rows q k) ∙ or_swap (is_asked k qs) (eqb q.key k) (is_held rows k)
 
-used_held : (k : ℕ) (qs : List Request) → is_held (used qs) k ≡ is_asked k qs
+pub used_held : (k : ℕ) (qs : List Request) → is_held (used qs) k ≡ is_asked k qs
 used_held k qs = held_all k qs [] ∙ or_no (is_asked k qs)
 
 distinct_all : (qs : List Request) (rows : Rows) → HasDistinctKeys rows → HasDistinctKeys (let_all rows qs)
@@ -404,7 +404,7 @@ serve_step qs q [] one sizes fits previous bs behind lasts h = tt
 serve_step qs q (w ∷ ws) one sizes fits previous bs behind lasts h =
     (serves_step qs q w one sizes fits h.0 previous bs behind lasts, serve_step qs q ws one sizes fits previous bs behind lasts h.1)
 
-limit_same : (previous : ℕ) (bs : List Bool) (w : Window) → (window_after previous bs w).limit ≡ w.limit
+pub limit_same : (previous : ℕ) (bs : List Bool) (w : Window) → (window_after previous bs w).limit ≡ w.limit
 limit_same previous bs w =
     cond_both (nat_lt w.start previous) (record w { hits = (w.hits + 1) % 2 ^ 64 }) (cond (nat_lt w.held w.limit) (record w { held = w.held + 1 }) (record w { start = w.start + oldest (drop w.start bs); evictions = (w.evictions + min w.limit 1) % 2 ^ 64 }))
     (λ (v : Window). v.limit ≡ w.limit) (λ _. refl)

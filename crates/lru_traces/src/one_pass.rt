@@ -5,8 +5,9 @@
 //! of the trace are the last for their keys. A window has as many objects as it has such requests.
 ghost use Rattle.std.specs.Prelude.{◌≡◌, ◌+◌, ◌<◌, ◌↔◌, IsTrue, ℕ, List, cond, eqb, length, drop, map, nat_eq, Some, IfOk, OnOk, IfSome};
 ghost use Rattle.std.specs.HashMap as hash;
+ghost use Rattle.std.specs.List.Sorted.{IsNonDecreasing, IsPermutation};
 ghost use Rattle.lru_traces.specs.Traces.{played, near, AreOfSizeOne};
-ghost use Rattle.lru_traces.specs.Representation.Windows.{window_after, empty_window, tally_of, oldest, after, with_request};
+ghost use Rattle.lru_traces.specs.Representation.Windows.{window_after, empty_window, tally_of, oldest, after, with_request, asked, summed};
 
 use crate::player::{Request, Tally};
 use std::alloc::{AllocError, Global};
@@ -86,11 +87,17 @@ fn past_oldest(is_last: &[bool], mut start: usize) -> usize
     start
 }
 
-fn ask_all(windows: &mut [Window], previous: usize, is_last: &[bool])
-    ensures { windows.new ≡ map (window_after previous is_last.now) windows.old }
+// Plays a request through windows in the order of their limits, up to the first that has the object. Those behind it have
+// it too, and do not count it themselves.
+fn ask_in_order(windows: &mut [Window], previous: usize, is_last: &[bool])
+    ensures { windows.new ≡ asked previous is_last.now windows.old }
 {
     for window in windows.iter_mut() {
+        let is_found = window.start < previous;
         window.ask(previous, is_last);
+        if is_found {
+            return;
+        }
     }
 }
 
@@ -125,32 +132,75 @@ fn windows_of(alloc: Global, limits: &[usize]) -> Result<Vec<Window>, AllocError
         .collect(alloc)
 }
 
-// Plays a trace through windows that are empty at first.
+// Plays a trace through windows that are empty at first, and stand in the order of their limits.
 fn play_windows(
     alloc: Global,
     windows: &mut [Window],
     requests: &[Request],
 ) -> Result<(), AllocError>
     requires { AreOfSizeOne requests.now }
-    ensures tallies { OnOk result ((limits : List ℕ) → windows.old ≡ map empty_window limits → map (tally_of (length requests.now)) windows.new ≡ map (λ limit. played limit requests.now) limits) }
-    ensures hits { OnOk result ((limits : List ℕ) → windows.old ≡ map empty_window limits → map (λ tally. tally.hits) (map (tally_of (length requests.now)) windows.new) ≡ map (λ limit. near limit requests.now) limits) }
+    ensures tallies { OnOk result ((limits : List ℕ) → windows.old ≡ map empty_window limits → IsNonDecreasing limits → map (tally_of (length requests.now)) (summed 0 windows.new) ≡ map (λ limit. played limit requests.now) limits) }
+    ensures hits { OnOk result ((limits : List ℕ) → map (λ tally. tally.hits) (map (λ limit. played limit requests.now) limits) ≡ map (λ limit. near limit requests.now) limits) }
 {
     let mut places = HashMap::new(alloc);
     let mut is_last = Vec::with_capacity(alloc, requests.len())?;
     for request in requests {
         let previous = note(&mut places, &mut is_last, request.key)?;
-        ask_all(windows, previous, &is_last);
+        ask_in_order(windows, previous, &is_last);
     }
     Ok(())
 }
 
+// The tallies of windows, each with the hits of those before it.
 fn tallies_of(alloc: Global, windows: &[Window], requests: usize) -> Result<Vec<Tally>, AllocError>
-    ensures { IfOk result (λ tallies. tallies.items ≡ map (tally_of requests) windows.now) }
+    ensures { IfOk result (λ tallies. tallies.items ≡ map (tally_of requests) (summed 0 windows.now)) }
 {
-    windows
-        .iter()
-        .map(|window| window.tally(requests))
-        .collect(alloc)
+    let mut tallies = Vec::with_capacity(alloc, windows.len())?;
+    let mut hits = 0u64;
+    for window in windows {
+        hits = hits.wrapping_add(window.hits);
+        let whole = Window { hits, ..*window };
+        tallies.push(whole.tally(requests))?;
+    }
+    Ok(tallies)
+}
+
+// The tallies of a trace under limits that stand in order. The hits are those that distances tell, under any limits.
+fn play_in_order(
+    alloc: Global,
+    limits: &[usize],
+    requests: &[Request],
+) -> Result<Vec<Tally>, AllocError>
+    requires sizes { AreOfSizeOne requests.now }
+    requires rises { IsNonDecreasing limits.now }
+    ensures tallies { IfOk result (λ tallies. tallies.items ≡ map (λ limit. played limit requests.now) limits.now) }
+    ensures hits { IfOk result (λ _. (some : List ℕ) → map (λ tally. tally.hits) (map (λ limit. played limit requests.now) some) ≡ map (λ limit. near limit requests.now) some) }
+{
+    let mut windows = windows_of(alloc, limits)?;
+    play_windows(alloc, &mut windows, requests)?;
+    tallies_of(alloc, &windows, requests.len())
+}
+
+// The tallies of limits, from those of the same limits in order.
+fn by_place(
+    alloc: Global,
+    limits: &[usize],
+    sorted: &[usize],
+    tallies: &[Tally],
+) -> Result<Vec<Tally>, AllocError>
+    requires same { IsPermutation limits.now sorted.now }
+    requires rises { IsNonDecreasing sorted.now }
+    requires beside { length tallies.now ≡ length sorted.now }
+    ensures { IfOk result (λ answers. (made : ℕ → Tally) → tallies.now ≡ map made sorted.now → answers.items ≡ map made limits.now) }
+{
+    let mut answers = Vec::with_capacity(alloc, limits.len())?;
+    for limit in limits {
+        let Ok(place) = sorted.binary_search(limit) else {
+            unreachable!()
+        };
+        answers.push(tallies[place])?;
+    }
+    Ok(answers)
 }
 
 /// The tallies of a trace by caches under these limits, each as `play` has it, in one pass. Each object has to have the
@@ -167,7 +217,9 @@ pub fn play_all(
     ensures tallies { IfOk result (λ tallies. tallies.items ≡ map (λ limit. played limit requests.now) limits.now) }
     ensures hits { IfOk result (λ tallies. map (λ tally. tally.hits) tallies.items ≡ map (λ limit. near limit requests.now) limits.now) }
 {
-    let mut windows = windows_of(alloc, limits)?;
-    play_windows(alloc, &mut windows, requests)?;
-    tallies_of(alloc, &windows, requests.len())
+    let mut sorted = Vec::from_slice(alloc, limits)?;
+    sorted.sort_unstable();
+    let in_order = play_in_order(alloc, &sorted, requests)?;
+    let tallies = by_place(alloc, limits, &sorted, &in_order)?;
+    Ok(tallies)
 }

@@ -135,11 +135,11 @@ pub fn run(rt: HostRuntime) -> io::Result<ExitCode> {
     } else {
         play_each(rt, progress, &settings, &requests)?
     };
-    let Some(rows) = played else {
+    let Some(mut rows) = played else {
         return Ok(ExitCode::from(1));
     };
     if let Some(path) = &settings.svg {
-        let text = format!(in rt.alloc(); "{}", Plot { rows: &rows })?;
+        let text = format!(in rt.alloc(); "{}", Plot::new(&mut rows))?;
         if let Err(error) = fs::write(&rt, path, text.as_str()) {
             println!(rt; "{path}: {error}")?;
             return Ok(ExitCode::from(2));

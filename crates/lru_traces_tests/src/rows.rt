@@ -1,6 +1,7 @@
 // Tables of lines, of shares and of limits, each gone through by one function.
 use lru_traces::one_pass::{are_of_size_one, play_all};
 use lru_traces::player::{Request, Tally, play};
+use lru_traces::plot::Plot;
 use lru_traces::requests::request_of;
 use lru_traces::table::Percent;
 use std::alloc::{AllocError, Global};
@@ -58,6 +59,22 @@ const ONES: [Request; 8] = [
 const AT_ONCE: [usize; 7] = [4, 0, 2, 1, 3, 2, 18446744073709551615];
 
 const TALLIES: [(u64, u64); 7] = [(4, 0), (0, 0), (1, 5), (0, 7), (2, 3), (1, 5), (4, 0)];
+
+// Limits in no order, and of 8 requests with 19 bytes how many hits and of how many bytes.
+type Drawn = [(usize, u64, u64); 4];
+
+// What is drawn between 60 and 580 from left to right, and for 100 to 0 percent between 40 and 340 down.
+//
+// From 2 to 100 it is 50 times, so by logarithms: those of 2, 4, 6 and 100 to the base 2 are 1024, 2048, 2647 and 6803 parts of
+// 1024, and 520 * 1024 / 5779 is 92, 520 * 1623 / 5779 is 146. From 1 to 41 a step of 1 is 13 wide. Shares stand 300 * 12.5 / 100 =
+// 37 above the lowest, 75, 150 and so on; of bytes 10.52 percent are 31, 15.78 are 47, 42.10 are 126.
+#[rattlefmt::skip]
+const PICTURES: [(Drawn, &str, &str); 2] = [
+    ([(100, 4, 8), (2, 0, 0), (6, 2, 3), (4, 1, 2)],
+        "points=\"60,340 152,303 206,265 580,190 \"", "points=\"60,340 152,309 206,293 580,214 \""),
+    ([(3, 1, 3), (1, 0, 2), (41, 8, 19), (21, 4, 8)],
+        "points=\"60,340 86,303 320,190 580,40 \"", "points=\"60,309 86,293 320,214 580,40 \""),
+];
 
 // What stands first in the table and is read otherwise, as a text; empty where all is as it should be.
 fn wrong_line(alloc: Global) -> Result<String, AllocError> {
@@ -125,12 +142,33 @@ fn wrong_pass(alloc: Global) -> Result<String, AllocError> {
     Ok(String::new(alloc))
 }
 
+fn wrong_picture(alloc: Global) -> Result<String, AllocError> {
+    for (drawn, hits, bytes) in PICTURES {
+        let mut rows = drawn.map(|(limit, hits, hit_bytes)| {
+            let tally = Tally {
+                requests: 8,
+                hits,
+                bytes: 19,
+                hit_bytes,
+                evictions: 0,
+            };
+            (limit, tally)
+        });
+        let text = format!(in alloc; "{}", Plot::new(&mut rows))?;
+        if !text.contains(hits) || !text.contains(bytes) {
+            return Ok(text);
+        }
+    }
+    Ok(String::new(alloc))
+}
+
 #[test]
 fn plays_and_tells_what_it_should(rt: HostRuntime) -> Result<(), Fail> {
     let mut wrong = wrong_line(rt.alloc())?;
     wrong.push_str(&wrong_share(rt.alloc())?)?;
     wrong.push_str(&wrong_tally(rt.alloc())?)?;
     wrong.push_str(&wrong_pass(rt.alloc())?)?;
+    wrong.push_str(&wrong_picture(rt.alloc())?)?;
     assert_eq!(rt; wrong.as_str(), "");
     Ok(())
 }

@@ -53,3 +53,13 @@ window_after previous bs w =
 -- the tally of so many requests
 abbrev pub tally_of : ℕ → Window → Tally
 tally_of n w = record { requests = n; hits = w.hits; bytes = n; hit_bytes = w.hits; evictions = w.evictions }
+
+-- windows after a request more, which is played up to the first window that has its object
+abbrev pub asked : ℕ → List Bool → List Window → List Window
+asked previous bs [] = []
+asked previous bs (w ∷ ws) = window_after previous bs w ∷ (if nat_lt w.start previous then ws else asked previous bs ws)
+
+-- windows, each with the hits of those before it too, and so many more
+abbrev pub summed : ℕ → List Window → List Window
+summed n [] = []
+summed n (w ∷ ws) = record w { hits = (n + w.hits) % 2 ^ 64 } ∷ summed ((n + w.hits) % 2 ^ 64) ws
