@@ -52,7 +52,7 @@ fn loads_what_it_saved(rt: HostRuntime) -> Result<(), Fail> {
 #[test]
 fn tells_what_was_not_saved(rt: HostRuntime) -> Result<(), Fail> {
     let input = b"save d c\nload d c\n".as_slice();
-    // The first call makes the folder, and each shard has three, since it has no bytes.
+    // The first call makes the folder, and each shard has four, since it has no bytes.
     for (call, text) in [
         (0, "save refused\nloaded 0 missing 2 errored 0 removed 0\n"),
         (
@@ -64,11 +64,11 @@ fn tells_what_was_not_saved(rt: HostRuntime) -> Result<(), Fail> {
             "saved 1 failed 1\nloaded 1 missing 1 errored 0 removed 1\n",
         ),
         (
-            6,
+            8,
             "saved 1 failed 1\nloaded 1 missing 1 errored 0 removed 1\n",
         ),
         (
-            7,
+            9,
             "saved 2 failed 0\nloaded 1 missing 0 errored 1 removed 0\n",
         ),
     ] {
@@ -111,7 +111,7 @@ fn draws_the_words_of_a_save(rt: HostRuntime) -> Result<(), Fail> {
     for shard in 0..2 {
         let word = rng.next_u32();
         let mut folder = MemoryFolder::new(rt.alloc());
-        folder.fail_at(3 * shard + 2, 0);
+        folder.fail_at(4 * shard + 2, 0);
         let text = "saved 1 failed 1\n";
         assert!(rt; answers_over(&rt, &mut folder, b"save d c\n".as_slice(), 0, text)?);
         let path = format!(in rt.alloc(); "d/c.{shard}.{word:08x}.tmp")?;

@@ -45,6 +45,7 @@ enum About {
     Create,
     Write,
     Flush,
+    Sync,
     Open,
     Read,
     ReadDir,
@@ -54,7 +55,7 @@ enum About {
 }
 
 /// Errors about files: what they are about, the path, the cause, and how they are shown.
-const FILE_ERRORS: [(About, &str, FolderFault, &str); 9] = [
+const FILE_ERRORS: [(About, &str, FolderFault, &str); 10] = [
     (
         About::Create,
         "d/t",
@@ -72,6 +73,12 @@ const FILE_ERRORS: [(About, &str, FolderFault, &str); 9] = [
         "d/t",
         FolderFault::Io,
         "failed to flush temp file d/t: input or output failed",
+    ),
+    (
+        About::Sync,
+        "d/t",
+        FolderFault::Io,
+        "failed to sync d/t: input or output failed",
     ),
     (
         About::Open,
@@ -123,6 +130,7 @@ fn file_error(
         About::Create => ShardFileError::Create { path, source },
         About::Write => ShardFileError::Write { path, source },
         About::Flush => ShardFileError::Flush { path, source },
+        About::Sync => ShardFileError::Sync { path, source },
         About::Open => ShardFileError::Open { path, source },
         About::Read => ShardFileError::Read { path, source },
         About::ReadDir => ShardFileError::ReadDir { path, source },
