@@ -36,6 +36,7 @@ returns-clause-saves g c =
       reason = h.reason;
       parents = h.parents;
       time = h.time;
+      loss = h.loss;
       drawn = h.drawn;
       kept = h.kept;
     }
