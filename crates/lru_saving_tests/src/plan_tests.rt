@@ -87,36 +87,28 @@ const CALLS: [(u64, usize, &str); 15] = [
     ),
 ];
 
-/// How the failure of shard 1 is told where all calls fail by then.
-const NO_SHARD_1: &str =
-    "failed to save shard 1: failed to create d/c.1.0000002b.tmp: input or output failed\n";
-
-/// And that of shard 2.
-const NO_SHARD_2: &str =
-    "failed to save shard 2: failed to create d/c.2.0000002c.tmp: input or output failed\n";
-
 /// The bytes of each shard.
 const BYTES: Option<&[u8]> = Some(b"abc");
 
 /// For each shard: the files where a call for it alone fails; and where all from one of its calls on fail, how the answer
 /// begins, what is told of the shards after it, and the files then.
-const SHARDS: [([Option<&[u8]>; 3], &str, &[&str], [Option<&[u8]>; 3]); 3] = [
+const SHARDS: [([Option<&[u8]>; 3], &str, &str, [Option<&[u8]>; 3]); 3] = [
     (
         [None, BYTES, BYTES],
         "All 3 shards failed to save; see prior warnings for per-shard causes.\n",
-        &[NO_SHARD_1, NO_SHARD_2],
+        "failed to save shard 1: failed to create d/c.1.0000002b.tmp: input or output failed\nfailed to save shard 2: failed to create d/c.2.0000002c.tmp: input or output failed\n",
         [None, None, None],
     ),
     (
         [BYTES, None, BYTES],
         "saved 1 failed 2\n",
-        &[NO_SHARD_2],
+        "failed to save shard 2: failed to create d/c.2.0000002c.tmp: input or output failed\n",
         [BYTES, None, None],
     ),
     (
         [BYTES, BYTES, None],
         "saved 2 failed 1\n",
-        &[],
+        "",
         [BYTES, BYTES, None],
     ),
 ];
@@ -179,10 +171,7 @@ fn one_call_fails(rt: HostRuntime) -> Result<(), Fail> {
 fn wrong_stop(alloc: Global) -> Result<Option<u64>, AllocError> {
     for (call, shard, text) in CALLS {
         let (_, counts, after, files) = SHARDS[shard % 3];
-        let mut text = format!(in alloc; "{counts}{text}\n")?;
-        for failure in after {
-            text.push_str(failure)?;
-        }
+        let text = format!(in alloc; "{counts}{text}\n{after}")?;
         let mut folder = MemoryFolder::new(alloc);
         folder.stop_at(call, 0);
         if !ends_so(alloc, &mut folder, &text, files)? {
