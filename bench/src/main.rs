@@ -1,6 +1,7 @@
 //! Measures each call beside its peers, in one run: ratios of the thread's time, medians over rounds.
 mod peers;
 mod plan;
+mod traces;
 mod watch;
 
 use peers::Subject;
@@ -89,7 +90,12 @@ fn once(subject: Subject, rows: usize) {
 }
 
 fn main() {
-    let words: Vec<Option<usize>> = std::env::args().skip(1).map(|word| word.parse().ok()).collect();
+    let texts: Vec<String> = std::env::args().skip(1).collect();
+    if let [word, objects, size, path] = &texts[..] {
+        assert_eq!(word, "traces", "usage: bench traces OBJECTS SIZE FILE");
+        return traces::run(objects.parse().expect("a number"), size.parse().expect("a number"), path).expect("the file");
+    }
+    let words: Vec<Option<usize>> = texts.iter().map(|word| word.parse().ok()).collect();
     match words[..] {
         [] => {
             table(100_000, 9);
@@ -97,7 +103,7 @@ fn main() {
         }
         [Some(column), Some(rows)] if column < SUBJECTS.len() => once(SUBJECTS[column], rows),
         _ => {
-            eprintln!("usage: bench [COLUMN ROWS], with a column of the table, counted from 0");
+            eprintln!("usage: bench [COLUMN ROWS | traces OBJECTS SIZE FILE], with a column of the table, counted from 0");
             std::process::exit(2);
         }
     }

@@ -51,17 +51,15 @@ fn refuses_what_is_too_heavy(rt: HostRuntime) -> Result<(), Fail> {
     let mut map = HashMap::new(rt.alloc());
     let mut evicted = MailState::new(rt.alloc());
     let first = process_msg(&mut state, &mut map, &mut evicted, admit(7, 1, 6));
-    assert!(rt; !first.refused);
     let second = process_msg(&mut state, &mut map, &mut evicted, admit(8, 2, 5));
-    assert!(rt; second.refused && second.look);
     let mut alone = ShardState::with_capacity(rt.alloc(), 0, 10)?;
     alone.step(admit(7, 1, 6));
-    assert!(rt; alone.step(admit(8, 2, 5)).refused);
-    assert_eq!(rt;
-        (state.refused(), state.len(), state.used_weight()),
-        (1, 1, 6)
+    let alone_too = alone.step(admit(8, 2, 5)).refused;
+    assert!(rt;
+        (first.refused, second.refused, second.look, alone_too) == (false, true, true, true)
+            && (state.refused(), state.len(), state.used_weight()) == (1, 1, 6)
+            && (map.len(), map.get(&7).copied()) == (1, Some(6))
     );
-    assert_eq!(rt; (map.len(), map.get(&7).copied()), (1, Some(6)));
     Ok(())
 }
 
@@ -93,18 +91,18 @@ fn serves_a_batch_in_order(rt: HostRuntime) -> Result<(), Fail> {
         &mut batch,
         &mut effects,
     );
-    assert!(rt; batch.is_empty());
-    assert_eq!(rt; effects.len(), 4);
-    assert_eq!(rt;
-        (effects[0].put, effects[1].put),
-        (Some((7, 1)), Some((8, 0)))
-    );
-    assert_eq!(rt; effects[3].cleared, Some(7));
-    assert_eq!(rt; share.slips().len(), 1);
-    assert_eq!(rt; (share.slips()[0].hash, share.slips()[0].weight), (7, 1));
-    assert_eq!(rt;
-        (choose_victim(3, 5, 2, 2), choose_victim(3, 5, 1, 2)),
-        (3, 5)
+    let [first, second, _, last] = effects.as_slice() else {
+        return Err(Fail::from("not four effects"));
+    };
+    let [slip] = share.slips() else {
+        return Err(Fail::from("not one slip"));
+    };
+    assert!(rt;
+        batch.is_empty()
+            && (first.put, second.put) == (Some((7, 1)), Some((8, 0)))
+            && last.cleared == Some(7)
+            && (slip.hash, slip.weight) == (7, 1)
+            && (choose_victim(3, 5, 2, 2), choose_victim(3, 5, 1, 2)) == (3, 5)
     );
     Ok(())
 }
@@ -141,8 +139,10 @@ fn takes_keys_of_one_hash_for_one_row(rt: HostRuntime) -> Result<(), Fail> {
     let Some((hash, key, weight)) = rows.next() else {
         return Err(Fail::from("no row"));
     };
-    assert_eq!(rt; hash, hash_key(&Alike { name: 9 }));
-    assert_eq!(rt; (key.name, weight), (1, 5));
-    assert!(rt; rows.next().is_none());
+    assert!(rt;
+        hash == hash_key(&Alike { name: 9 })
+            && (key.name, weight) == (1, 5)
+            && rows.next().is_none()
+    );
     Ok(())
 }

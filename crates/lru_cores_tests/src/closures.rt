@@ -2,42 +2,99 @@
 use crate::steps::shown;
 use lru_cores::lru_core::LruCore;
 use lru_shard::unit::{Cause, Refused};
+use std::alloc::Global;
 use std::test::Fail;
 
 const MOST: usize = 18446744073709551615;
 
-// What a refused call says and hands back.
-fn parts<D>(refused: Refused<D>) -> (Cause, D) {
-    (refused.cause, refused.held)
+// A key, what its closure adds to its weight, and whether it gives the weight 0.
+const UPDATES: [(u64, usize, bool); 3] = [(2, 3, false), (6, 0, false), (4, 0, true)];
+
+// What each update answers and leaves, where the keys 2 and 4 have their own weight.
+fn updates(alloc: Global) -> Result<String, Fail> {
+    let mut core = LruCore::<u64, 1>::with_capacity(alloc, 100, 0)?;
+    let shards = (core.admit(2, 20, 2)?, core.admit(4, 40, 4)?);
+    let mut text = format!(in alloc; "{shards:?}")?;
+    for (key, more, is_zero) in &UPDATES {
+        let answer = core.update_or_admit(
+            *key,
+            |value, weight| {
+                *value = value.wrapping_add(1);
+                if *is_zero {
+                    0
+                } else {
+                    weight.wrapping_add(*more)
+                }
+            },
+            || (60, 0),
+        )?;
+        let left = shown(alloc, &core)?;
+        write!(text, "; {answer:?} {left}")?;
+    }
+    Ok(text)
 }
 
 #[test]
 fn updates_or_admits(rt: HostRuntime) -> Result<(), Fail> {
-    let mut core = LruCore::<u64, 1>::with_capacity(rt.alloc(), 100, 0)?;
-    for key in [2u64, 4] {
-        assert_eq!(rt; core.admit(key, key * 10, key as usize)?, 0);
-    }
-    for (key, more, is_zero, was, left) in [
-        (2, 3, false, Some(2), "9: [(21, 5), (40, 4)]"),
-        (6, 0, false, None, "10: [(60, 1), (21, 5), (40, 4)]"),
-        (4, 0, true, Some(4), "7: [(41, 1), (60, 1), (21, 5)]"),
-    ] {
-        let answer = core.update_or_admit(
-            key,
-            |value, weight| {
-                *value = value.wrapping_add(1);
-                if is_zero {
-                    0
-                } else {
-                    weight.wrapping_add(more)
-                }
-            },
-            || (60, 0),
-        );
-        assert_eq!(rt; answer?, was, "of {key}");
-        assert_eq!(rt; shown(rt.alloc(), &core)?.as_str(), left, "of {key}");
-    }
+    assert_eq!(rt;
+        updates(rt.alloc())?.as_str(),
+        "(0, 0); Some(2) 9: [(21, 5), (40, 4)]; None 10: [(60, 1), (21, 5), (40, 4)]; \
+            Some(4) 7: [(41, 1), (60, 1), (21, 5)]"
+    );
     Ok(())
+}
+
+// A key, what is added to its weight, up to what, and the answer.
+const INCREMENTS: [(u64, usize, Option<usize>, Result<usize, Cause>); 3] = [
+    (1, 1, Some(1), Ok(MOST)),
+    (2, 1, None, Err(Cause::Weight)),
+    (3, 1, None, Err(Cause::Weight)),
+];
+
+// Whether each increment is answered so; `made` counts the data that were made.
+fn are_increments_right(core: &mut LruCore<u64, 1>, made: &mut u32) -> bool {
+    let mut right = true;
+    for (key, delta, most, wanted) in &INCREMENTS {
+        let data = || {
+            *made = made.wrapping_add(1);
+            7
+        };
+        let answer = core.increment_weight(*key, data, *delta, *most);
+        right = right && answer == *wanted;
+    }
+    right
+}
+
+// A key, the weight that its closure gives, the answer or what a refusal hands back, and how many data were made so far.
+type Update = (u64, usize, Result<Option<usize>, Option<(u64, usize)>>, u32);
+
+const REFUSED_UPDATES: [Update; 3] = [
+    (1, MOST, Ok(Some(MOST)), 0),
+    (3, 1, Err(None), 0),
+    (2, 1, Err(Some((7, 1))), 1),
+];
+
+// What a call that is refused for weight hands back; for another cause it is nothing that is wanted.
+fn handed_back(refused: Refused<Option<(u64, usize)>>) -> Option<(u64, usize)> {
+    match refused.cause {
+        Cause::Weight => refused.held,
+        _ => Some((0, 0)),
+    }
+}
+
+fn are_updates_right(core: &mut LruCore<u64, 1>, made: &mut u32) -> bool {
+    let mut right = true;
+    for (key, weight, wanted, count) in &REFUSED_UPDATES {
+        let data = || {
+            *made = made.wrapping_add(1);
+            (7, 1)
+        };
+        let answer = core
+            .update_or_admit(*key, |_, _| *weight, data)
+            .map_err(handed_back);
+        right = right && answer == *wanted && *made == *count;
+    }
+    right
 }
 
 // No data are made where they are not needed: not for a row that is there, also where it is refused, and not before
@@ -45,41 +102,13 @@ fn updates_or_admits(rt: HostRuntime) -> Result<(), Fail> {
 #[test]
 fn makes_no_data_that_it_need_not(rt: HostRuntime) -> Result<(), Fail> {
     let mut core = LruCore::<u64, 1>::with_capacity(rt.alloc(), 100, 0)?;
-    assert_eq!(rt; core.admit(1, 10, MOST)?, 0);
-    assert_eq!(rt; core.insert_tail(3, 30, 0)?, true);
+    let shard = core.admit(1, 10, MOST)?;
+    let is_added = core.insert_tail(3, 30, 0)?;
     let mut made = 0u32;
-    for (key, delta, most, answer) in [
-        (1, 1, Some(1), Ok(MOST)),
-        (2, 1, None, Err(Cause::Weight)),
-        (3, 1, None, Err(Cause::Weight)),
-    ] {
-        let data = || {
-            made = made.wrapping_add(1);
-            7
-        };
-        assert_eq!(rt;
-            core.increment_weight(key, data, delta, most),
-            answer,
-            "of {key}"
-        );
-    }
-    for (key, weight, answer) in [
-        (1, MOST, Ok(Some(MOST))),
-        (3, 1, Err((Cause::Weight, None))),
-        (2, 1, Err((Cause::Weight, Some((7, 1))))),
-    ] {
-        assert_eq!(rt; made, 0, "before {key}");
-        let data = || {
-            made = made.wrapping_add(1);
-            (7, 1)
-        };
-        assert_eq!(rt;
-            core.update_or_admit(key, |_, _| weight, data)
-                .map_err(parts),
-            answer,
-            "of {key}"
-        );
-    }
-    assert_eq!(rt; made, 1);
+    let are_right = [
+        are_increments_right(&mut core, &mut made),
+        are_updates_right(&mut core, &mut made),
+    ];
+    assert_eq!(rt; (shard, is_added, are_right, made), (0, true, [true; 2], 1));
     Ok(())
 }

@@ -5,23 +5,26 @@ use rand_core::SeedableRng;
 use std::alloc::Global;
 use std::test::Fail;
 
+// Of six rows of weight 0: whether all were new, their number and weight, how many a watermark evicts, and how many it
+// leaves.
+fn evicted_above(alloc: Global, watermark: usize) -> Result<(bool, [usize; 4]), Fail> {
+    let mut rng = StdRng::seed_from_u64(1);
+    let mut core = LruCore::<u64, 2>::with_capacity_and_watermark(alloc, 100, 0, Some(watermark))?;
+    let mut are_new = true;
+    for key in 0..=5 {
+        are_new = core.insert_tail(key, key, 0)? && are_new;
+    }
+    let (len, weight) = (core.len(), core.weight());
+    let evicted = core.evict_to_limit(alloc, &mut rng)?.len();
+    Ok((are_new, [len, weight, evicted, core.len()]))
+}
+
 #[test]
 fn evicts_above_a_watermark(rt: HostRuntime) -> Result<(), Fail> {
-    for (watermark, evicted) in [(2, 4), (0, 6)] {
-        let mut rng = StdRng::seed_from_u64(1);
-        let mut core = LruCore::<u64, 2>::with_capacity_and_watermark(
-            rt.alloc(),
-            100,
-            0,
-            Some(watermark),
-        )?;
-        for key in 0..=5 {
-            assert_eq!(rt; core.insert_tail(key, key, 0)?, true);
-        }
-        assert_eq!(rt; (core.len(), core.weight()), (6, 0));
-        assert_eq!(rt; core.evict_to_limit(rt.alloc(), &mut rng)?.len(), evicted);
-        assert_eq!(rt; core.len(), watermark);
-    }
+    assert_eq!(rt;
+        [evicted_above(rt.alloc(), 2)?, evicted_above(rt.alloc(), 0)?],
+        [(true, [6, 0, 4, 2]), (true, [6, 0, 6, 0])]
+    );
     Ok(())
 }
 
@@ -42,18 +45,27 @@ fn spread(alloc: Global, seed: u64) -> Result<Vec<(u64, usize)>, Fail> {
     Ok(core.evict_to_limit(alloc, &mut rng)?)
 }
 
-#[test]
-fn spreads_its_evictions(rt: HostRuntime) -> Result<(), Fail> {
-    let first = spread(rt.alloc(), 0)?;
+// Whether each of 50 seeds evicts 30 rows, how many of all these have even keys, and whether they differ.
+fn spreads(alloc: Global) -> Result<(bool, usize, bool), Fail> {
+    let first = spread(alloc, 0)?;
+    let mut are_as_many = true;
     let mut even = 0usize;
     let mut differ = false;
     for seed in 0..50 {
-        let evicted = spread(rt.alloc(), seed)?;
-        assert_eq!(rt; evicted.len(), 30, "by seed {seed}");
+        let evicted = spread(alloc, seed)?;
+        are_as_many = are_as_many && evicted.len() == 30;
         even = even.saturating_add(evicted.iter().filter(|pair| pair.0 % 2 == 0).count());
         differ = differ || evicted.as_slice() != first.as_slice();
     }
-    assert!(rt; 1050 <= even && even <= 1425, "{even} are even");
-    assert!(rt; differ);
+    Ok((are_as_many, even, differ))
+}
+
+#[test]
+fn spreads_its_evictions(rt: HostRuntime) -> Result<(), Fail> {
+    let (are_as_many, even, differ) = spreads(rt.alloc())?;
+    assert!(rt;
+        are_as_many && differ && 1050 <= even && even <= 1425,
+        "30 of each: {are_as_many}; {even} are even; they differ: {differ}"
+    );
     Ok(())
 }

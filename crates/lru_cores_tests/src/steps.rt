@@ -40,16 +40,12 @@ fn reply_of<const N: usize>(
     rng: &mut StdRng,
     call: Call<u64>,
 ) -> Reply<u64> {
-    match call {
-        Call::EvictStep { a, b } if a < N && b < N => answer(
-            core,
-            alloc,
-            rng,
-            Call::EvictStep { a, b },
-        ),
-        Call::EvictStep { .. } => Reply::Left(None),
-        call => answer(core, alloc, rng, call),
+    if let Call::EvictStep { a, b } = &call
+        && (*a >= N || *b >= N)
+    {
+        return Reply::Left(None);
     }
+    answer(core, alloc, rng, call)
 }
 
 // Does a call, and says what is otherwise than it has to be; nothing, where all is well.

@@ -1,7 +1,6 @@
 //! A box by its worked row.
 use crate::single::Single;
 use lru_ledger::{LedgerState, Slip};
-use std::alloc::{AllocError, Global};
 use std::test::Fail;
 
 // Puts of hashes 5, 6 and 7, a take, and the receivers gone before the last put.
@@ -13,24 +12,27 @@ fn loses_what_no_one_took(rt: HostRuntime) -> Result<(), Fail> {
     ledger.put(&mut putter, 5, "a", 1)?;
     ledger.put(&mut putter, 6, "b", 2)?;
     let (slip, key) = ledger.take(&mut taker)?.ok_or("nothing waits")?;
-    assert_eq!(rt; (slip.number, slip.hash, slip.weight, key), (0, 5, 1, "a"));
-    assert_eq!(rt; ledger.len(), 1);
+    let one_waits = ledger.len() == 1;
     ledger.leave();
-    assert!(rt; ledger.is_closed());
     ledger.put(&mut putter, 7, "c", 3)?;
-    assert_eq!(rt; (ledger.len(), ledger.lost_len()), (0, 2));
-    assert_eq!(rt; putter.slips().len(), 3);
-    assert_eq!(rt; taker.slips().len(), 1);
-    assert!(rt; ledger.take(&mut taker)?.is_none());
+    assert!(rt;
+        (slip.number, slip.hash, slip.weight, key) == (0, 5, 1, "a")
+            && one_waits
+            && ledger.is_closed()
+            && (ledger.len(), ledger.lost_len()) == (0, 2)
+            && (putter.slips().len(), taker.slips().len()) == (3, 1)
+            && ledger.take(&mut taker)?.is_none()
+    );
     Ok(())
 }
 
-fn numbers(alloc: Global, slips: &[Slip]) -> Result<Vec<u64>, AllocError> {
-    let mut numbers = Vec::new(alloc);
-    for slip in slips {
-        numbers.push(slip.number)?;
-    }
-    Ok(numbers)
+// Whether the slips have these numbers, in order.
+fn are(slips: &[Slip], numbers: &[u64]) -> bool {
+    slips.len() == numbers.len()
+        && slips
+            .iter()
+            .zip(numbers)
+            .all(|(slip, number)| slip.number == *number)
 }
 
 // The same row to its end: the puts 0, 1 and 2, the take 0, the lost 1 and 2, and none left.
@@ -40,23 +42,22 @@ fn settles_every_slip(rt: HostRuntime) -> Result<(), Fail> {
     single.put(5, 1, 1)?;
     single.put(6, 2, 2)?;
     let (slip, key) = single.take()?.ok_or("nothing waits")?;
-    assert_eq!(rt; (slip.number, key), (0, 1));
     single.leave();
     single.put(7, 3, 3)?;
     let mut settled = single.settle(rt.alloc())?;
     let put = settled.puts.pop().ok_or("no puts")?;
     let taken = settled.takes.pop().ok_or("no takes")?;
-    assert!(rt; settled.puts.is_empty() && settled.takes.is_empty());
-    for (slips, expected) in [
-        (put.as_slice(), [0, 1, 2].as_slice()),
-        (taken.as_slice(), [0].as_slice()),
-        (settled.lost.as_slice(), [1, 2].as_slice()),
-    ] {
-        let numbers = numbers(rt.alloc(), slips)?;
-        assert_eq!(rt; numbers.as_slice(), expected);
-    }
-    assert!(rt; settled.left.is_empty());
+    let lost_are_the_last_two = are(settled.lost.as_slice(), &[1, 2]);
     let last = settled.lost.pop().ok_or("none lost")?;
-    assert_eq!(rt; (last.hash, last.weight), (7, 3));
+    assert!(rt;
+        (slip.number, key) == (0, 1)
+            && are(put.as_slice(), &[0, 1, 2])
+            && are(taken.as_slice(), &[0])
+            && lost_are_the_last_two
+            && (last.hash, last.weight) == (7, 3)
+            && settled.puts.is_empty()
+            && settled.takes.is_empty()
+            && settled.left.is_empty()
+    );
     Ok(())
 }

@@ -3,10 +3,93 @@ ghost use Rattle.std.specs.Prelude.{IsTrue};
 ghost use Rattle.lru_list.specs.Linked.{IsLive};
 
 use lru_list::linked_list::{Index, LinkedList, LinkedListU64, PushError};
-use std::alloc::AllocError;
+use std::alloc::{AllocError, Global};
 use std::test::Fail;
 
 const NO_SLOT: Index = 4294967295;
+
+// A call of a list of numbers, and what it is given.
+#[derive(Clone, Copy)]
+enum Call {
+    PushHead(u64),
+    PushTail(u64),
+    PopTail,
+    // Answers the item; nothing, where the index has none.
+    Remove(Index),
+    // Answers whether the index has an item, by the index.
+    Promote(Index),
+    Peek(Index),
+    Head,
+    Tail,
+    // The index before another, and the one behind it.
+    Prev(Index),
+    Next(Index),
+    // Answers a value that is among the first so many.
+    Near(u64, usize),
+    // Answers for how many more there is room.
+    Reserve(usize),
+    Len,
+}
+
+// A call, its answer as a number, and the items after it.
+type Step = (Call, Option<u64>, &'static [u64]);
+
+#[rattlefmt::skip]
+const USES_A_FREED_SLOT_AGAIN: [Step; 9] = [
+    (Call::PushHead(1), Some(2), &[1]),
+    (Call::PushHead(2), Some(3), &[2, 1]),
+    (Call::PushHead(3), Some(4), &[3, 2, 1]),
+    (Call::Remove(3), Some(2), &[3, 1]),
+    (Call::Peek(3), Some(0), &[3, 1]),
+    (Call::Prev(3), Some(4294967295), &[3, 1]),
+    (Call::Next(3), Some(4294967295), &[3, 1]),
+    (Call::Remove(3), None, &[3, 1]),
+    (Call::PushHead(4), Some(3), &[4, 3, 1]),
+];
+
+#[rattlefmt::skip]
+const FINDS_NEAR_THE_HEAD: [Step; 7] = [
+    (Call::PushTail(3), Some(2), &[3]),
+    (Call::PushTail(2), Some(3), &[3, 2]),
+    (Call::PushTail(4), Some(4), &[3, 2, 4]),
+    (Call::Near(4, 1), None, &[3, 2, 4]),
+    (Call::Near(4, 2), None, &[3, 2, 4]),
+    (Call::Near(4, 3), Some(4), &[3, 2, 4]),
+    (Call::Near(4, 99999), Some(4), &[3, 2, 4]),
+];
+
+#[rattlefmt::skip]
+const PROMOTES_AND_WALKS: [Step; 24] = [
+    (Call::PushTail(1), Some(2), &[1]),
+    (Call::PushTail(2), Some(3), &[1, 2]),
+    (Call::PushTail(3), Some(4), &[1, 2, 3]),
+    (Call::PushTail(4), Some(5), &[1, 2, 3, 4]),
+    (Call::Head, Some(2), &[1, 2, 3, 4]),
+    (Call::Tail, Some(5), &[1, 2, 3, 4]),
+    (Call::Promote(4), Some(4), &[3, 1, 2, 4]),
+    (Call::Promote(4), Some(4), &[3, 1, 2, 4]),
+    (Call::Next(0), Some(4), &[3, 1, 2, 4]),
+    (Call::Prev(0), Some(4294967295), &[3, 1, 2, 4]),
+    (Call::Next(1), Some(4294967295), &[3, 1, 2, 4]),
+    (Call::Prev(1), Some(5), &[3, 1, 2, 4]),
+    (Call::Prev(4), Some(0), &[3, 1, 2, 4]),
+    (Call::Next(4), Some(2), &[3, 1, 2, 4]),
+    (Call::Prev(2), Some(4), &[3, 1, 2, 4]),
+    (Call::Next(2), Some(3), &[3, 1, 2, 4]),
+    (Call::Prev(3), Some(2), &[3, 1, 2, 4]),
+    (Call::Next(3), Some(5), &[3, 1, 2, 4]),
+    (Call::Prev(5), Some(3), &[3, 1, 2, 4]),
+    (Call::Next(5), Some(1), &[3, 1, 2, 4]),
+    (Call::Peek(0), None, &[3, 1, 2, 4]),
+    (Call::Peek(1), None, &[3, 1, 2, 4]),
+    (Call::Peek(6), None, &[3, 1, 2, 4]),
+    (Call::Peek(NO_SLOT), None, &[3, 1, 2, 4]),
+];
+
+const MAKES_ROOM_IN_AN_EMPTY_LIST: [Step; 2] = [
+    (Call::Reserve(100), Some(100), &[]),
+    (Call::Len, Some(0), &[]),
+];
 
 // Whether the index has an item in the list.
 fn is_live<K>(list: &LinkedList<K>, index: Index) -> bool
@@ -28,6 +111,15 @@ fn neighbours<K>(list: &LinkedList<K>, index: Index) -> Option<(Index, Index)> {
     Some((list.prev_index(index), list.next_index(index)))
 }
 
+// The same of a slot or a sentinel.
+fn around<K>(list: &LinkedList<K>, index: Index) -> Option<(Index, Index)> {
+    match index {
+        0 => Some((list.prev_index(0), list.next_index(0))),
+        1 => Some((list.prev_index(1), list.next_index(1))),
+        _ => neighbours(list, index),
+    }
+}
+
 fn remove_at<K: Default + Drop>(list: &mut LinkedList<K>, index: Index) -> Option<K> {
     if is_live(list, index) {
         Some(list.remove(index))
@@ -44,27 +136,115 @@ fn promote_at<K: Default + Drop>(list: &mut LinkedList<K>, index: Index) -> bool
     live
 }
 
-fn keys(rt: &HostRuntime, list: &LinkedListU64) -> Result<Vec<u64>, Fail> {
-    Ok(list.iter().copied().collect(rt.alloc())?)
+fn number_of(index: Option<Index>) -> Option<u64> {
+    match index {
+        None => None,
+        Some(index) => Some(index as u64),
+    }
+}
+
+// What a call that changes no item answers.
+fn look(list: &LinkedListU64, call: Call) -> Option<u64> {
+    match call {
+        Call::Peek(index) => list.peek(index).copied(),
+        Call::Head => number_of(list.head()),
+        Call::Tail => number_of(list.tail()),
+        Call::Prev(index) => Some(around(list, index)?.0 as u64),
+        Call::Next(index) => Some(around(list, index)?.1 as u64),
+        Call::Near(value, limit) if list.exist_near_head(&value, limit) => Some(value),
+        Call::Len => Some(list.len() as u64),
+        _ => None,
+    }
+}
+
+fn answer_of(list: &mut LinkedListU64, call: Call) -> Result<Option<u64>, PushError<u64>> {
+    Ok(match call {
+        Call::PushHead(item) => Some(list.push_head(item)? as u64),
+        Call::PushTail(item) => Some(list.push_tail(item)? as u64),
+        Call::PopTail => list.pop_tail(),
+        Call::Remove(index) => remove_at(list, index),
+        Call::Promote(index) if promote_at(list, index) => Some(index as u64),
+        Call::Reserve(count) if list.reserve(count).is_ok() => Some(count as u64),
+        _ => look(list, call),
+    })
+}
+
+fn keys(alloc: Global, list: &LinkedListU64) -> Result<Vec<u64>, AllocError> {
+    list.iter().copied().collect(alloc)
+}
+
+// The place of the first call that answers or leaves something else, where the calls are done on an empty list.
+fn fault(alloc: Global, capacity: usize, steps: &[Step]) -> Result<Option<usize>, Fail> {
+    let mut list = LinkedListU64::with_capacity(alloc, capacity)?;
+    for (place, (call, answer, left)) in steps.iter().enumerate() {
+        let answers = answer_of(&mut list, *call)?;
+        let leaves = keys(alloc, &list)?;
+        if answers != *answer || leaves.as_slice() != *left {
+            return Ok(Some(place));
+        }
+    }
+    Ok(None)
+}
+
+fn faults(alloc: Global) -> Result<[Option<usize>; 4], Fail> {
+    Ok([
+        fault(alloc, 0, &USES_A_FREED_SLOT_AGAIN)?,
+        fault(alloc, 0, &FINDS_NEAR_THE_HEAD)?,
+        fault(alloc, 4, &PROMOTES_AND_WALKS)?,
+        fault(alloc, 0, &MAKES_ROOM_IN_AN_EMPTY_LIST)?,
+    ])
+}
+
+#[test]
+fn answers_and_leaves_what_it_should(rt: HostRuntime) -> Result<(), Fail> {
+    assert_eq!(rt; faults(rt.alloc())?, [None; 4]);
+    Ok(())
+}
+
+// What is left at first and after two, the items that are taken from the front, the back, the front and once more from
+// both, and how many are left then.
+type Taken = ([(usize, Option<usize>); 2], [Option<u64>; 5], usize);
+
+fn taken(list: &LinkedListU64) -> Taken {
+    let mut items = list.iter();
+    let all = items.size_hint();
+    let first = items.next().copied();
+    let last = items.next_back().copied();
+    let rest = items.size_hint();
+    let middle = items.next().copied();
+    let none = items.next().copied();
+    let neither = items.next_back().copied();
+    (
+        [all, rest],
+        [first, last, middle, none, neither],
+        items.len(),
+    )
 }
 
 #[test]
 fn iterates_from_both_ends(rt: HostRuntime) -> Result<(), Fail> {
     let mut list = LinkedListU64::with_capacity(rt.alloc(), 3)?;
+    let places = [list.push_head(2)?, list.push_head(3)?, list.push_tail(4)?];
     assert_eq!(rt;
-        (list.push_head(2)?, list.push_head(3)?, list.push_tail(4)?),
-        (2, 3, 4)
+        (places, taken(&list)),
+        (
+            [2, 3, 4],
+            (
+                [(3, Some(3)), (1, Some(1))],
+                [Some(3), Some(4), Some(2), None, None],
+                0
+            )
+        )
     );
-    let mut items = list.iter();
-    assert_eq!(rt; items.size_hint(), (3, Some(3)));
-    assert_eq!(rt; items.next().copied(), Some(3));
-    assert_eq!(rt; items.next_back().copied(), Some(4));
-    assert_eq!(rt; items.size_hint(), (1, Some(1)));
-    assert_eq!(rt; items.next().copied(), Some(2));
-    assert_eq!(rt; items.next().copied(), None);
-    assert_eq!(rt; items.next_back().copied(), None);
-    assert_eq!(rt; items.len(), 0);
     Ok(())
+}
+
+// The indices from the front, the back, the back and the front, and how many were left after the first two.
+fn indices_of(list: &LinkedListU64) -> ([Option<Index>; 4], usize) {
+    let mut indices = list.indices();
+    let (first, last, left) = (indices.next(), indices.next_back(), indices.len());
+    let (middle, none) = (indices.next_back(), indices.next());
+    ([first, last, middle, none], left)
 }
 
 #[test]
@@ -73,45 +253,25 @@ fn tells_its_indices_from_both_ends(rt: HostRuntime) -> Result<(), Fail> {
     list.push_head(7)?;
     list.push_tail(8)?;
     list.push_head(9)?;
-    let mut indices = list.indices();
-    assert_eq!(rt;
-        (indices.next(), indices.next_back(), indices.len()),
-        (Some(4), Some(3), 1)
-    );
-    assert_eq!(rt; (indices.next_back(), indices.next()), (Some(2), None));
+    assert_eq!(rt; indices_of(&list), ([Some(4), Some(3), Some(2), None], 1));
     Ok(())
 }
 
-#[test]
-fn uses_a_freed_slot_again(rt: HostRuntime) -> Result<(), Fail> {
-    let mut list = LinkedListU64::with_capacity(rt.alloc(), 0)?;
-    assert_eq!(rt; list.push_head(1)?, 2);
-    assert_eq!(rt; list.push_head(2)?, 3);
-    assert_eq!(rt; list.push_head(3)?, 4);
-    assert_eq!(rt; remove_at(&mut list, 3), Some(2));
-    assert_eq!(rt; list.peek(3).copied(), Some(0));
-    assert_eq!(rt; neighbours(&list, 3), Some((NO_SLOT, NO_SLOT)));
-    assert_eq!(rt; remove_at(&mut list, 3), None);
-    assert_eq!(rt; list.push_head(4)?, 3);
-    assert_eq!(rt; keys(&rt, &list)?.as_slice(), [4, 3, 1].as_slice());
-    Ok(())
-}
-
-#[test]
-fn finds_near_the_head(rt: HostRuntime) -> Result<(), Fail> {
-    let mut list = LinkedListU64::with_capacity(rt.alloc(), 0)?;
-    assert_eq!(rt;
-        (list.push_tail(3)?, list.push_tail(2)?, list.push_tail(4)?),
-        (2, 3, 4)
-    );
-    for (limit, found) in [(1, false), (2, false), (3, true), (99999, true)] {
-        assert_eq!(rt;
-            list.exist_near_head(&4, limit),
-            found,
-            "among the first {limit}"
-        );
+// Pushes the numbers below a thousand last. Whether they got the indices from 2 on in order.
+fn are_pushed_in_order(list: &mut LinkedListU64) -> Result<bool, PushError<u64>> {
+    let mut right = true;
+    for k in 0u64..1000 {
+        right = right && list.push_tail(k)? as u64 == k + 2;
     }
-    Ok(())
+    Ok(right)
+}
+
+fn are_popped_in_reverse(list: &mut LinkedListU64) -> bool {
+    let mut right = true;
+    for k in 0u64..1000 {
+        right = right && list.pop_tail() == Some(999 - k);
+    }
+    right && list.pop_tail().is_none()
 }
 
 // The row asks for memory ten times: once for the empty list, and nine times as 2 nodes grow to 1024 by doubling.
@@ -119,86 +279,89 @@ fn finds_near_the_head(rt: HostRuntime) -> Result<(), Fail> {
 #[test]
 fn numbers_slots_in_order(rt: HostRuntime) -> Result<(), Fail> {
     let mut list = LinkedListU64::with_capacity(rt.alloc(), 0)?;
-    for k in 0u64..1000 {
-        assert_eq!(rt; list.push_tail(k)? as u64, k + 2);
-    }
-    for k in 0u64..1000 {
-        assert_eq!(rt; list.pop_tail(), Some(999 - k));
-    }
-    assert_eq!(rt; list.pop_tail(), None);
-    for k in 0u64..1000 {
-        assert_eq!(rt; list.push_tail(k)? as u64, k + 2);
-    }
-    assert_eq!(rt; list.len(), 1000);
+    let right = [
+        are_pushed_in_order(&mut list)?,
+        are_popped_in_reverse(&mut list),
+        are_pushed_in_order(&mut list)?,
+    ];
+    assert_eq!(rt; (right, list.len()), ([true; 3], 1000));
     Ok(())
 }
 
-#[test]
-fn makes_room_in_an_empty_list(rt: HostRuntime) -> Result<(), Fail> {
-    let mut list = LinkedListU64::with_capacity(rt.alloc(), 0)?;
-    list.reserve(100)?;
-    assert_eq!(rt; list.len(), 0);
-    Ok(())
+type Word = Option<String>;
+
+fn word(alloc: Global, text: &str) -> Result<Word, AllocError> {
+    Ok(Some(String::from_str(alloc, text)?))
 }
 
-#[test]
-fn promotes_and_walks(rt: HostRuntime) -> Result<(), Fail> {
-    let mut list = LinkedListU64::with_capacity(rt.alloc(), 4)?;
-    for k in 1..=4u64 {
-        assert_eq!(rt; list.push_tail(k)? as u64, k + 1);
-    }
-    assert_eq!(rt; (list.head(), list.tail()), (Some(2), Some(5)));
-    assert!(rt; promote_at(&mut list, 4));
-    assert!(rt; promote_at(&mut list, 4));
-    assert_eq!(rt; keys(&rt, &list)?.as_slice(), [3, 1, 2, 4].as_slice());
-    assert_eq!(rt; list.next_index(0), 4);
-    assert_eq!(rt; list.prev_index(0), NO_SLOT);
-    assert_eq!(rt; list.next_index(1), NO_SLOT);
-    assert_eq!(rt; list.prev_index(1), 5);
-    for (index, before, after) in [(4, 0, 2), (2, 4, 3), (3, 2, 5), (5, 3, 1)] {
-        assert_eq!(rt;
-            neighbours(&list, index),
-            Some((before, after)),
-            "round {index}"
-        );
-    }
-    for index in [0, 1, 6, NO_SLOT] {
-        assert!(rt; list.peek(index).is_none(), "at {index}");
-    }
-    Ok(())
-}
+// Three texts, the first of which is written to and put first: the indices of the pushes, of the ends and beside
+// the sentinels, whether the write and the looks near the head were right, and whether each text left as it was.
+type Told = ([Option<Index>; 7], [bool; 8], usize);
 
-fn word(rt: &HostRuntime, text: &str) -> Result<Option<String>, AllocError> {
-    Ok(Some(String::from_str(rt.alloc(), text)?))
+fn told(alloc: Global) -> Result<Told, Fail> {
+    let mut list = LinkedList::with_capacity(alloc, 1)?;
+    list.reserve(2)?;
+    let b = list.push_head(word(alloc, "b")?)?;
+    let a = list.push_head(word(alloc, "a")?)?;
+    let c = list.push_tail(word(alloc, "c")?)?;
+    if let Some(Some(text)) = list.peek_mut(2) {
+        text.push_str("d")?;
+    }
+    let sentinel = list.peek_mut(1).is_none();
+    let promoted = promote_at(&mut list, 2);
+    let (head, tail) = (list.head(), list.tail());
+    let (first, last) = (list.next_index(0), list.prev_index(1));
+    let is_near = list.exist_near_head(&word(alloc, "bd")?, 1);
+    let is_far = !list.exist_near_head(&word(alloc, "a")?, 1);
+    let popped = list.pop_tail() == Some(word(alloc, "c")?);
+    let removed = remove_at(&mut list, 2) == Some(word(alloc, "bd")?);
+    let freed = list.peek(2).is_some_and(|item| item.is_none());
+    let left = list.iter().next_back() == Some(&word(alloc, "a")?);
+    Ok((
+        [
+            Some(b),
+            Some(a),
+            Some(c),
+            head,
+            tail,
+            Some(first),
+            Some(last),
+        ],
+        [
+            sentinel, promoted, is_near, is_far, popped, removed, freed, left,
+        ],
+        list.len(),
+    ))
 }
 
 #[test]
 fn holds_texts(rt: HostRuntime) -> Result<(), Fail> {
-    let mut list = LinkedList::with_capacity(rt.alloc(), 1)?;
-    list.reserve(2)?;
-    assert_eq!(rt; list.push_head(word(&rt, "b")?)?, 2);
-    assert_eq!(rt; list.push_head(word(&rt, "a")?)?, 3);
-    assert_eq!(rt; list.push_tail(word(&rt, "c")?)?, 4);
-    if let Some(Some(text)) = list.peek_mut(2) {
-        text.push_str("d")?;
-    }
-    assert!(rt; list.peek_mut(1).is_none());
-    assert!(rt; promote_at(&mut list, 2));
-    assert_eq!(rt; (list.head(), list.tail()), (Some(2), Some(4)));
-    assert_eq!(rt; list.next_index(0), 2);
-    assert_eq!(rt; list.prev_index(1), 4);
-    assert!(rt; list.exist_near_head(&word(&rt, "bd")?, 1));
-    assert!(rt; !list.exist_near_head(&word(&rt, "a")?, 1));
-    assert_eq!(rt; list.pop_tail(), Some(word(&rt, "c")?));
-    assert_eq!(rt; remove_at(&mut list, 2), Some(word(&rt, "bd")?));
-    assert!(rt; list.peek(2).is_some_and(|item| item.is_none()));
-    assert_eq!(rt; list.iter().next_back(), Some(&word(&rt, "a")?));
-    assert_eq!(rt; list.len(), 1);
+    assert_eq!(rt;
+        told(rt.alloc())?,
+        (
+            [
+                Some(2),
+                Some(3),
+                Some(4),
+                Some(2),
+                Some(4),
+                Some(2),
+                Some(4)
+            ],
+            [true; 8],
+            1
+        )
+    );
     Ok(())
 }
 
 #[test]
 fn numbers_its_refusals(rt: HostRuntime) {
-    assert_eq!(rt; PushError::Memory(7u64).number(), 1);
-    assert_eq!(rt; PushError::Full(7u64).number(), 2);
+    assert_eq!(rt;
+        (
+            PushError::Memory(7u64).number(),
+            PushError::Full(7u64).number()
+        ),
+        (1, 2)
+    );
 }

@@ -1,88 +1,149 @@
-//! A mailbox by its worked rows.
-ghost use Rattle.std.specs.Prelude.{◌≡◌, vec_len};
-
+//! A mailbox by its worked rows: the calls of each, with what they answer.
 use lru_mailbox::{MailError, MailState};
-use std::collections::VecDeque;
+use std::alloc::{AllocError, Global};
 use std::test::Fail;
 
-// What a refusal hands back, with its number.
-fn refused(answer: Result<(), MailError<u8>>) -> Option<(u8, u8)> {
-    let Err(refusal) = answer else {
-        return None;
+/// A call of the mailbox.
+#[derive(Clone, Copy)]
+enum Call {
+    Push(u8),
+    PushEvict(u8),
+    Pop,
+    PopMany(usize),
+    /// After a `reserve_one`, which it wants.
+    PutOrLose(u8),
+    Close,
+    Leave,
+    Counts,
+}
+
+/// What a call answers.
+#[derive(Clone, Copy, PartialEq, Eq)]
+enum Answer {
+    Put,
+    /// The number of the refusal, and the message that it hands back.
+    Refused(u8, u8),
+    Taken(Option<u8>),
+    /// How many messages, the first of them and the last.
+    Many(usize, Option<u8>, Option<u8>),
+    /// Whether the mailbox is closed.
+    IsClosed(bool),
+    /// Pushed, taken, lost, waiting.
+    Are(u64, u64, u64, usize),
+}
+
+fn answer_of(pushed: Result<(), MailError<u8>>) -> Answer {
+    let Err(refusal) = pushed else {
+        return Answer::Put;
     };
     let number = refusal.number();
     let (MailError::Memory(held) | MailError::Closed(held) | MailError::Waiting(held)) = refusal;
-    Some((number, held))
+    Answer::Refused(number, held)
 }
 
-// Pushed, taken, lost, waiting.
-fn counts(mail: &MailState<u8>) -> (u64, u64, u64, usize) {
-    (mail.pushed(), mail.taken(), mail.lost(), mail.len())
+fn counts(mail: &MailState<u8>) -> Answer {
+    Answer::Are(mail.pushed(), mail.taken(), mail.lost(), mail.len())
 }
 
-#[test]
-fn refuses_a_second_evict_and_what_comes_late(rt: HostRuntime) -> Result<(), Fail> {
-    let mut mail = MailState::new(rt.alloc());
-    assert_eq!(rt; refused(mail.push(10)), None);
-    assert_eq!(rt; refused(mail.push_evict(20)), None);
-    assert_eq!(rt; refused(mail.push_evict(30)), Some((3, 30)));
-    let mut taken = Vec::with_capacity(rt.alloc(), 64)?;
-    assert_eq!(rt; mail.pop_many(64, &mut taken), 2);
-    assert_eq!(rt; taken.as_slice(), [10, 20].as_slice());
-    assert_eq!(rt; refused(mail.push_evict(40)), None);
-    let left = mail.leave();
-    assert_eq!(rt; left.len(), 1);
-    assert_eq!(rt; left.front().copied(), Some(40));
-    assert_eq!(rt; refused(mail.push(50)), Some((2, 50)));
-    assert_eq!(rt; counts(&mail), (3, 2, 1, 0));
-    Ok(())
+fn serve(alloc: Global, mail: &mut MailState<u8>, call: Call) -> Result<Answer, AllocError> {
+    Ok(match call {
+        Call::Push(message) => answer_of(mail.push(message)),
+        Call::PushEvict(message) => answer_of(mail.push_evict(message)),
+        Call::Pop => Answer::Taken(mail.pop()),
+        Call::PopMany(max) => {
+            let mut into = Vec::with_capacity(alloc, max)?;
+            let count = mail.pop_many(max, &mut into);
+            Answer::Many(count, into.first().copied(), into.last().copied())
+        }
+        Call::PutOrLose(message) => {
+            mail.reserve_one()?;
+            mail.put_or_lose(message);
+            Answer::Put
+        }
+        Call::Close => {
+            mail.close();
+            Answer::IsClosed(mail.is_closed())
+        }
+        Call::Leave => {
+            let left = mail.leave();
+            Answer::Many(left.len(), left.front().copied(), left.back().copied())
+        }
+        Call::Counts => counts(mail),
+    })
 }
 
-#[test]
-fn serves_what_waits_once_it_is_closed(rt: HostRuntime) -> Result<(), Fail> {
-    let mut mail = MailState::new(rt.alloc());
-    mail.push(1)?;
-    mail.push_evict(2)?;
-    assert_eq!(rt; mail.pop(), Some(1));
-    assert_eq!(rt; refused(mail.push_evict(3)), Some((3, 3)));
-    mail.reserve_one()?;
-    mail.close();
-    assert!(rt; mail.is_closed());
-    assert_eq!(rt; refused(mail.push_evict(4)), Some((2, 4)));
-    assert_eq!(rt; mail.pop(), Some(2));
-    assert_eq!(rt; mail.pop(), None);
-    assert_eq!(rt; counts(&mail), (2, 2, 0, 0));
-    Ok(())
+// The place of the first call of a row that answers something else, if one does.
+fn first_other(alloc: Global, row: &[(Call, Answer)]) -> Result<Option<usize>, AllocError> {
+    let mut mail = MailState::new(alloc);
+    for (place, (call, expected)) in row.iter().enumerate() {
+        if serve(alloc, &mut mail, *call)? != *expected {
+            return Ok(Some(place));
+        }
+    }
+    Ok(None)
 }
+
+const REFUSES_A_SECOND_EVICT_AND_WHAT_COMES_LATE: [(Call, Answer); 8] = [
+    (Call::Push(10), Answer::Put),
+    (Call::PushEvict(20), Answer::Put),
+    (Call::PushEvict(30), Answer::Refused(3, 30)),
+    (Call::PopMany(64), Answer::Many(2, Some(10), Some(20))),
+    (Call::PushEvict(40), Answer::Put),
+    (Call::Leave, Answer::Many(1, Some(40), Some(40))),
+    (Call::Push(50), Answer::Refused(2, 50)),
+    (Call::Counts, Answer::Are(3, 2, 1, 0)),
+];
+
+const SERVES_WHAT_WAITS_ONCE_IT_IS_CLOSED: [(Call, Answer); 9] = [
+    (Call::Push(1), Answer::Put),
+    (Call::PushEvict(2), Answer::Put),
+    (Call::Pop, Answer::Taken(Some(1))),
+    (Call::PushEvict(3), Answer::Refused(3, 3)),
+    (Call::Close, Answer::IsClosed(true)),
+    (Call::PushEvict(4), Answer::Refused(2, 4)),
+    (Call::Pop, Answer::Taken(Some(2))),
+    (Call::Pop, Answer::Taken(None)),
+    (Call::Counts, Answer::Are(2, 2, 0, 0)),
+];
 
 // What comes after `leave` is counted as lost; what comes before it waits.
+const PUTS_OR_LOSES: [(Call, Answer); 4] = [
+    (Call::PutOrLose(1), Answer::Put),
+    (Call::Leave, Answer::Many(1, Some(1), Some(1))),
+    (Call::PutOrLose(2), Answer::Put),
+    (Call::Counts, Answer::Are(2, 0, 2, 0)),
+];
+
 #[test]
-fn puts_or_loses(rt: HostRuntime) -> Result<(), Fail> {
-    let mut mail = MailState::new(rt.alloc());
-    mail.reserve_one()?;
-    mail.put_or_lose(1);
-    mail.reserve_one()?;
-    let left: VecDeque<u8> = mail.leave();
-    assert_eq!(rt; left.len(), 1);
-    mail.reserve_one()?;
-    mail.put_or_lose(2);
-    assert_eq!(rt; counts(&mail), (2, 0, 2, 0));
+fn answers_as_in_the_rows(rt: HostRuntime) -> Result<(), Fail> {
+    for row in [
+        REFUSES_A_SECOND_EVICT_AND_WHAT_COMES_LATE.as_slice(),
+        SERVES_WHAT_WAITS_ONCE_IT_IS_CLOSED.as_slice(),
+        PUTS_OR_LOSES.as_slice(),
+    ] {
+        assert_eq!(rt; first_other(rt.alloc(), row)?, None);
+    }
     Ok(())
 }
 
-// A push that memory refuses hands the message back, and is made again.
+// Puts 0 to 19, each again where memory refuses it: whether each refusal hands back its message and changes nothing.
+fn hands_back_each(mail: &mut MailState<u8>) -> bool {
+    let mut well = true;
+    for message in 0..20u8 {
+        let before = counts(mail);
+        let first = answer_of(mail.push(message));
+        if first != Answer::Put {
+            well = well && first == Answer::Refused(1, message) && counts(mail) == before;
+            well = answer_of(mail.push(message)) == Answer::Put && well;
+        }
+    }
+    well
+}
+
 #[test]
 fn pushes_again_after_want_of_memory(rt: HostRuntime) -> Result<(), Fail> {
     let mut mail = MailState::new(rt.alloc());
-    for message in 0..20u8 {
-        let before = counts(&mail);
-        if let Some(refusal) = refused(mail.push(message)) {
-            assert_eq!(rt; refusal, (1, message));
-            assert_eq!(rt; counts(&mail), before);
-            mail.push(message)?;
-        }
-    }
-    assert_eq!(rt; counts(&mail), (20, 0, 0, 20));
-    assert_eq!(rt; mail.pop(), Some(0));
+    let well = hands_back_each(&mut mail);
+    assert!(rt; well && counts(&mail) == Answer::Are(20, 0, 0, 20) && mail.pop() == Some(0));
     Ok(())
 }

@@ -86,35 +86,14 @@ const FULL: [(Call, Reply); 5] = [
     ),
 ];
 
-// What the calls that are refused hand back.
-#[derive(Clone, Copy, Debug, PartialEq, Eq)]
-struct Held {
-    updated: Option<(u64, usize)>,
-    made: Option<(u64, usize)>,
-    admitted: Option<u64>,
-    inserted: Option<u64>,
-}
+// What the calls that are refused hand back: an update of a row and one of a missing key, an `admit` and an `insert_tail`.
+type Held = ([Option<(u64, usize)>; 2], [Option<u64>; 2]);
 
-const NOTHING: Held = Held {
-    updated: None,
-    made: None,
-    admitted: None,
-    inserted: None,
-};
+const NOTHING: Held = ([None, None], [None, None]);
 
-const HEAVY_HELD: Held = Held {
-    updated: None,
-    made: Some((30, 0)),
-    admitted: Some(40),
-    inserted: Some(50),
-};
+const HEAVY_HELD: Held = ([None, Some((30, 0))], [Some(40), Some(50)]);
 
-const FULL_HELD: Held = Held {
-    updated: None,
-    made: None,
-    admitted: Some(40),
-    inserted: Some(50),
-};
+const FULL_HELD: Held = ([None, None], [Some(40), Some(50)]);
 
 fn pair_of<V: Drop>(answer: Result<V, Refused<Option<(u64, usize)>>>) -> Option<(u64, usize)> {
     match answer {
@@ -154,12 +133,10 @@ fn refuse_calls<B: Registry, R: Wait>(
     let admitted = lru.admit(rt, seat, 4, 40, 5);
     let inserted = lru.insert_tail(rt, seat, 5, 50, 1);
     let _ = lru.set_weight(rt, seat, 1, 7);
-    Held {
-        updated: pair_of(updated),
-        made: pair_of(made),
-        admitted: data_of(admitted),
-        inserted: data_of(inserted),
-    }
+    (
+        [pair_of(updated), pair_of(made)],
+        [data_of(admitted), data_of(inserted)],
+    )
 }
 
 fn refused_for_weight<B: Registry, R: Wait>(
@@ -231,12 +208,10 @@ fn refused_for_length<B: Registry>(alloc: Global, blank: Blank) -> Result<Left, 
     for receipt in seat.receipts() {
         receipts.push(*receipt)?;
     }
-    let held = Held {
-        updated: None,
-        made: pair_of(made),
-        admitted: data_of(admitted),
-        inserted: data_of(inserted),
-    };
+    let held = (
+        [None, pair_of(made)],
+        [data_of(admitted), data_of(inserted)],
+    );
     let Recording { journal, .. } = recording;
     let Journal { history, .. } = journal;
     Ok((history, receipts, held, Vec::new(alloc)))
@@ -284,16 +259,18 @@ fn refusals_for_weight_are_noted(rt: HostRuntime) -> Result<(), Fail> {
     let Some((history, receipts, held, rows)) = heavy(&rt, alloc)? else {
         panic!(rt; "no seats");
     };
-    assert!(rt; are_noted(history.as_slice(), receipts.as_slice(), &HEAVY));
-    assert_eq!(rt; held, HEAVY_HELD);
-    assert_eq!(rt; rows.as_slice(), ROWS.as_slice());
+    let noted = are_noted(history.as_slice(), receipts.as_slice(), &HEAVY);
+    assert_eq!(rt;
+        (noted, held, rows.as_slice()),
+        (true, HEAVY_HELD, ROWS.as_slice())
+    );
     Ok(())
 }
 
 #[test]
 fn refusals_for_length_are_noted(rt: HostRuntime) -> Result<(), Fail> {
     let (history, receipts, held, _) = full(rt.alloc())?;
-    assert!(rt; are_noted(history.as_slice(), receipts.as_slice(), &FULL));
-    assert_eq!(rt; held, FULL_HELD);
+    let noted = are_noted(history.as_slice(), receipts.as_slice(), &FULL);
+    assert_eq!(rt; (noted, held), (true, FULL_HELD));
     Ok(())
 }

@@ -96,6 +96,22 @@ fn row_of_one<R: Wait>(rt: &R, alloc: Global) -> Result<Option<Left>, AllocError
     one_caller::<Brand, _>(rt, alloc, blank)
 }
 
+// Whether a history has the calls of the row with their replies.
+fn is_noted(history: &[Entry]) -> bool {
+    for (turn, (call, _, reply)) in ONE.iter().enumerate() {
+        let entry = Entry {
+            seat: 0,
+            turn,
+            call: *call,
+            reply: *reply,
+        };
+        if history.get(turn) != Some(&entry) {
+            return false;
+        }
+    }
+    history.len() == ONE.len()
+}
+
 #[test]
 fn one_caller_over_the_limit(rt: HostRuntime) -> Result<(), Fail> {
     let alloc: Global = rt.alloc();
@@ -106,20 +122,10 @@ fn one_caller_over_the_limit(rt: HostRuntime) -> Result<(), Fail> {
     let Some((right, history, row, checked)) = left else {
         panic!(rt; "no seats");
     };
-    assert!(rt; right && checked);
-    assert_eq!(rt; row, Some((2, 5)));
-    assert_eq!(rt; history.len(), 5);
-    for (turn, (entry, (call, _, reply))) in history.iter().zip(ONE.iter()).enumerate() {
-        assert_eq!(rt;
-            *entry,
-            Entry {
-                seat: 0,
-                turn,
-                call: *call,
-                reply: *reply
-            }
-        );
-    }
+    assert_eq!(rt;
+        ([right, checked, is_noted(history.as_slice())], row),
+        ([true; 3], Some((2, 5)))
+    );
     Ok(())
 }
 

@@ -117,9 +117,11 @@ fn four_threads_over_four_shards(rt: HostRuntime) -> Result<(), Fail> {
     let Some((entries, right, wanted_memory)) = four_threads::<Brand, _>(&rt, alloc, blank)? else {
         panic!(rt; "no seats");
     };
-    assert!(rt; right && !wanted_memory);
     // of the draws of `peek_lru` a fifth is past the last shard, and a probe or more stands for each `evict_to_limit`
-    assert!(rt; entries > 30_000);
+    assert_eq!(rt;
+        [right, wanted_memory, entries > 30_000],
+        [true, false, true]
+    );
     Ok(())
 }
 

@@ -1,5 +1,5 @@
 // Worked rows of one shard, each a list of calls.
-use crate::steps::{Call, Step, faults};
+use crate::steps::{Call, Step, fault};
 use lru_shard::unit::{Cause, LruUnit};
 use std::test::Fail;
 
@@ -98,17 +98,24 @@ fn answers_and_leaves_what_it_should(rt: HostRuntime) -> Result<(), Fail> {
     ] {
         let mut unit = LruUnit::with_capacity(rt.alloc(), 0, cap)?;
         assert_eq!(rt;
-            faults(rt.alloc(), &mut unit, steps)?.as_str(),
-            "",
+            fault(rt.alloc(), &mut unit, steps)?,
+            None,
             "under a cap of {cap}"
         );
     }
     Ok(())
 }
 
+// What each cause is as a number, and what it says.
+fn numbers() -> [(u8, u8); 3] {
+    [
+        (Cause::Memory as u8, Cause::Memory.number()),
+        (Cause::Weight as u8, Cause::Weight.number()),
+        (Cause::Length as u8, Cause::Length.number()),
+    ]
+}
+
 #[test]
 fn numbers_its_causes(rt: HostRuntime) {
-    for (cause, number) in [(Cause::Memory, 1), (Cause::Weight, 2), (Cause::Length, 3)] {
-        assert_eq!(rt; (cause as u8, cause.number()), (number, number));
-    }
+    assert_eq!(rt; numbers(), [(1, 1), (2, 2), (3, 3)]);
 }

@@ -3,7 +3,7 @@ use lru_shard::unit::LruUnit;
 use std::alloc::{AllocError, Global};
 
 // A call of a shard, and what it is given. A closure that is called for data gives these.
-#[derive(Clone, Copy, Debug)]
+#[derive(Clone, Copy)]
 pub enum Call {
     Admit {
         key: u64,
@@ -155,19 +155,18 @@ pub fn shown(alloc: Global, unit: &LruUnit<u64>) -> Result<String, AllocError> {
     Ok(text)
 }
 
-// Does the calls, and says which answer or leave something else; nothing, where all is well.
-pub fn faults(
+// Does the calls, and answers the place of the first one that answers or leaves something else.
+pub fn fault(
     alloc: Global,
     unit: &mut LruUnit<u64>,
     steps: &[Step],
-) -> Result<String, AllocError> {
-    let mut faults = String::new(alloc);
-    for (call, answer, left) in steps {
+) -> Result<Option<usize>, AllocError> {
+    for (place, (call, answer, left)) in steps.iter().enumerate() {
         let answers = answer_of(alloc, unit, *call)?;
         let leaves = shown(alloc, unit)?;
         if answers.as_str() != *answer || leaves.as_str() != *left {
-            write!(faults, "{call:?} answers {answers} and leaves {leaves}\n")?;
+            return Ok(Some(place));
         }
     }
-    Ok(faults)
+    Ok(None)
 }

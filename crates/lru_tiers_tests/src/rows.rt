@@ -1,8 +1,9 @@
 // Worked rows of two tiers, each a list of calls.
-use crate::steps::{Call, Step, faults};
+use crate::steps::{Call, Step, fault};
 use lru_tiers::tiered::TieredCore;
 use rand::rngs::StdRng;
 use rand_core::SeedableRng;
+use std::alloc::Global;
 use std::test::Fail;
 
 // Rows of weight 2 under limits of 4: what is spilled goes first, what is touched comes back, what is admitted anew
@@ -61,31 +62,22 @@ const KEEPS_SHARDS: [Step; 7] = [
     (Call::Touch { key: 3 }, "Ok(Some(Cold))", "hot [ 40:3 ] [ 30:3 ] evicted 0 cold [ 20:3 ] [ ] evicted 0 "),
 ];
 
-#[test]
-fn answers_and_leaves_what_it_should(rt: HostRuntime) -> Result<(), Fail> {
+// The first fault of each table. The second goes on where the first ends; the others begin with empty tiers.
+fn faults(alloc: Global) -> Result<[Option<usize>; 4], Fail> {
     let mut rng = StdRng::seed_from_u64(0);
-    for tables in [
-        [MOVES_ROWS.as_slice(), ANSWERS_WHAT_LEAVES.as_slice()],
-        [REFUSES_PAST_THE_CAP.as_slice(), &[]],
-    ] {
-        let mut tiered = TieredCore::<u64, 1>::with_limits(rt.alloc(), 4, 4, 0)?;
-        for steps in tables {
-            assert_eq!(rt;
-                faults(rt.alloc(), &mut tiered, &mut rng, steps)?.as_str(),
-                ""
-            );
-        }
-    }
-    Ok(())
+    let mut moved = TieredCore::<u64, 1>::with_limits(alloc, 4, 4, 0)?;
+    let mut heavy = TieredCore::<u64, 1>::with_limits(alloc, 4, 4, 0)?;
+    let mut sharded = TieredCore::<u64, 2>::with_limits(alloc, 4, 4, 4)?;
+    Ok([
+        fault(alloc, &mut moved, &mut rng, &MOVES_ROWS)?,
+        fault(alloc, &mut moved, &mut rng, &ANSWERS_WHAT_LEAVES)?,
+        fault(alloc, &mut heavy, &mut rng, &REFUSES_PAST_THE_CAP)?,
+        fault(alloc, &mut sharded, &mut rng, &KEEPS_SHARDS)?,
+    ])
 }
 
 #[test]
-fn keeps_a_row_in_its_shard(rt: HostRuntime) -> Result<(), Fail> {
-    let mut rng = StdRng::seed_from_u64(0);
-    let mut tiered = TieredCore::<u64, 2>::with_limits(rt.alloc(), 4, 4, 4)?;
-    assert_eq!(rt;
-        faults(rt.alloc(), &mut tiered, &mut rng, &KEEPS_SHARDS)?.as_str(),
-        ""
-    );
+fn answers_and_leaves_what_it_should(rt: HostRuntime) -> Result<(), Fail> {
+    assert_eq!(rt; faults(rt.alloc())?, [None; 4]);
     Ok(())
 }

@@ -5,7 +5,7 @@ use rand::rngs::StdRng;
 use std::alloc::{AllocError, Global};
 
 // A call of two tiers, and what it is given. A key's data are ten times the key.
-#[derive(Clone, Copy, Debug)]
+#[derive(Clone, Copy)]
 pub enum Call {
     Admit { key: u64, weight: usize },
     Touch { key: u64 },
@@ -18,6 +18,19 @@ pub enum Call {
 
 // A call, the text of its answer, and that of both tiers after it.
 pub type Step = (Call, &'static str, &'static str);
+
+fn spill<const N: usize>(
+    alloc: Global,
+    tiered: &mut TieredCore<u64, N>,
+    a: usize,
+    b: usize,
+) -> Result<String, AllocError> {
+    if a >= N || b >= N {
+        return format!(in alloc; "none");
+    }
+    let answer = tiered.spill_step(a, b);
+    format!(in alloc; "{answer:?}")
+}
 
 fn answer_of<const N: usize>(
     alloc: Global,
@@ -42,11 +55,7 @@ fn answer_of<const N: usize>(
             let answer = tiered.peek_weight(key);
             format!(in alloc; "{answer:?}")
         }
-        Call::SpillStep { a, b } if a < N && b < N => {
-            let answer = tiered.spill_step(a, b);
-            format!(in alloc; "{answer:?}")
-        }
-        Call::SpillStep { .. } => format!(in alloc; "none"),
+        Call::SpillStep { a, b } => spill(alloc, tiered, a, b),
         Call::Balance => {
             let answer = tiered.balance(alloc, rng);
             format!(in alloc; "{answer:?}")
@@ -72,22 +81,21 @@ fn write_core<const N: usize>(
     write!(text, " evicted {evicted} ")
 }
 
-// Does the calls, and says which answer or leave something else; nothing, where all is well.
-pub fn faults<const N: usize>(
+// Does the calls, and answers the place of the first one that answers or leaves something else.
+pub fn fault<const N: usize>(
     alloc: Global,
     tiered: &mut TieredCore<u64, N>,
     rng: &mut StdRng,
     steps: &[Step],
-) -> Result<String, AllocError> {
-    let mut faults = String::new(alloc);
-    for (call, answer, left) in steps {
+) -> Result<Option<usize>, AllocError> {
+    for (place, (call, answer, left)) in steps.iter().enumerate() {
         let answers = answer_of(alloc, tiered, rng, *call)?;
         let mut leaves = String::new(alloc);
         write_core(&mut leaves, "hot", tiered.hot())?;
         write_core(&mut leaves, "cold", tiered.cold())?;
         if answers.as_str() != *answer || leaves.as_str() != *left {
-            write!(faults, "{call:?} answers {answers} and leaves {leaves}\n")?;
+            return Ok(Some(place));
         }
     }
-    Ok(faults)
+    Ok(None)
 }

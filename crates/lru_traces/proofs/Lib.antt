@@ -1,1 +1,4 @@
 pub mod Fronts
+pub mod Places
+pub mod Windows
+pub mod Distances

@@ -1,1 +1,3 @@
 pub mod Traces
+pub mod Representation
+pub mod TraceLines

@@ -1,5 +1,6 @@
 -- What a cache under a limit makes of a trace of requests: which objects it keeps, and the tally.
-use Rattle.std.specs.Prelude.{ℕ, ◌+◌, ◌-◌, ◌%◌, ◌^◌, max, List, [], ◌∷◌, length, nat_le, nat_lt, Bool, if◌then◌else◌}
+use Rattle.std.specs.Prelude.{◌≡◌, ◌==◌, ℕ, suc, false, Option, Some, None, option_map, ◌+◌, ◌-◌, ◌%◌, ◌^◌, max, List, [], ◌∷◌, length, nat_le, nat_lt, Bool, if◌then◌else◌}
+use Rattle.std.specs.List.{All}
 use Rattle.lru_shard.specs.Row.{Row, row, is_held, without, with_first}
 use Rattle.lru_traces.specs.declared.player.Request.{Request}
 use Rattle.lru_traces.specs.declared.player.Tally.{Tally}
@@ -7,6 +8,10 @@ use Rattle.lru_traces.specs.declared.player.Tally.{Tally}
 -- objects have no data here
 abbrev pub Rows : Type 0
 Rows = List (Row (Unit {0}))
+
+-- each object has the size 1
+abbrev pub AreOfSizeOne : List Request → Type 0
+AreOfSizeOne qs = All (λ q. q.size ≡ 1) qs
 
 -- what an object of a request weighs
 abbrev pub load : Request → ℕ
@@ -53,3 +58,24 @@ played_on limit rows t (q ∷ qs) = played_on limit (kept_after limit rows q) (t
 -- the tally of a trace by a cache that is empty at first
 abbrev pub played : ℕ → List Request → Tally
 played limit qs = played_on limit [] no_tally qs
+
+-- Distances. They say what a hit is where every object has the size 1.
+
+-- how many others were used since the last use of a key, where the objects stand in the order of use
+abbrev pub distance : Rows → ℕ → Option ℕ
+distance [] k = None
+distance (r ∷ rows) k = if r.key == k then Some 0 else option_map (λ n. suc n) (distance rows k)
+
+-- whether that is fewer than the limit
+abbrev pub is_near : ℕ → Option ℕ → Bool
+is_near limit None = false
+is_near limit (Some n) = nat_lt n limit
+
+-- of how many requests it is, with the objects used before
+abbrev pub near_on : ℕ → Rows → List Request → ℕ
+near_on limit rows [] = 0
+near_on limit rows (q ∷ qs) = (if is_near limit (distance rows q.key) then 1 else 0) + near_on limit (let_in rows q) qs
+
+-- of how many requests of a trace fewer other objects than the limit were used since the last request for its key
+abbrev pub near : ℕ → List Request → ℕ
+near limit qs = near_on limit [] qs

@@ -1,7 +1,11 @@
 //! Traces of requests, and what caches under limits make of them.
 #![tactic(auto)]
 
+pub mod one_pass;
 pub mod player;
 pub mod plot;
+pub mod program;
+mod progress;
 pub mod requests;
+mod settings;
 pub mod table;

@@ -4,7 +4,7 @@ ghost use Rattle.lru_shard.specs.Row.{is_held};
 ghost use Rattle.lru_shard.specs.Shard.{shard};
 ghost use Rattle.lru_traces.specs.Traces.{front, kept_after, evicted_by, counted, played, no_tally};
 
-use pingora_lru::unit::{Cause, LruUnit};
+use lru_shard::unit::{Cause, LruUnit};
 use std::alloc::Global;
 
 /// A request for an object.

@@ -1,4 +1,6 @@
 //! Tallies as lines of a table.
+ghost use Rattle.std.specs.Prelude.{◌≡◌};
+ghost use Rattle.lru_traces.specs.TraceLines.{share_of};
 
 use crate::player::Tally;
 use std::fmt;
@@ -15,7 +17,9 @@ pub struct Percent {
 
 impl Percent {
     /// The share in hundredths of a percent, 0 to 10000; `None` of nothing.
-    pub fn hundredths(self) -> Option<u64> {
+    pub fn hundredths(self) -> Option<u64>
+        ensures { result ≡ share_of self.part self.whole }
+    {
         if self.whole == 0 {
             return None;
         }
@@ -34,7 +38,10 @@ impl Display for Percent {
 }
 
 /// The share of the requests that found their object.
-pub fn hit_ratio(tally: &Tally) -> Percent {
+pub fn hit_ratio(tally: &Tally) -> Percent
+    ensures part { result.part ≡ tally.now.hits }
+    ensures whole { result.whole ≡ tally.now.requests }
+{
     Percent {
         part: tally.hits,
         whole: tally.requests,
@@ -42,7 +49,10 @@ pub fn hit_ratio(tally: &Tally) -> Percent {
 }
 
 /// The share of the bytes that were found.
-pub fn byte_hit_ratio(tally: &Tally) -> Percent {
+pub fn byte_hit_ratio(tally: &Tally) -> Percent
+    ensures part { result.part ≡ tally.now.hit_bytes }
+    ensures whole { result.whole ≡ tally.now.bytes }
+{
     Percent {
         part: tally.hit_bytes,
         whole: tally.bytes,

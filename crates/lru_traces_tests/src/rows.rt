@@ -1,4 +1,5 @@
 // Tables of lines, of shares and of limits, each gone through by one function.
+use lru_traces::one_pass::{are_of_size_one, play_all};
 use lru_traces::player::{Request, Tally, play};
 use lru_traces::requests::request_of;
 use lru_traces::table::Percent;
@@ -46,10 +47,22 @@ const LIMITS: [(usize, u64, u64, u64); 5] = [
     (100, 4, 8, 0),
 ];
 
+// The same keys, each of size 1: 1, 2, 1, 3, 2, 4, 1 and 3. Since its last use, 1 object was used before the second request
+// for 1, 2 before that for 2, 3 before the third for 1, and 3 before the second for 3.
+#[rattlefmt::skip]
+const ONES: [Request; 8] = [
+    Request { key: 1, size: 1 }, Request { key: 2, size: 1 }, Request { key: 1, size: 1 }, Request { key: 3, size: 1 }, Request { key: 2, size: 1 }, Request { key: 4, size: 1 }, Request { key: 1, size: 1 }, Request { key: 3, size: 1 },
+];
+
+// Limits in no order, and under each: how many hits, and how many evictions.
+const AT_ONCE: [usize; 7] = [4, 0, 2, 1, 3, 2, 18446744073709551615];
+
+const TALLIES: [(u64, u64); 7] = [(4, 0), (0, 0), (1, 5), (0, 7), (2, 3), (1, 5), (4, 0)];
+
 // What stands first in the table and is read otherwise, as a text; empty where all is as it should be.
 fn wrong_line(alloc: Global) -> Result<String, AllocError> {
     for (line, wanted) in &LINES {
-        let request = request_of(line);
+        let request = request_of(line.as_bytes());
         if request != *wanted {
             return format!(in alloc; "{line}: {request:?}");
         }
@@ -84,11 +97,40 @@ fn wrong_tally(alloc: Global) -> Result<String, AllocError> {
     Ok(String::new(alloc))
 }
 
+fn wrong_pass(alloc: Global) -> Result<String, AllocError> {
+    if are_of_size_one(&TRACE) {
+        return format!(in alloc; "sizes");
+    }
+    if !are_of_size_one(&ONES) {
+        return format!(in alloc; "size 1");
+    }
+    let tallies = play_all(alloc, &AT_ONCE, &ONES)?;
+    for (limit, tally) in AT_ONCE.iter().zip(&tallies) {
+        if play(alloc, *limit, &ONES) != Ok(*tally) {
+            return format!(in alloc; "{limit}: {tally:?}");
+        }
+    }
+    for (tally, (hits, evictions)) in tallies.iter().zip(&TALLIES) {
+        let wanted = Tally {
+            requests: 8,
+            hits: *hits,
+            bytes: 8,
+            hit_bytes: *hits,
+            evictions: *evictions,
+        };
+        if *tally != wanted {
+            return format!(in alloc; "{tally:?}");
+        }
+    }
+    Ok(String::new(alloc))
+}
+
 #[test]
 fn plays_and_tells_what_it_should(rt: HostRuntime) -> Result<(), Fail> {
     let mut wrong = wrong_line(rt.alloc())?;
     wrong.push_str(&wrong_share(rt.alloc())?)?;
     wrong.push_str(&wrong_tally(rt.alloc())?)?;
+    wrong.push_str(&wrong_pass(rt.alloc())?)?;
     assert_eq!(rt; wrong.as_str(), "");
     Ok(())
 }

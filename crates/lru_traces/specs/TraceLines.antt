@@ -1,0 +1,45 @@
+-- The lines of a trace, and the shares of a table.
+use Rattle.std.specs.Prelude.{ℕ, ◌-◌, ◌*◌, ◌/◌, ◌==◌, ◌||◌, ◌&&◌, min, Bool, nat_le, List, [], ◌∷◌, length, take, Option, Some, None, if◌then◌else◌}
+use Rattle.lru_lines.specs.Lines.{number_of}
+use Rattle.lru_traces.specs.declared.player.Request.{Request}
+
+-- a space, a tab, or another end of a line or a page
+abbrev pub is_blank : ℕ → Bool
+is_blank byte = byte == 32 || nat_le 9 byte && nat_le byte 13
+
+-- a text from its first byte on that is no blank
+abbrev pub from_word : List ℕ → List ℕ
+from_word [] = []
+from_word (b ∷ text) = if is_blank b then from_word text else b ∷ text
+
+-- a text from its first blank on
+abbrev pub from_blank : List ℕ → List ℕ
+from_blank [] = []
+from_blank (b ∷ text) = if is_blank b then b ∷ text else from_blank text
+
+-- the first word of a text, empty where there is none
+abbrev pub word_of : List ℕ → List ℕ
+word_of text = take (length (from_word text) - length (from_blank (from_word text))) (from_word text)
+
+-- what stands behind the first word
+abbrev pub behind : List ℕ → List ℕ
+behind text = from_blank (from_word text)
+
+-- the request that two words write
+abbrev pub requested_by : Option ℕ → Option ℕ → Option Request
+requested_by (Some key) (Some size) = Some (record { key = key; size = size })
+requested_by (Some key) None = None
+requested_by None size = None
+
+abbrev pub requested : List ℕ → List ℕ → Option Request
+requested key size = requested_by (number_of key) (number_of size)
+
+-- the request of a line of two words, a key and a size, or of three, with a time before them
+abbrev pub request_in : List ℕ → Option Request
+request_in line =
+    if length (word_of (behind (behind line))) == 0 then requested (word_of line) (word_of (behind line))
+    else (if length (word_of (behind (behind (behind line)))) == 0 then requested (word_of (behind line)) (word_of (behind (behind line))) else None)
+
+-- a share of a whole in hundredths of a percent, rounded down
+abbrev pub share_of : ℕ → ℕ → Option ℕ
+share_of part whole = if whole == 0 then None else Some (min (part * 10000 / whole) 10000)

@@ -1,0 +1,149 @@
+//! The program `trace_player`. It stands here since two programs of the repository are it: one is tried with a trace that is
+//! played under each limit by itself, the other with one that takes one pass.
+ghost use Rattle.lru_traces.specs.Traces.{AreOfSizeOne};
+
+use crate::one_pass::{are_of_size_one, play_all};
+use crate::player::{Request, Tally, play};
+use crate::plot::Plot;
+use crate::progress::Progress;
+use crate::requests::request_of;
+use crate::settings::{Settings, settings_of};
+use crate::table::{byte_hit_ratio, hit_ratio};
+use std::io::{BufRead, BufReader};
+use std::process::ExitCode;
+use std::time::Instant;
+use std::{fs, io};
+
+// How many lines are read between two writes of the line of progress.
+const LINES_A_STEP: usize = 1000000;
+
+/// The requests of standard input, or the number of a bad line.
+fn read_trace(rt: HostRuntime, progress: Progress) -> io::Result<Result<Vec<Request>, u64>> {
+    let mut input = BufReader::new(rt.alloc(), rt.reader())?;
+    let mut line = Vec::new(rt.alloc());
+    let mut requests = Vec::new(rt.alloc());
+    for number in 1..u64::MAX {
+        line.clear();
+        if input.read_until(b'\n', &mut line)? == 0 {
+            break;
+        }
+        match request_of(&line) {
+            Some(request) => requests.push(request)?,
+            None => return Ok(Err(number)),
+        }
+        if requests.len() % LINES_A_STEP == 0 {
+            progress.show(rt, "requests read:", requests.len());
+        }
+    }
+    Ok(Ok(requests))
+}
+
+fn print_head(rt: HostRuntime, is_timed: bool) -> io::Result<()> {
+    let time = if is_timed { " milliseconds" } else { "" };
+    println!(rt; "limit hits% bytes% evictions{time}")
+}
+
+/// Prints what a limit made of the trace, and no end of the line.
+fn print_row(rt: HostRuntime, limit: usize, tally: &Tally) -> io::Result<()> {
+    let (hits, bytes) = (hit_ratio(tally), byte_hit_ratio(tally));
+    print!(rt; "{limit} {hits} {bytes} {}", tally.evictions)
+}
+
+/// Plays the trace under each limit, and prints a row for each; `None` where one found no memory.
+fn play_each(
+    rt: HostRuntime,
+    progress: Progress,
+    settings: &Settings,
+    requests: &[Request],
+) -> io::Result<Option<Vec<(usize, Tally)>>> {
+    print_head(rt, settings.is_timed)?;
+    let mut rows = Vec::new(rt.alloc());
+    for limit in &settings.limits {
+        progress.show(rt, "limit", *limit);
+        let start = Instant::now(&rt)?;
+        let played = play(rt.alloc(), *limit, requests);
+        let time = start.elapsed(&rt)?.as_millis();
+        progress.clear(rt);
+        let tally = match played {
+            Ok(tally) => tally,
+            Err(cause) => {
+                println!(rt; "{limit}: refused: {cause:?}")?;
+                return Ok(None);
+            }
+        };
+        print_row(rt, *limit, &tally)?;
+        if settings.is_timed {
+            print!(rt; " {time}")?;
+        }
+        println!(rt; "")?;
+        rows.push((*limit, tally))?;
+    }
+    Ok(Some(rows))
+}
+
+/// Plays the trace under all limits in one pass, and prints a row for each; `None` where there is no memory.
+fn play_at_once(
+    rt: HostRuntime,
+    progress: Progress,
+    settings: &Settings,
+    requests: &[Request],
+) -> io::Result<Option<Vec<(usize, Tally)>>>
+    requires { AreOfSizeOne requests.now }
+{
+    print_head(rt, false)?;
+    progress.show(rt, "limits in one pass:", settings.limits.len());
+    let start = Instant::now(&rt)?;
+    let played = play_all(rt.alloc(), &settings.limits, requests);
+    let time = start.elapsed(&rt)?.as_millis();
+    progress.clear(rt);
+    let Ok(tallies) = played else {
+        println!(rt; "refused: Memory")?;
+        return Ok(None);
+    };
+    let mut rows = Vec::new(rt.alloc());
+    for (limit, tally) in settings.limits.iter().zip(&tallies) {
+        print_row(rt, *limit, tally)?;
+        println!(rt; "")?;
+        rows.push((*limit, *tally))?;
+    }
+    if settings.is_timed {
+        println!(rt; "{time} milliseconds")?;
+    }
+    Ok(Some(rows))
+}
+
+/// Reads the trace of standard input, plays it under the limits of the arguments, prints the table, and draws the plot.
+/// The status is 2 for a bad line, bad arguments, and a file that can't be written, and 1 where there is no memory.
+pub fn run(rt: HostRuntime) -> io::Result<ExitCode> {
+    let Some(settings) = settings_of(&rt)? else {
+        println!(rt; "usage: trace_player [--time] [--svg FILE] LIMIT..")?;
+        return Ok(ExitCode::from(2));
+    };
+    let progress = Progress::new(rt);
+    let read = read_trace(rt, progress)?;
+    progress.clear(rt);
+    let requests = match read {
+        Ok(requests) => requests,
+        Err(number) => {
+            println!(rt; "error line {number}")?;
+            return Ok(ExitCode::from(2));
+        }
+    };
+    println!(rt; "{} requests", requests.len())?;
+    let played = if are_of_size_one(&requests) {
+        play_at_once(rt, progress, &settings, &requests)?
+    } else {
+        play_each(rt, progress, &settings, &requests)?
+    };
+    let Some(rows) = played else {
+        return Ok(ExitCode::from(1));
+    };
+    if let Some(path) = &settings.svg {
+        let text = format!(in rt.alloc(); "{}", Plot { rows: &rows })?;
+        if let Err(error) = fs::write(&rt, path, text.as_str()) {
+            println!(rt; "{path}: {error}")?;
+            return Ok(ExitCode::from(2));
+        }
+    }
+    Ok(ExitCode::SUCCESS)
+}

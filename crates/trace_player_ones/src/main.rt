@@ -1,0 +1,10 @@
+//! The program `trace_player` once more: its stored run is over a trace whose sizes are all 1, which takes one pass.
+#![tactic(auto)]
+
+use lru_traces::program;
+use std::io;
+use std::process::ExitCode;
+
+fn main(rt: HostRuntime) -> io::Result<ExitCode> {
+    program::run(rt)
+}
