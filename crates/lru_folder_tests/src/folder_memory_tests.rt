@@ -63,47 +63,46 @@ fn write_at_last(refusals: &mut usize, folder: &mut MemoryFolder, path: &str) ->
     is_written & (folder.get(path) == Some(b"12345".as_slice()))
 }
 
-/// Reads that file in two pieces. A refused piece leaves the place in the file unknown, so it is opened anew.
+/// Opens that file and reads it in two pieces.
+fn pieces_of(
+    folder: &mut MemoryFolder,
+    path: &str,
+) -> Result<(u64, Vec<u8>, Vec<u8>), FolderFault> {
+    let len = folder.open(path)?;
+    let first = folder.read(3)?;
+    let second = folder.read(3)?;
+    Ok((len, first, second))
+}
+
+/// Whether it is read so. A refused piece leaves the place in the file unknown, so it is opened anew.
 fn read_at_last(refusals: &mut usize, folder: &mut MemoryFolder, path: &str) -> bool {
-    let mut is_right = true;
-    match folder.open(path) {
-        Ok(len) => is_right = len == 5,
-        Err(fault) => {
-            is_right = count(refusals, fault);
-            let Ok(5) = folder.open(path) else {
-                return false;
-            };
-        }
-    }
-    let pieces = match (folder.read(3), folder.read(3)) {
-        (Ok(first), Ok(second)) => (Ok(first), Ok(second)),
-        (Ok(_), Err(fault)) | (Err(fault), _) => {
-            is_right = is_right & count(refusals, fault);
-            let Ok(5) = folder.open(path) else {
-                return false;
-            };
-            (folder.read(3), folder.read(3))
-        }
+    let (is_right, pieces) = match pieces_of(folder, path) {
+        Ok(pieces) => (true, Ok(pieces)),
+        Err(fault) => (count(refusals, fault), pieces_of(folder, path)),
     };
-    match pieces {
-        (Ok(first), Ok(second)) => {
-            let found = (first.as_slice(), second.as_slice());
-            is_right & (found == (b"123".as_slice(), b"45".as_slice()))
+    match &pieces {
+        Ok((len, first, second)) => {
+            let are_read = (first.as_slice(), second.as_slice())
+                == (b"123".as_slice(), b"45".as_slice());
+            is_right & (*len == 5) & are_read
         }
-        _ => false,
+        Err(_) => false,
     }
+}
+
+/// Whether the file stands at the one path, and nothing at the other.
+fn stands_at(folder: &MemoryFolder, path: &str, other: &str) -> bool {
+    (folder.get(path) == Some(b"12345".as_slice())) & folder.get(other).is_none()
 }
 
 /// Gives that file another name.
 fn move_at_last(refusals: &mut usize, folder: &mut MemoryFolder, path: &str) -> bool {
     let mut is_right = true;
     if let Err(fault) = folder.rename(path, "d/b") {
-        let left = (folder.get(path), folder.get("d/b"));
-        is_right = count(refusals, fault) & (left == (Some(b"12345".as_slice()), None));
+        is_right = count(refusals, fault) & stands_at(folder, path, "d/b");
         is_right = is_right & folder.rename(path, "d/b").is_ok();
     }
-    let left = (folder.get(path), folder.get("d/b"));
-    is_right & (left == (None, Some(b"12345".as_slice())))
+    is_right & stands_at(folder, "d/b", path)
 }
 
 /// Whether the folder `d` lists both files, if that is not refused memory.

@@ -103,32 +103,23 @@ fn names_are_listed_in_byte_order(rt: HostRuntime) -> Result<(), Fail> {
     Ok(())
 }
 
-/// The pieces of at most two bytes that a file is read in.
-fn pieces_of(folder: &mut MemoryFolder, path: &str) -> Option<[Vec<u8>; 4]> {
-    folder.open(path).ok()?;
-    Some([
-        folder.read(2).ok()?,
-        folder.read(2).ok()?,
-        folder.read(2).ok()?,
-        folder.read(2).ok()?,
-    ])
+/// Whether the five bytes of that file are read in pieces of at most two.
+fn is_read_in_pieces(folder: &mut MemoryFolder, path: &str) -> Result<bool, FolderFault> {
+    let len = folder.open(path)?;
+    let first = folder.read(2)?;
+    let second = folder.read(2)?;
+    let third = folder.read(2)?;
+    let end = folder.read(2)?;
+    let fronts = (first.as_slice(), second.as_slice()) == (b"12".as_slice(), b"34".as_slice());
+    Ok((len == 5) & fronts & (third.as_slice() == b"5".as_slice()) & end.is_empty())
 }
 
 #[test]
 fn a_file_is_read_in_pieces(rt: HostRuntime) -> Result<(), Fail> {
     let mut folder = MemoryFolder::new(rt.alloc()).with("a", b"12345")?;
-    let opened = (folder.open("b"), folder.open("a"));
-    let [first, second, third, end] = pieces_of(&mut folder, "a").ok_or("no bytes")?;
-    let wanted: [&[u8]; 4] = [b"12", b"34", b"5", b""];
-    assert!(rt;
-        opened == (Err(FolderFault::NotFound), Ok(5))
-            && [
-                first.as_slice(),
-                second.as_slice(),
-                third.as_slice(),
-                end.as_slice()
-            ] == wanted
-    );
+    let missing = folder.open("b");
+    let is_read = is_read_in_pieces(&mut folder, "a");
+    assert!(rt; (missing, is_read) == (Err(FolderFault::NotFound), Ok(true)));
     Ok(())
 }
 
