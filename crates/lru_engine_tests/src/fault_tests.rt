@@ -112,8 +112,9 @@ fn wrong_failure(alloc: Global) -> Result<Option<usize>, AllocError> {
             &mut Broken { kind: *kind },
             &mut writer,
         );
-        let left = (status, writer.as_slice(), folder.get("d/c.0"));
-        if left != (1, text.as_bytes(), Some(b"kept".as_slice())) {
+        let is_told = (status, writer.as_slice()) == (1, text.as_bytes());
+        let is_kept = folder.get("d/c.0") == Some(b"kept".as_slice());
+        if !(is_told & is_kept) {
             return Ok(Some(place));
         }
     }
