@@ -32,7 +32,7 @@ fn serve<F: Folder, R: Rng, L: Log, W: Write>(
     writer: &mut W,
 ) -> io::Result<bool>
     requires { All Possible (map (option_map asked) lines.items) }
-    ensures text { OnOk result (WritesFor (record { files = F.files; folders = F.folders; clock = F.clock; stopped_since = F.stopped_since; faults = F.faults; last_call = F.last_call; keeps = F.keeps })
+    ensures text { OnOk result (WritesFor (record { files = F.files; folders = F.folders; clock = F.clock; stopped_since = F.stopped_since; lost_since = F.lost_since; loose = F.loose; faults = F.faults; last_call = F.last_call; keeps = F.keeps })
         (record { core = core.old; folder = folder.old; words = R.stream rng.old })
         (map (option_map asked) lines.entry.items) (W.contents writer.old) (W.contents writer.new) folder.new) }
     ensures good { IfOk result (λ good. good ≡ list_all is_some (map (option_map asked) lines.entry.items)) }
@@ -81,7 +81,7 @@ pub fn run<F: Folder, L: Log, R: Read, W: Write>(
     ensures unread { settings_of (map string_bytes arguments.now) ≡ None → reader.new ≡ reader.old }
     ensures unmoved { settings_of (map string_bytes arguments.now) ≡ None → folder.new ≡ folder.old }
     ensures served { IfSome (settings_of (map string_bytes arguments.now)) (λ settings. result ≢ 1 → IfSome (R.remaining reader.old) (λ input.
-        Runs (record { files = F.files; folders = F.folders; clock = F.clock; stopped_since = F.stopped_since; faults = F.faults; last_call = F.last_call; keeps = F.keeps })
+        Runs (record { files = F.files; folders = F.folders; clock = F.clock; stopped_since = F.stopped_since; lost_since = F.lost_since; loose = F.loose; faults = F.faults; last_call = F.last_call; keeps = F.keeps })
         settings folder.old (commands_of input) result (W.contents writer.old) (W.contents writer.new) folder.new)) }
     ensures kept { F.keeps folder.old ↔ F.keeps folder.new }
 {
@@ -139,7 +139,7 @@ pub fn run_buffered<F: Folder, L: Log, R: Read, W: Write + Drop>(
     ensures unread { settings_of (map string_bytes arguments.now) ≡ None → reader.new ≡ reader.old }
     ensures unmoved { settings_of (map string_bytes arguments.now) ≡ None → folder.new ≡ folder.old }
     ensures served { IfSome (settings_of (map string_bytes arguments.now)) (λ settings. result.0 ≢ 1 → IfSome (R.remaining reader.old) (λ input.
-        IfSome result.1 (λ written. Runs (record { files = F.files; folders = F.folders; clock = F.clock; stopped_since = F.stopped_since; faults = F.faults; last_call = F.last_call; keeps = F.keeps })
+        IfSome result.1 (λ written. Runs (record { files = F.files; folders = F.folders; clock = F.clock; stopped_since = F.stopped_since; lost_since = F.lost_since; loose = F.loose; faults = F.faults; last_call = F.last_call; keeps = F.keeps })
         settings folder.old (commands_of input) result.0 (writer_contents W.contents writer) (W.contents written) folder.new))) }
     ensures whole { result.0 ≢ 1 → IsSome result.1 }
     ensures kept { F.keeps folder.old ↔ F.keeps folder.new }

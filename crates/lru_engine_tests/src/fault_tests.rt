@@ -1,9 +1,10 @@
 //! What the program does with wrong arguments, and where its input, its output or memory fails.
-use crate::run_tests::{answers, words};
+use crate::run_tests::words;
 use log::sink::Discard;
 use lru_engine::arguments;
 use lru_engine::engine::run;
 use pingora_lru_files::persistence::MemoryFolder;
+use std::alloc::{AllocError, Global};
 use std::env::{Env, FillError};
 use std::io;
 use std::test::Fail;
@@ -51,106 +52,104 @@ impl Env for Given<'_> {
     }
 }
 
+/// The status of a run with these arguments over an empty folder, whose input is this one, and what is written.
+fn run_given<R: io::Read + Drop>(
+    alloc: Global,
+    last: &[u8],
+    mut reader: R,
+) -> Result<(u8, Vec<u8>), AllocError> {
+    let arguments = arguments::words(&(Given { last }, alloc))?;
+    let mut writer = Vec::new(alloc);
+    let status = run(
+        alloc,
+        &mut MemoryFolder::new(alloc),
+        &Discard,
+        &arguments,
+        &mut reader,
+        &mut writer,
+    );
+    Ok((status, writer))
+}
+
+fn refuses_what_is_not_text(alloc: Global) -> Result<bool, AllocError> {
+    let (whole, text) = run_given(alloc, b"7", b"total\n".as_slice())?;
+    let is_whole = (whole, text.as_slice()) == (0, b"0 0 0 0\n".as_slice());
+    let kind = io::ErrorKind::TimedOut;
+    let (first, one) = run_given(alloc, b"\xff", Broken { kind })?;
+    let (second, two) = run_given(alloc, b"7\xc3", Broken { kind })?;
+    let usage = b"usage: lru_tool LIMIT WATERMARK SEED\n".as_slice();
+    Ok(
+        is_whole
+            & ((first, one.as_slice()) == (2, usage))
+            & ((second, two.as_slice()) == (2, usage)),
+    )
+}
+
 // Where the last argument is no UTF-8, the usage is told before anything is read.
 #[test]
 fn refuses_an_argument_that_is_not_text(rt: HostRuntime) -> Result<(), Fail> {
-    let whole = Given { last: b"7" };
-    let arguments = arguments::words(&(whole, rt.alloc()))?;
-    let mut reader = b"total\n".as_slice();
-    let mut writer = Vec::new(rt.alloc());
-    assert_eq!(rt;
-        run(
-            rt.alloc(),
-            &mut MemoryFolder::new(rt.alloc()),
+    assert!(rt; refuses_what_is_not_text(rt.alloc())?);
+    Ok(())
+}
+
+/// How the input fails, and what is told.
+const FAILURES: [(io::ErrorKind, &str); 2] = [
+    (io::ErrorKind::TimedOut, "error input\n"),
+    (io::ErrorKind::OutOfMemory, "error memory\n"),
+];
+
+/// The first of them, if there is one, that is told otherwise, or takes a file of the folder.
+fn wrong_failure(alloc: Global) -> Result<Option<usize>, AllocError> {
+    let arguments = words(alloc, "4 - 7")?;
+    let mut folder = MemoryFolder::new(alloc).with("d/c.0", b"kept")?;
+    for (place, (kind, text)) in FAILURES.iter().enumerate() {
+        let mut writer = Vec::new(alloc);
+        let status = run(
+            alloc,
+            &mut folder,
             &Discard,
             &arguments,
-            &mut reader,
-            &mut writer
-        ),
-        0
-    );
-    assert!(rt; writer.as_slice() == b"0 0 0 0\n".as_slice());
-    for last in [b"\xff".as_slice(), b"7\xc3".as_slice()] {
-        let arguments = arguments::words(&(Given { last }, rt.alloc()))?;
-        let mut reader = Broken {
-            kind: io::ErrorKind::TimedOut,
-        };
-        let mut writer = Vec::new(rt.alloc());
-        assert_eq!(rt;
-            run(
-                rt.alloc(),
-                &mut MemoryFolder::new(rt.alloc()),
-                &Discard,
-                &arguments,
-                &mut reader,
-                &mut writer
-            ),
-            2
+            &mut Broken { kind: *kind },
+            &mut writer,
         );
-        assert!(rt; writer.as_slice() == b"usage: lru_tool LIMIT WATERMARK SEED\n".as_slice());
+        let is_told = (status, writer.as_slice()) == (1, text.as_bytes());
+        let is_kept = folder.get("d/c.0") == Some(b"kept".as_slice());
+        if !(is_told & is_kept) {
+            return Ok(Some(place));
+        }
     }
-    Ok(())
+    Ok(None)
 }
 
 // The folder keeps its files.
 #[test]
 fn tells_that_the_input_failed(rt: HostRuntime) -> Result<(), Fail> {
-    let arguments = words(rt.alloc(), "4 - 7")?;
-    let mut folder = MemoryFolder::new(rt.alloc()).with("d/c.0", b"kept")?;
-    for (kind, text) in [
-        (io::ErrorKind::TimedOut, "error input\n"),
-        (io::ErrorKind::OutOfMemory, "error memory\n"),
-    ] {
-        let mut writer = Vec::new(rt.alloc());
-        let status = run(
-            rt.alloc(),
-            &mut folder,
-            &Discard,
-            &arguments,
-            &mut Broken { kind },
-            &mut writer,
-        );
-        assert_eq!(rt; status, 1);
-        assert!(rt; writer.as_slice() == text.as_bytes());
-        assert!(rt; folder.get("d/c.0") == Some(b"kept".as_slice()));
-    }
+    assert_eq!(rt; wrong_failure(rt.alloc())?, None);
     Ok(())
+}
+
+/// The status of a run whose output has room for three bytes.
+fn run_in_three(alloc: Global, arguments: &str, input: &str) -> Result<u8, AllocError> {
+    let arguments = words(alloc, arguments)?;
+    let mut reader = input.as_bytes();
+    let mut room = [0_u8; 3];
+    let mut writer = room.as_mut_slice();
+    Ok(run(
+        alloc,
+        &mut MemoryFolder::new(alloc),
+        &Discard,
+        &arguments,
+        &mut reader,
+        &mut writer,
+    ))
 }
 
 #[test]
 fn ends_at_a_failed_write(rt: HostRuntime) -> Result<(), Fail> {
-    let arguments = words(rt.alloc(), "4 - 7")?;
-    for input in ["admit 1 1 1\ntotal\n", "bad\n"] {
-        let mut reader = input.as_bytes();
-        let mut room = [0_u8; 3];
-        let mut writer = room.as_mut_slice();
-        assert_eq!(rt;
-            run(
-                rt.alloc(),
-                &mut MemoryFolder::new(rt.alloc()),
-                &Discard,
-                &arguments,
-                &mut reader,
-                &mut writer
-            ),
-            1
-        );
-    }
-    let arguments = words(rt.alloc(), "4 -")?;
-    let mut reader = b"total\n".as_slice();
-    let mut room = [0_u8; 3];
-    let mut writer = room.as_mut_slice();
-    assert_eq!(rt;
-        run(
-            rt.alloc(),
-            &mut MemoryFolder::new(rt.alloc()),
-            &Discard,
-            &arguments,
-            &mut reader,
-            &mut writer
-        ),
-        1
-    );
+    let first = run_in_three(rt.alloc(), "4 - 7", "admit 1 1 1\ntotal\n")?;
+    let second = run_in_three(rt.alloc(), "4 - 7", "bad\n")?;
+    let third = run_in_three(rt.alloc(), "4 -", "total\n")?;
+    assert_eq!(rt; (first, second, third), (1, 1, 1));
     Ok(())
 }
 
@@ -169,12 +168,33 @@ const TEXTS: [&str; 11] = [
     "1\n1\n1\n1\n1\nrefused memory 4 1:1:1 3:3:1 5:5:1 7:7:1\n1 1 4 4\n",
 ];
 
-// Where nothing is refused, the program refuses nothing.
-#[test]
-fn refuses_no_memory_without_cause(rt: HostRuntime) -> Result<(), Fail> {
-    let input = "admit 1 1 1\nadmit 3 3 1\nadmit 5 5 1\nadmit 7 7 1\nadmit 9 9 1\nlimit\ntotal\n";
-    assert!(rt; answers(&rt, "0 - 1", input, 0, TEXTS[0])?);
-    Ok(())
+/// Whether the program answers by one of those texts where its status is 0, and else that memory was refused.
+fn tells_one(alloc: Global) -> bool {
+    let Ok(arguments) = words(alloc, "0 - 1") else {
+        return true;
+    };
+    let mut reader =
+        b"admit 1 1 1\nadmit 3 3 1\nadmit 5 5 1\nadmit 7 7 1\nadmit 9 9 1\nlimit\ntotal\n".as_slice();
+    let mut room = [0_u8; 128];
+    let mut writer = io::Cursor::new(room.as_mut_slice());
+    let status = run(
+        alloc,
+        &mut MemoryFolder::new(alloc),
+        &Discard,
+        &arguments,
+        &mut reader,
+        &mut writer,
+    );
+    let written = writer.position() as usize;
+    if written > 128 {
+        return false;
+    }
+    let text = &room[..written];
+    if status == 1 {
+        text == b"error memory\n".as_slice()
+    } else {
+        (status == 0) & TEXTS.iter().any(|allowed| allowed.as_bytes() == text)
+    }
 }
 
 // The gate runs this with memory for all; `rt try --test --fail-alloc N` refuses the request number N. Where the
@@ -182,29 +202,6 @@ fn refuses_no_memory_without_cause(rt: HostRuntime) -> Result<(), Fail> {
 // line, and the lines after it are answered.
 #[test]
 fn tells_where_memory_is_refused(rt: HostRuntime) -> Result<(), Fail> {
-    let Ok(arguments) = words(rt.alloc(), "0 - 1") else {
-        return Ok(());
-    };
-    let mut reader =
-        b"admit 1 1 1\nadmit 3 3 1\nadmit 5 5 1\nadmit 7 7 1\nadmit 9 9 1\nlimit\ntotal\n".as_slice();
-    let mut room = [0_u8; 128];
-    let mut writer = io::Cursor::new(room.as_mut_slice());
-    let status = run(
-        rt.alloc(),
-        &mut MemoryFolder::new(rt.alloc()),
-        &Discard,
-        &arguments,
-        &mut reader,
-        &mut writer,
-    );
-    let written = writer.position() as usize;
-    assert!(rt; written <= 128);
-    let text = &room[..written];
-    if status == 1 {
-        assert!(rt; text == b"error memory\n".as_slice());
-    } else {
-        assert_eq!(rt; status, 0);
-        assert!(rt; TEXTS.iter().any(|allowed| allowed.as_bytes() == text));
-    }
+    assert!(rt; tells_one(rt.alloc()));
     Ok(())
 }

@@ -5,10 +5,9 @@ use pingora_lru_files::persistence::MemoryFolder;
 use std::alloc::{AllocError, Global};
 use std::test::Fail;
 
-#[test]
-fn answers_ten_thousand_lines(rt: HostRuntime) -> Result<(), Fail> {
-    let mut input = String::new(rt.alloc());
-    let mut text = String::new(rt.alloc());
+fn are_answered(alloc: Global) -> Result<bool, AllocError> {
+    let mut input = String::new(alloc);
+    let mut text = String::new(alloc);
     for key in 0..5000u64 {
         let shard = key % 2;
         write!(input, "admit {key} {key} 1\n")?;
@@ -20,7 +19,12 @@ fn answers_ten_thousand_lines(rt: HostRuntime) -> Result<(), Fail> {
     }
     input.push_str("total\n")?;
     text.push_str("5000 5000 0 0\n")?;
-    assert!(rt; answers(&rt, "9999 - 7", &input, 0, &text)?);
+    answers(alloc, "9999 - 7", &input, 0, &text)
+}
+
+#[test]
+fn answers_ten_thousand_lines(rt: HostRuntime) -> Result<(), Fail> {
+    assert!(rt; are_answered(rt.alloc())?);
     Ok(())
 }
 
@@ -36,11 +40,10 @@ fn file_of(alloc: Global, shard: u64) -> Result<Vec<u8>, AllocError> {
     Ok(bytes)
 }
 
-#[test]
-fn keeps_files_of_many_pages(rt: HostRuntime) -> Result<(), Fail> {
-    let mut folder = MemoryFolder::new(rt.alloc());
-    let mut input = String::new(rt.alloc());
-    let mut text = String::new(rt.alloc());
+fn are_kept(alloc: Global) -> Result<bool, AllocError> {
+    let mut folder = MemoryFolder::new(alloc);
+    let mut input = String::new(alloc);
+    let mut text = String::new(alloc);
     for key in 0..8334u64 {
         let shard = key % 2;
         write!(input, "admit {key} {key} 1\n")?;
@@ -48,13 +51,18 @@ fn keeps_files_of_many_pages(rt: HostRuntime) -> Result<(), Fail> {
     }
     input.push_str("save d c\n")?;
     text.push_str("saved 2 failed 0\n")?;
-    assert!(rt; answers_over(&rt, &mut folder, input.as_bytes(), 0, &text)?);
-    for (shard, path) in [(0, "d/c.0"), (1, "d/c.1")] {
-        let bytes = file_of(rt.alloc(), shard)?;
-        assert!(rt; folder.get(path) == Some(bytes.as_slice()));
-    }
+    let is_saved = answers_over(alloc, &mut folder, input.as_bytes(), 0, &text)?;
+    let zero = file_of(alloc, 0)?;
+    let one = file_of(alloc, 1)?;
+    let are_files = folder.get("d/c.0") == Some(zero.as_slice())
+        && folder.get("d/c.1") == Some(one.as_slice());
     let input = b"load d c\ntotal\nlru 0\nlru 1\nevict 0\n".as_slice();
     let text = "loaded 2 missing 0 errored 0 removed 0\n8334 8334 0 0\n0 0 1\n1 1 1\n0 0 1\n";
-    assert!(rt; answers_over(&rt, &mut folder, input, 0, text)?);
+    Ok(is_saved & are_files & answers_over(alloc, &mut folder, input, 0, text)?)
+}
+
+#[test]
+fn keeps_files_of_many_pages(rt: HostRuntime) -> Result<(), Fail> {
+    assert!(rt; are_kept(rt.alloc())?);
     Ok(())
 }

@@ -42,6 +42,10 @@ impl Folder for Unlisted {
 
     ghost stopped_since = { λ _ _ _. ⊥ };
 
+    ghost lost_since = { λ _ _ _. ⊥ };
+
+    ghost loose = { λ _ _. ⊥ };
+
     ghost faults = { λ _. 0 };
 
     ghost last_call = { λ _. Make };
@@ -51,6 +55,8 @@ impl Folder for Unlisted {
     ghost counts_now = { λ _ _ broken _. absurd broken };
 
     ghost only_now = { λ _ _ broken _. absurd broken };
+
+    ghost counts_lost = { λ _ _ _ broken _ _. absurd broken };
 
     fn make(&mut self, _dir: &str) -> Result<(), FolderFault> {
         self.close();
@@ -67,6 +73,10 @@ impl Folder for Unlisted {
     }
 
     fn flush(&mut self) -> Result<(), FolderFault> {
+        Err(FolderFault::Io)
+    }
+
+    fn sync(&mut self) -> Result<(), FolderFault> {
         Err(FolderFault::Io)
     }
 

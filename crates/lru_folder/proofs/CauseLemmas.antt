@@ -1,5 +1,5 @@
 -- What a call that the device did not fail leaves of the number of failures.
-use Rattle.std.proofs.Common.{◌≡◌, ◌<◌, ℕ, Result, Err, inl, inr, arith}
+use Rattle.std.proofs.Common.{◌≡◌, ℕ, Result, Err, inl, inr, arith}
 use Rattle.std.proofs.lemmas.Bool.{cases_lt}
 use Rattle.lru_folder.specs.declared.fault.FolderFault.{FolderFault}
 use Rattle.lru_folder.specs.declared.fault.FolderFault.TheVariants.{Io}

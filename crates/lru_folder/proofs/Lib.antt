@@ -4,3 +4,4 @@ pub mod FilesLemmas
 pub mod Moments
 pub mod CauseLemmas
 pub mod InOrderLemmas
+pub mod LossLemmas

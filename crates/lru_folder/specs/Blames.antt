@@ -11,6 +11,7 @@ abbrev pub failed_call : ShardFileError → FolderCall
 failed_call (file.Create path source) = call.Create
 failed_call (file.Write path source) = call.Write
 failed_call (file.Flush path source) = call.Flush
+failed_call (file.Sync path source) = call.Sync
 failed_call (file.Rename from to source) = call.Rename
 failed_call (file.Open path source) = call.Open
 failed_call (file.Read path source) = call.Read
@@ -23,6 +24,7 @@ pub data FailedCall : Type 0 where
   Create : FailedCall
   Write : FailedCall
   Flush : FailedCall
+  Sync : FailedCall
   Rename : (to : List ℕ) → FailedCall
   Open : FailedCall
   Read : FailedCall
@@ -39,6 +41,7 @@ abbrev pub blame_of : ShardFileError → Blame
 blame_of (file.Create path source) = record { call = Create; path = string_bytes path; cause = source }
 blame_of (file.Write path source) = record { call = Write; path = string_bytes path; cause = source }
 blame_of (file.Flush path source) = record { call = Flush; path = string_bytes path; cause = source }
+blame_of (file.Sync path source) = record { call = Sync; path = string_bytes path; cause = source }
 blame_of (file.Rename from to source) = record { call = Rename (string_bytes to); path = string_bytes from; cause = source }
 blame_of (file.Open path source) = record { call = Open; path = string_bytes path; cause = source }
 blame_of (file.Read path source) = record { call = Read; path = string_bytes path; cause = source }

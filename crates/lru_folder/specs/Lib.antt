@@ -1,5 +1,6 @@
 pub mod Names
 pub mod Files
+pub mod Losses
 pub mod Places
 pub mod Listings
 pub mod Folder

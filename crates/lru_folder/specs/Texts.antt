@@ -17,6 +17,7 @@ abbrev pub file_error_text : ShardFileError → List ℕ
 file_error_text (file.Create path source) = codes "failed to create " ++ string_bytes path ++ codes ": " ++ fault_text source
 file_error_text (file.Write path source) = codes "failed to write to " ++ string_bytes path ++ codes ": " ++ fault_text source
 file_error_text (file.Flush path source) = codes "failed to flush temp file " ++ string_bytes path ++ codes ": " ++ fault_text source
+file_error_text (file.Sync path source) = codes "failed to sync " ++ string_bytes path ++ codes ": " ++ fault_text source
 file_error_text (file.Open path source) = codes "failed to open " ++ string_bytes path ++ codes ": " ++ fault_text source
 file_error_text (file.Read path source) = codes "failed to read from " ++ string_bytes path ++ codes ": " ++ fault_text source
 file_error_text (file.ReadDir path source) = codes "failed to read directory " ++ string_bytes path ++ codes ": " ++ fault_text source

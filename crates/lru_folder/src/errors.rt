@@ -22,6 +22,11 @@ pub enum ShardFileError {
         path: String,
         source: FolderFault,
     },
+    /// A temp file was not synced, so a loss of power could still take its bytes.
+    Sync {
+        path: String,
+        source: FolderFault,
+    },
     /// A shard's file was not opened, though nothing says that it is not there.
     Open {
         path: String,
@@ -71,6 +76,9 @@ impl Display for ShardFileError {
             }
             ShardFileError::Flush { path, source } => {
                 write!(f, "failed to flush temp file {path}: {source}")
+            }
+            ShardFileError::Sync { path, source } => {
+                write!(f, "failed to sync {path}: {source}")
             }
             ShardFileError::Open { path, source } => {
                 write!(f, "failed to open {path}: {source}")

@@ -1,7 +1,8 @@
-// A folder, with what a stop at any moment may leave.
+// A folder, with what a stop or a loss of power at any moment may leave.
 ghost use Rattle.std.specs.Prelude.{◌≡◌, ◌≢◌, ◌≤◌, ◌↔◌, ℕ, List, None, Some, IfOk, IsTrue, OnOk, IsErrOf, MatchResult, length, map};
 ghost use Rattle.std.specs.FinMap.{get};
 ghost use Rattle.lru_folder.specs.Files.{Files, created, appended, renamed, removed, AllOrNone, SomeFront, Same};
+ghost use Rattle.lru_folder.specs.Losses.{IsSpread, IsSynced, Loses, creating, writing, renaming, removing, looking, firmed, handed_on};
 ghost use Rattle.lru_folder.specs.declared.folder_call.FolderCall.{FolderCall};
 ghost use Rattle.lru_folder.specs.Places.{Folders, folder_of, is_there, can_list, listing, MakesAll, MakesSome};
 ghost use Rattle.lru_folder.specs.Listings.{name_of};
@@ -31,6 +32,12 @@ pub trait Folder {
     /// What a stop at some moment since that one could have left, inside a call or between two.
     ghost stopped_since: { Self → ℕ → Files → Type 0 };
 
+    /// What a loss of power at some moment since that one could have left.
+    ghost lost_since: { Self → ℕ → Files → Type 0 };
+
+    /// The paths whose bytes a loss of power may change: they were written, and not synced since.
+    ghost loose: { Self → List ℕ → Type 0 };
+
     /// How often the folder has failed so far.
     ghost faults: { Self → ℕ };
 
@@ -46,6 +53,7 @@ pub trait Folder {
         ensures done { keeps self.old → OnOk result (MakesAll dir.now (folders self.old) (folders self.new)) }
         ensures part { keeps self.old → MakesSome dir.now (folders self.old) (folders self.new) }
         ensures time { keeps self.old → Passes clock stopped_since files Same self.old self.new }
+        ensures loss { keeps self.old → Loses clock files lost_since loose looking self.old self.new }
         ensures last { keeps self.old → last_call self.new ≡ FolderCall.Make }
         ensures cause { keeps self.old → HasCause (faults self.old) (faults self.new) result }
         ensures found { keeps self.old → IsErrOf result FolderFault.NotFound → ⊥ }
@@ -59,6 +67,7 @@ pub trait Folder {
             × (files self.new ≡ created path.now (files self.old)) × (opened self.new ≡ Writing path.now)) }
         ensures places { keeps self.old → folders self.new ≡ folders self.old }
         ensures time { keeps self.old → Passes clock stopped_since files (AllOrNone (created path.now)) self.old self.new }
+        ensures loss { keeps self.old → Loses clock files lost_since loose (creating path.now) self.old self.new }
         ensures last { keeps self.old → last_call self.new ≡ FolderCall.Create }
         ensures cause { keeps self.old → HasCause (faults self.old) (faults self.new) result }
         ensures found { keeps self.old → IsErrOf result FolderFault.NotFound → ¬ IsTrue (is_there (folders self.old) (folder_of path.now)) }
@@ -71,6 +80,7 @@ pub trait Folder {
         ensures done { keeps self.old → OnOk result (files self.new ≡ appended (written_path (opened self.old)) piece.now (files self.old)) }
         ensures places { keeps self.old → folders self.new ≡ folders self.old }
         ensures time { keeps self.old → Passes clock stopped_since files (SomeFront (written_path (opened self.old)) piece.now) self.old self.new }
+        ensures loss { keeps self.old → Loses clock files lost_since loose (writing (written_path (opened self.old)) piece.now) self.old self.new }
         ensures last { keeps self.old → last_call self.new ≡ FolderCall.Write }
         ensures cause { keeps self.old → HasCause (faults self.old) (faults self.new) result }
         ensures found { keeps self.old → IsErrOf result FolderFault.NotFound → ⊥ }
@@ -82,7 +92,21 @@ pub trait Folder {
         ensures mode { opened self.new ≡ opened self.old }
         ensures places { keeps self.old → folders self.new ≡ folders self.old }
         ensures time { keeps self.old → Passes clock stopped_since files Same self.old self.new }
+        ensures loss { keeps self.old → Loses clock files lost_since loose looking self.old self.new }
         ensures last { keeps self.old → last_call self.new ≡ FolderCall.Flush }
+        ensures cause { keeps self.old → HasCause (faults self.old) (faults self.new) result }
+        ensures found { keeps self.old → IsErrOf result FolderFault.NotFound → ⊥ }
+        ensures kept { keeps self.old ↔ keeps self.new };
+
+    /// Makes what was written to the open file, and each name given before, safe from a loss of power. The file stays open.
+    fn sync(&mut self) -> Result<(), FolderFault>
+        requires { IsWriting (opened self.old) }
+        ensures mode { opened self.new ≡ opened self.old }
+        ensures done { keeps self.old → OnOk result (IsSynced clock files lost_since loose (written_path (opened self.old)) self.old self.new) }
+        ensures places { keeps self.old → folders self.new ≡ folders self.old }
+        ensures time { keeps self.old → Passes clock stopped_since files Same self.old self.new }
+        ensures loss { keeps self.old → Loses clock files lost_since loose looking self.old self.new }
+        ensures last { keeps self.old → last_call self.new ≡ FolderCall.Sync }
         ensures cause { keeps self.old → HasCause (faults self.old) (faults self.new) result }
         ensures found { keeps self.old → IsErrOf result FolderFault.NotFound → ⊥ }
         ensures kept { keeps self.old ↔ keeps self.new };
@@ -95,6 +119,8 @@ pub trait Folder {
             × (files self.new ≡ renamed from.now to.now (files self.old))) }
         ensures places { keeps self.old → folders self.new ≡ folders self.old }
         ensures time { keeps self.old → Passes clock stopped_since files (AllOrNone (renamed from.now to.now)) self.old self.new }
+        ensures loss { keeps self.old → Loses clock files lost_since loose (renaming from.now to.now) self.old self.new }
+        ensures settled { keeps self.old → OnOk result ((q : List ℕ) → loose self.new q → handed_on from.now to.now (loose self.old) q) }
         ensures last { keeps self.old → last_call self.new ≡ FolderCall.Rename }
         ensures cause { keeps self.old → HasCause (faults self.old) (faults self.new) result }
         ensures found { keeps self.old → IsErrOf result FolderFault.NotFound → get (files self.old) from.now ≡ None }
@@ -108,6 +134,7 @@ pub trait Folder {
             × (len ≡ length bytes) × (opened self.new ≡ Reading bytes)) }
         ensures places { keeps self.old → folders self.new ≡ folders self.old }
         ensures time { keeps self.old → Passes clock stopped_since files Same self.old self.new }
+        ensures loss { keeps self.old → Loses clock files lost_since loose looking self.old self.new }
         ensures last { keeps self.old → last_call self.new ≡ FolderCall.Open }
         ensures cause { keeps self.old → HasCause (faults self.old) (faults self.new) result }
         ensures found { keeps self.old → IsErrOf result FolderFault.NotFound → get (files self.old) path.now ≡ None }
@@ -122,6 +149,7 @@ pub trait Folder {
             IfOk result (λ piece. (rest : List ℕ) × (opened self.new ≡ Reading rest) × Reads max left piece.items rest) }
         ensures places { keeps self.old → folders self.new ≡ folders self.old }
         ensures time { keeps self.old → Passes clock stopped_since files Same self.old self.new }
+        ensures loss { keeps self.old → Loses clock files lost_since loose looking self.old self.new }
         ensures last { keeps self.old → last_call self.new ≡ FolderCall.Read }
         ensures cause { keeps self.old → HasCause (faults self.old) (faults self.new) result }
         ensures found { keeps self.old → IsErrOf result FolderFault.NotFound → ⊥ }
@@ -136,6 +164,7 @@ pub trait Folder {
             × (map name_of listed.items ≡ listing dir.now (files self.old))) }
         ensures places { keeps self.old → folders self.new ≡ folders self.old }
         ensures time { keeps self.old → Passes clock stopped_since files Same self.old self.new }
+        ensures loss { keeps self.old → Loses clock files lost_since loose looking self.old self.new }
         ensures last { keeps self.old → last_call self.new ≡ FolderCall.List }
         ensures cause { keeps self.old → HasCause (faults self.old) (faults self.new) result }
         ensures found { keeps self.old → IsErrOf result FolderFault.NotFound → ¬ IsTrue (can_list (folders self.old) dir.now) }
@@ -149,6 +178,8 @@ pub trait Folder {
             × (files self.new ≡ removed path.now (files self.old))) }
         ensures places { keeps self.old → folders self.new ≡ folders self.old }
         ensures time { keeps self.old → Passes clock stopped_since files (AllOrNone (removed path.now)) self.old self.new }
+        ensures loss { keeps self.old → Loses clock files lost_since loose (removing path.now) self.old self.new }
+        ensures settled { keeps self.old → OnOk result ((q : List ℕ) → loose self.new q → firmed path.now (loose self.old) q) }
         ensures last { keeps self.old → last_call self.new ≡ FolderCall.Remove }
         ensures cause { keeps self.old → HasCause (faults self.old) (faults self.new) result }
         ensures found { keeps self.old → IsErrOf result FolderFault.NotFound → get (files self.old) path.now ≡ None }
@@ -159,4 +190,8 @@ pub trait Folder {
 
     /// and since this moment there is nothing else.
     ghost only_now: { (folder : Self) (m : Files) → keeps folder → stopped_since folder (clock folder) m → m ≡ files folder };
+
+    /// A loss of power since any moment could have left what is there now, with any bytes at its loose paths.
+    ghost counts_lost: { (folder : Self) (t : ℕ) (m : Files) → keeps folder → t ≤ clock folder
+        → IsSpread (loose folder) (files folder) m → lost_since folder t m };
 }

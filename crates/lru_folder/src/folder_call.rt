@@ -7,6 +7,7 @@ pub enum FolderCall {
     Create,
     Write,
     Flush,
+    Sync,
     Rename,
     Open,
     Read,

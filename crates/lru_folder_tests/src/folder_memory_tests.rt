@@ -5,120 +5,134 @@
 ghost use Rattle.std.specs.Prelude.{◌≡◌};
 ghost use Rattle.pingora_lru_files.specs.Folder.{IsWriting};
 
-use pingora_lru_files::persistence::{Folder, FolderFault, Listed, MemoryFolder};
+use lru_test_folders::told::told_names;
+use pingora_lru_files::persistence::{Folder, FolderFault, MemoryFolder};
 use std::alloc::{AllocError, Global};
-use std::process::Abort;
 use std::test::Fail;
 
-/// Counts a refusal, which is for want of memory.
-fn count(rt: &impl Abort, refusals: &mut usize, fault: FolderFault) {
-    assert_eq!(rt; fault, FolderFault::Memory);
+/// Counts a refusal. Whether it is for want of memory.
+fn count(refusals: &mut usize, fault: FolderFault) -> bool {
     *refusals = refusals.saturating_add(1);
+    fault == FolderFault::Memory
 }
 
-/// Puts a piece at the end of the open file, which has the bytes `before`.
+/// Puts a piece at the end of the open file, which has the bytes `before`. Whether it is put, at the second try at last.
 fn piece_at_last(
-    rt: &impl Abort,
     refusals: &mut usize,
     folder: &mut MemoryFolder,
     path: &str,
     before: &[u8],
     piece: &[u8],
-)
+) -> bool
     requires { IsWriting folder.old.opened }
     ensures { folder.new.opened ≡ folder.old.opened }
 {
-    if let Err(fault) = folder.write(piece) {
-        count(rt, refusals, fault);
-        assert!(rt; folder.get(path) == Some(before));
-        assert_eq!(rt; folder.write(piece), Ok(()));
+    match folder.write(piece) {
+        Ok(()) => true,
+        Err(fault) => {
+            let is_kept = folder.get(path) == Some(before);
+            count(refusals, fault) & is_kept & folder.write(piece).is_ok()
+        }
     }
 }
 
 /// Makes a folder, and a file in it.
-fn write_at_last(
-    rt: &impl Abort,
-    refusals: &mut usize,
-    folder: &mut MemoryFolder,
-    path: &str,
-) -> Result<(), Fail> {
-    if let Err(fault) = folder.make("d/e") {
-        count(rt, refusals, fault);
-        assert_eq!(rt; folder.make("d/e"), Ok(()));
-    }
+fn write_at_last(refusals: &mut usize, folder: &mut MemoryFolder, path: &str) -> bool {
+    let is_made = match folder.make("d/e") {
+        Ok(()) => true,
+        Err(fault) => count(refusals, fault) & folder.make("d/e").is_ok(),
+    };
+    let mut is_created = true;
     if let Err(fault) = folder.create(path) {
-        count(rt, refusals, fault);
-        assert!(rt; folder.get(path).is_none());
-        assert_eq!(rt; folder.create(path), Ok(()));
-    }
-    piece_at_last(rt, refusals, folder, path, b"", b"12");
-    piece_at_last(rt, refusals, folder, path, b"12", b"345");
-    if let Err(fault) = folder.flush() {
-        count(rt, refusals, fault);
-        assert_eq!(rt; folder.flush(), Ok(()));
-    }
-    assert!(rt; folder.get(path) == Some(b"12345".as_slice()));
-    Ok(())
-}
-
-/// Reads that file in two pieces. A refused piece leaves the place in the file unknown, so it is opened anew.
-fn read_at_last(
-    rt: &impl Abort,
-    refusals: &mut usize,
-    folder: &mut MemoryFolder,
-    path: &str,
-) -> Result<(), Fail> {
-    match folder.open(path) {
-        Ok(len) => assert_eq!(rt; len, 5),
-        Err(fault) => {
-            count(rt, refusals, fault);
-            assert_eq!(rt; folder.open(path), Ok(5));
+        is_created = count(refusals, fault) & folder.get(path).is_none();
+        if let Err(_) = folder.create(path) {
+            return false;
         }
     }
-    let (first, second) = match (folder.read(3), folder.read(3)) {
-        (Ok(first), Ok(second)) => (first, second),
-        (Ok(_), Err(fault)) | (Err(fault), _) => {
-            count(rt, refusals, fault);
-            assert_eq!(rt; folder.open(path), Ok(5));
-            (folder.read(3)?, folder.read(3)?)
-        }
+    let is_first = piece_at_last(refusals, folder, path, b"", b"12");
+    let is_second = piece_at_last(refusals, folder, path, b"12", b"345");
+    let is_flushed = match folder.flush() {
+        Ok(()) => true,
+        Err(fault) => count(refusals, fault) & folder.flush().is_ok(),
     };
-    assert_eq!(rt; first.as_slice(), b"123".as_slice());
-    assert_eq!(rt; second.as_slice(), b"45".as_slice());
-    Ok(())
+    let is_synced = match folder.sync() {
+        Ok(()) => true,
+        Err(fault) => count(refusals, fault) & folder.sync().is_ok(),
+    };
+    let is_written = is_made & is_created & is_first & is_second & is_flushed & is_synced;
+    is_written & (folder.get(path) == Some(b"12345".as_slice()))
 }
 
-/// Gives that file another name, lists its folder, and removes it.
-fn move_at_last(
-    rt: &impl Abort,
-    refusals: &mut usize,
+/// Opens that file and reads it in two pieces.
+fn pieces_of(
     folder: &mut MemoryFolder,
     path: &str,
-) -> Result<(), Fail> {
+) -> Result<(u64, Vec<u8>, Vec<u8>), FolderFault> {
+    let len = folder.open(path)?;
+    let first = folder.read(3)?;
+    let second = folder.read(3)?;
+    Ok((len, first, second))
+}
+
+/// Whether it is read so. A refused piece leaves the place in the file unknown, so it is opened anew.
+fn read_at_last(refusals: &mut usize, folder: &mut MemoryFolder, path: &str) -> bool {
+    let (is_right, pieces) = match pieces_of(folder, path) {
+        Ok(pieces) => (true, Ok(pieces)),
+        Err(fault) => (count(refusals, fault), pieces_of(folder, path)),
+    };
+    match &pieces {
+        Ok((len, first, second)) => {
+            let are_read = (first.as_slice(), second.as_slice())
+                == (b"123".as_slice(), b"45".as_slice());
+            is_right & (*len == 5) & are_read
+        }
+        Err(_) => false,
+    }
+}
+
+/// Whether the file stands at the one path, and nothing at the other.
+fn stands_at(folder: &MemoryFolder, path: &str, other: &str) -> bool {
+    (folder.get(path) == Some(b"12345".as_slice())) & folder.get(other).is_none()
+}
+
+/// Gives that file another name.
+fn move_at_last(refusals: &mut usize, folder: &mut MemoryFolder, path: &str) -> bool {
+    let mut is_right = true;
     if let Err(fault) = folder.rename(path, "d/b") {
-        count(rt, refusals, fault);
-        assert!(rt; folder.get(path) == Some(b"12345".as_slice()) && folder.get("d/b").is_none());
-        assert_eq!(rt; folder.rename(path, "d/b"), Ok(()));
+        is_right = count(refusals, fault) & stands_at(folder, path, "d/b");
+        is_right = is_right & folder.rename(path, "d/b").is_ok();
     }
-    assert!(rt; folder.get(path).is_none());
-    assert!(rt; folder.get("d/b") == Some(b"12345".as_slice()));
-    let listed = match folder.list("d") {
-        Ok(listed) => listed,
-        Err(fault) => {
-            count(rt, refusals, fault);
-            folder.list("d")?
+    is_right & stands_at(folder, "d/b", path)
+}
+
+/// Whether the folder `d` lists both files, if that is not refused memory.
+fn lists_both(alloc: Global, folder: &mut MemoryFolder) -> Option<bool> {
+    match told_names(alloc, folder, "d") {
+        Ok(names) if names.as_str() == "out of memory" => None,
+        Ok(names) => Some(names.as_str() == "a b "),
+        Err(AllocError) => None,
+    }
+}
+
+/// Lists that folder.
+fn list_at_last(alloc: Global, refusals: &mut usize, folder: &mut MemoryFolder) -> bool {
+    match lists_both(alloc, folder) {
+        Some(is_right) => is_right,
+        None => {
+            *refusals = refusals.saturating_add(1);
+            lists_both(alloc, folder) == Some(true)
         }
-    };
-    assert_eq!(rt; listed.len(), 2);
-    assert!(rt; matches!(&listed[0], Listed::Name(name) if name.as_str() == "a"));
-    assert!(rt; matches!(&listed[1], Listed::Name(name) if name.as_str() == "b"));
-    if let Err(fault) = folder.remove("d/b") {
-        count(rt, refusals, fault);
-        assert!(rt; folder.get("d/b") == Some(b"12345".as_slice()));
-        assert_eq!(rt; folder.remove("d/b"), Ok(()));
     }
-    assert!(rt; folder.get("d/b").is_none());
-    Ok(())
+}
+
+/// Removes the file.
+fn remove_at_last(refusals: &mut usize, folder: &mut MemoryFolder) -> bool {
+    let mut is_right = true;
+    if let Err(fault) = folder.remove("d/b") {
+        let is_kept = folder.get("d/b") == Some(b"12345".as_slice());
+        is_right = count(refusals, fault) & is_kept & folder.remove("d/b").is_ok();
+    }
+    is_right & folder.get("d/b").is_none()
 }
 
 /// A folder with one file, at the second try where the first is refused.
@@ -133,21 +147,28 @@ fn with_at_last(alloc: Global, refusals: &mut usize) -> Result<MemoryFolder, All
 }
 
 /// All calls of a folder.
-fn calls_at_last(rt: &impl Abort, alloc: Global, refusals: &mut usize) -> Result<(), Fail> {
+fn calls_at_last(alloc: Global, refusals: &mut usize) -> Result<bool, AllocError> {
     let mut folder = with_at_last(alloc, refusals)?;
-    assert!(rt; folder.get("d/a") == Some(b"1".as_slice()));
-    write_at_last(rt, refusals, &mut folder, "d/e/b")?;
-    read_at_last(rt, refusals, &mut folder, "d/e/b")?;
-    move_at_last(rt, refusals, &mut folder, "d/e/b")?;
-    assert!(rt; folder.get("d/a") == Some(b"1".as_slice()));
-    Ok(())
+    let is_first = folder.get("d/a") == Some(b"1".as_slice());
+    let is_written = write_at_last(refusals, &mut folder, "d/e/b");
+    let is_read = read_at_last(refusals, &mut folder, "d/e/b");
+    let is_moved = move_at_last(refusals, &mut folder, "d/e/b");
+    let is_listed = list_at_last(alloc, refusals, &mut folder);
+    let is_removed = remove_at_last(refusals, &mut folder);
+    let is_last = folder.get("d/a") == Some(b"1".as_slice());
+    Ok(is_first & is_written & is_read & is_moved & is_listed & is_removed & is_last)
+}
+
+/// Whether all of that is right twice, where one call at most is refused memory.
+fn calls_twice(alloc: Global) -> Result<bool, AllocError> {
+    let mut refusals = 0;
+    let first = calls_at_last(alloc, &mut refusals)?;
+    let second = calls_at_last(alloc, &mut refusals)?;
+    Ok(first & second & (refusals <= 1))
 }
 
 #[test]
 fn the_calls_of_a_folder(rt: HostRuntime) -> Result<(), Fail> {
-    let mut refusals = 0;
-    calls_at_last(&rt, rt.alloc(), &mut refusals)?;
-    calls_at_last(&rt, rt.alloc(), &mut refusals)?;
-    assert!(rt; refusals <= 1);
+    assert!(rt; calls_twice(rt.alloc())?);
     Ok(())
 }

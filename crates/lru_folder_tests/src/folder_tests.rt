@@ -1,6 +1,7 @@
 // What the folders answer.
-use pingora_lru_files::persistence::{Folder, FolderFault, HostFolder, Listed, MemoryFolder};
-use std::process::Abort;
+use lru_test_folders::told::told_names;
+use pingora_lru_files::persistence::{Folder, FolderFault, HostFolder, MemoryFolder};
+use std::alloc::{AllocError, Global};
 use std::test::Fail;
 
 /// A call that answers no value.
@@ -19,113 +20,132 @@ fn ask(folder: &mut MemoryFolder, asked: Asked<'_>) -> Result<(), FolderFault> {
     }
 }
 
-/// Asserts that the calls, one after another, answer so.
-fn assert_answers(
-    rt: &impl Abort,
-    folder: &mut MemoryFolder,
-    calls: &[(Asked<'_>, Result<(), FolderFault>)],
-) {
-    for (asked, answer) in calls {
-        assert_eq!(rt; ask(folder, *asked), *answer);
-    }
-}
-
 const NOT_FOUND: Result<(), FolderFault> = Err(FolderFault::NotFound);
 
 const FAILED: Result<(), FolderFault> = Err(FolderFault::Io);
 
+/// Whether the calls, one after another, answer so.
+fn answer_so(folder: &mut MemoryFolder, calls: &[(Asked<'_>, Result<(), FolderFault>)]) -> bool {
+    for (asked, answer) in calls {
+        if ask(folder, *asked) != *answer {
+            return false;
+        }
+    }
+    true
+}
+
+/// The calls where the second one fails.
+const ONE_FAILS: [(Asked<'static>, Result<(), FolderFault>); 3] = [
+    (Asked::Make("e"), Ok(())),
+    (Asked::Make("f"), FAILED),
+    (Asked::Make("f"), Ok(())),
+];
+
+/// The calls where all fail.
+const ALL_FAIL: [(Asked<'static>, Result<(), FolderFault>); 2] = [
+    (Asked::Remove("d/a"), FAILED),
+    (Asked::Remove("d/a"), FAILED),
+];
+
+/// The calls where none fails any more.
+const MENDED: [(Asked<'static>, Result<(), FolderFault>); 2] = [
+    (Asked::Remove("d/a"), Ok(())),
+    (Asked::Remove("d/a"), NOT_FOUND),
+];
+
+fn follows_its_plans(alloc: Global) -> Result<bool, AllocError> {
+    let mut folder = MemoryFolder::new(alloc).with("d/a", b"1")?;
+    folder.fail_at(1, 0);
+    let fails = answer_so(&mut folder, &ONE_FAILS);
+    folder.stop_at(0, 0);
+    let stops = answer_so(&mut folder, &ALL_FAIL);
+    folder.mend();
+    Ok(fails & stops & answer_so(&mut folder, &MENDED))
+}
+
 #[test]
 fn a_plan_fails_one_call_or_all(rt: HostRuntime) -> Result<(), Fail> {
-    let mut folder = MemoryFolder::new(rt.alloc()).with("d/a", b"1")?;
-    folder.fail_at(1, 0);
-    let made = [
-        (Asked::Make("e"), Ok(())),
-        (Asked::Make("f"), FAILED),
-        (Asked::Make("f"), Ok(())),
-    ];
-    assert_answers(&rt, &mut folder, &made);
-    folder.stop_at(0, 0);
-    let stopped = [
-        (Asked::Remove("d/a"), FAILED),
-        (Asked::Remove("d/a"), FAILED),
-    ];
-    assert_answers(&rt, &mut folder, &stopped);
-    folder.mend();
-    let mended = [
-        (Asked::Remove("d/a"), Ok(())),
-        (Asked::Remove("d/a"), NOT_FOUND),
-    ];
-    assert_answers(&rt, &mut folder, &mended);
+    assert!(rt; follows_its_plans(rt.alloc())?);
     Ok(())
 }
+
+/// Calls in an empty folder.
+const MADE: [(Asked<'static>, Result<(), FolderFault>); 6] = [
+    (Asked::Create("a/b/c"), NOT_FOUND),
+    (Asked::Make("a/b/"), Ok(())),
+    (Asked::Create("a/b/c"), Ok(())),
+    (Asked::Create("a/x"), Ok(())),
+    (Asked::Create("x"), Ok(())),
+    (Asked::Create("/x"), Ok(())),
+];
 
 #[test]
 fn folders_are_made_with_their_parents(rt: HostRuntime) -> Result<(), Fail> {
-    let calls = [
-        (Asked::Create("a/b/c"), NOT_FOUND),
-        (Asked::Make("a/b/"), Ok(())),
-        (Asked::Create("a/b/c"), Ok(())),
-        (Asked::Create("a/x"), Ok(())),
-        (Asked::Create("x"), Ok(())),
-        (Asked::Create("/x"), Ok(())),
-    ];
-    assert_answers(&rt, &mut MemoryFolder::new(rt.alloc()), &calls);
+    assert!(rt; answer_so(&mut MemoryFolder::new(rt.alloc()), &MADE));
     Ok(())
 }
 
-#[test]
-fn names_are_listed_in_byte_order(rt: HostRuntime) -> Result<(), Fail> {
-    let mut folder = MemoryFolder::new(rt.alloc())
+fn are_listed(alloc: Global) -> Result<bool, AllocError> {
+    let mut folder = MemoryFolder::new(alloc)
         .with("d/b", b"")?
         .with("d/a", b"")?
         .with("d/e/f", b"")?
         .with("da", b"")?;
-    let listed = folder.list("d").map_err(|_| "no list")?;
-    let mut names = String::new(rt.alloc());
-    for entry in &listed {
-        match entry {
-            Listed::Name(name) => names.push_str(name.as_str())?,
-            Listed::Unreadable => names.push('?')?,
-        }
-        names.push(' ')?;
-    }
-    assert_eq!(rt; names.as_str(), "a b ");
-    assert!(rt; matches!(folder.list(""), Err(FolderFault::NotFound)));
-    assert!(rt; matches!(folder.list("x"), Err(FolderFault::NotFound)));
+    let names = told_names(alloc, &mut folder, "d")?;
+    let empty = told_names(alloc, &mut folder, "")?;
+    let other = told_names(alloc, &mut folder, "x")?;
+    Ok((names.as_str(), empty.as_str(), other.as_str()) == ("a b ", "not found", "not found"))
+}
+
+#[test]
+fn names_are_listed_in_byte_order(rt: HostRuntime) -> Result<(), Fail> {
+    assert!(rt; are_listed(rt.alloc())?);
     Ok(())
+}
+
+/// Whether the five bytes of that file are read in pieces of at most two.
+fn is_read_in_pieces(folder: &mut MemoryFolder, path: &str) -> Result<bool, FolderFault> {
+    let len = folder.open(path)?;
+    let first = folder.read(2)?;
+    let second = folder.read(2)?;
+    let third = folder.read(2)?;
+    let end = folder.read(2)?;
+    let fronts = (first.as_slice(), second.as_slice()) == (b"12".as_slice(), b"34".as_slice());
+    Ok((len == 5) & fronts & (third.as_slice() == b"5".as_slice()) & end.is_empty())
 }
 
 #[test]
 fn a_file_is_read_in_pieces(rt: HostRuntime) -> Result<(), Fail> {
     let mut folder = MemoryFolder::new(rt.alloc()).with("a", b"12345")?;
-    assert_eq!(rt; folder.open("b"), Err(FolderFault::NotFound));
-    assert_eq!(rt; folder.open("a"), Ok(5));
-    let first = folder.read(2).map_err(|_| "no bytes")?;
-    let second = folder.read(2).map_err(|_| "no bytes")?;
-    let third = folder.read(2).map_err(|_| "no bytes")?;
-    let end = folder.read(2).map_err(|_| "no bytes")?;
-    assert_eq!(rt; first.as_slice(), b"12".as_slice());
-    assert_eq!(rt; second.as_slice(), b"34".as_slice());
-    assert_eq!(rt; third.as_slice(), b"5".as_slice());
-    assert!(rt; end.is_empty());
+    let missing = folder.open("b");
+    let is_read = is_read_in_pieces(&mut folder, "a");
+    assert!(rt; (missing, is_read) == (Err(FolderFault::NotFound), Ok(true)));
     Ok(())
 }
 
 #[test]
 fn a_real_folder_answers_like_one_in_memory(rt: HostRuntime) -> Result<(), Fail> {
     let mut folder = HostFolder::new(rt);
-    assert_eq!(rt; folder.make(""), Ok(()));
-    assert_eq!(rt;
+    let answers = [
+        folder.make(""),
         folder.create("no_such_folder/a"),
-        Err(FolderFault::NotFound)
-    );
-    assert_eq!(rt; folder.open("no_such_file"), Err(FolderFault::NotFound));
-    assert_eq!(rt; folder.remove("no_such_file"), Err(FolderFault::NotFound));
-    assert_eq!(rt;
+        folder.open("no_such_file").map(|_| ()),
+        folder.remove("no_such_file"),
         folder.rename("no_such_file", "b"),
-        Err(FolderFault::NotFound)
+        folder.list("no_such_folder").map(|_| ()),
+        folder.list("").map(|_| ()),
+    ];
+    assert!(rt;
+        answers
+            == [
+                Ok(()),
+                NOT_FOUND,
+                NOT_FOUND,
+                NOT_FOUND,
+                NOT_FOUND,
+                NOT_FOUND,
+                NOT_FOUND
+            ]
     );
-    assert!(rt; matches!(folder.list("no_such_folder"), Err(FolderFault::NotFound)));
-    assert!(rt; matches!(folder.list(""), Err(FolderFault::NotFound)));
     Ok(())
 }

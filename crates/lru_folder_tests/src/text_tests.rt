@@ -5,19 +5,11 @@ use pingora_lru_files::persistence::{
 };
 use std::alloc::{AllocError, Global};
 use std::fmt::Display;
-use std::process::Abort;
 use std::test::Fail;
 
-/// Asserts that the value is shown as that text.
-fn assert_shown<D: Display>(
-    rt: &impl Abort,
-    alloc: Global,
-    value: &D,
-    text: &str,
-) -> Result<(), AllocError> {
-    let shown = value.to_string(alloc)?;
-    assert_eq!(rt; shown.as_str(), text);
-    Ok(())
+/// Whether the value is shown as that text.
+fn is_shown<D: Display>(alloc: Global, value: &D, text: &str) -> Result<bool, AllocError> {
+    Ok(value.to_string(alloc)?.as_str() == text)
 }
 
 fn text(alloc: Global, letters: &str) -> Result<String, AllocError> {
@@ -31,11 +23,19 @@ const FAULTS: [(FolderFault, &str); 3] = [
     (FolderFault::Io, "input or output failed"),
 ];
 
+/// The first fault, if there is one, that is shown otherwise.
+fn wrong_fault(alloc: Global) -> Result<Option<FolderFault>, AllocError> {
+    for (fault, text) in FAULTS {
+        if !is_shown(alloc, &fault, text)? {
+            return Ok(Some(fault));
+        }
+    }
+    Ok(None)
+}
+
 #[test]
 fn faults(rt: HostRuntime) -> Result<(), Fail> {
-    for (fault, text) in FAULTS {
-        assert_shown(&rt, rt.alloc(), &fault, text)?;
-    }
+    assert_eq!(rt; wrong_fault(rt.alloc())?, None);
     Ok(())
 }
 
@@ -45,6 +45,7 @@ enum About {
     Create,
     Write,
     Flush,
+    Sync,
     Open,
     Read,
     ReadDir,
@@ -54,7 +55,7 @@ enum About {
 }
 
 /// Errors about files: what they are about, the path, the cause, and how they are shown.
-const FILE_ERRORS: [(About, &str, FolderFault, &str); 9] = [
+const FILE_ERRORS: [(About, &str, FolderFault, &str); 10] = [
     (
         About::Create,
         "d/t",
@@ -72,6 +73,12 @@ const FILE_ERRORS: [(About, &str, FolderFault, &str); 9] = [
         "d/t",
         FolderFault::Io,
         "failed to flush temp file d/t: input or output failed",
+    ),
+    (
+        About::Sync,
+        "d/t",
+        FolderFault::Io,
+        "failed to sync d/t: input or output failed",
     ),
     (
         About::Open,
@@ -123,6 +130,7 @@ fn file_error(
         About::Create => ShardFileError::Create { path, source },
         About::Write => ShardFileError::Write { path, source },
         About::Flush => ShardFileError::Flush { path, source },
+        About::Sync => ShardFileError::Sync { path, source },
         About::Open => ShardFileError::Open { path, source },
         About::Read => ShardFileError::Read { path, source },
         About::ReadDir => ShardFileError::ReadDir { path, source },
@@ -139,95 +147,90 @@ fn file_error(
     })
 }
 
-#[test]
-fn errors_about_files(rt: HostRuntime) -> Result<(), Fail> {
-    for (about, path, source, text) in FILE_ERRORS {
-        let error = file_error(rt.alloc(), about, path, source)?;
-        assert_shown(&rt, rt.alloc(), &error, text)?;
+/// The first error, if there is one, that is shown otherwise.
+fn wrong_file_error(alloc: Global) -> Result<Option<usize>, AllocError> {
+    for (place, (about, path, source, text)) in FILE_ERRORS.iter().enumerate() {
+        let error = file_error(alloc, *about, path, *source)?;
+        if !is_shown(alloc, &error, text)? {
+            return Ok(Some(place));
+        }
     }
-    Ok(())
+    Ok(None)
 }
 
 #[test]
-fn shards_that_are_not_saved(rt: HostRuntime) -> Result<(), Fail> {
-    let alloc = rt.alloc();
+fn errors_about_files(rt: HostRuntime) -> Result<(), Fail> {
+    assert_eq!(rt; wrong_file_error(rt.alloc())?, None);
+    Ok(())
+}
+
+/// The shards that are not saved, each for its reason, a line each.
+fn told_unsaved(alloc: Global) -> Result<String, AllocError> {
     let refused = ShardSaveFailure::Serialize {
         shard: 1,
         source: "no",
     };
-    assert_shown(&rt, alloc, &refused, "failed to serialize shard 1: no")?;
     let path = text(alloc, "d/c.1.0000002a.tmp")?;
     let source = FolderFault::Io;
     let source = ShardFileError::Create { path, source };
     let failed: ShardSaveFailure<&str> = ShardSaveFailure::Io { shard: 1, source };
-    assert_shown(
-        &rt,
-        alloc,
-        &failed,
-        "failed to save shard 1: failed to create d/c.1.0000002a.tmp: input or output failed",
-    )?;
     let full: ShardSaveFailure<&str> = ShardSaveFailure::Memory { shard: 20 };
-    assert_shown(&rt, alloc, &full, "failed to save shard 20: out of memory")?;
-    Ok(())
+    format!(in alloc; "{refused}\n{failed}\n{full}\n")
 }
 
 #[test]
-fn shards_that_are_not_loaded(rt: HostRuntime) -> Result<(), Fail> {
-    let alloc = rt.alloc();
+fn shards_that_are_not_saved(rt: HostRuntime) -> Result<(), Fail> {
+    assert_eq!(rt;
+        told_unsaved(rt.alloc())?.as_str(),
+        "failed to serialize shard 1: no\nfailed to save shard 1: failed to create d/c.1.0000002a.tmp: input or output failed\nfailed to save shard 20: out of memory\n"
+    );
+    Ok(())
+}
+
+/// The shards that are not loaded, each for its reason, a line each.
+fn told_unloaded(alloc: Global) -> Result<String, AllocError> {
     let path = text(alloc, "d/c.0")?;
     let source = FolderFault::Io;
     let source = ShardFileError::Read { path, source };
     let failed: ShardLoadFailure<&str> = ShardLoadFailure::Io { shard: 0, source };
-    assert_shown(
-        &rt,
-        alloc,
-        &failed,
-        "failed to load shard 0: failed to read from d/c.0: input or output failed",
-    )?;
     let full: ShardLoadFailure<&str> = ShardLoadFailure::Memory { shard: 3 };
-    assert_shown(&rt, alloc, &full, "failed to load shard 3: out of memory")?;
     let refused = ShardLoadFailure::Deserialize {
         shard: 2,
         source: "damaged",
     };
-    assert_shown(
-        &rt,
-        alloc,
-        &refused,
-        "failed to deserialize shard 2: damaged",
-    )?;
-    Ok(())
+    format!(in alloc; "{failed}\n{full}\n{refused}\n")
 }
 
 #[test]
-fn saves(rt: HostRuntime) -> Result<(), Fail> {
-    let alloc = rt.alloc();
-    assert_shown(&rt, alloc, &ShardSaveSetupError::Memory, "out of memory")?;
+fn shards_that_are_not_loaded(rt: HostRuntime) -> Result<(), Fail> {
+    assert_eq!(rt;
+        told_unloaded(rt.alloc())?.as_str(),
+        "failed to load shard 0: failed to read from d/c.0: input or output failed\nfailed to load shard 3: out of memory\nfailed to deserialize shard 2: damaged\n"
+    );
+    Ok(())
+}
+
+/// The saves that fail as a whole, each for its reason, a line each.
+fn told_saves(alloc: Global) -> Result<String, AllocError> {
     let path = text(alloc, "d")?;
     let source = FolderFault::Io;
     let folder = ShardSaveSetupError::CreateDir { path, source };
-    assert_shown(
-        &rt,
-        alloc,
-        &folder,
-        "failed to create d: input or output failed",
-    )?;
+    let full = ShardSaveSetupError::Memory;
+    let mut told = format!(in alloc; "{full}\n{folder}\n")?;
     let setup: ShardSaveError<&str> = ShardSaveError::Setup(folder);
-    assert_shown(
-        &rt,
-        alloc,
-        &setup,
-        "failed to create d: input or output failed",
-    )?;
     let all: ShardSaveError<&str> = ShardSaveError::AllShardsFailed {
         shards: 0,
         failures: Vec::new(alloc),
     };
-    assert_shown(
-        &rt,
-        alloc,
-        &all,
-        "All 0 shards failed to save; see prior warnings for per-shard causes.",
-    )?;
+    write!(told, "{setup}\n{all}\n")?;
+    Ok(told)
+}
+
+#[test]
+fn saves(rt: HostRuntime) -> Result<(), Fail> {
+    assert_eq!(rt;
+        told_saves(rt.alloc())?.as_str(),
+        "out of memory\nfailed to create d: input or output failed\nfailed to create d: input or output failed\nAll 0 shards failed to save; see prior warnings for per-shard causes.\n"
+    );
     Ok(())
 }

@@ -92,6 +92,10 @@ impl<R: Files + AllocGlobal + Clone + Drop> Folder for HostFolder<R> {
 
     ghost stopped_since = { λ _ _ _. ⊥ };
 
+    ghost lost_since = { λ _ _ _. ⊥ };
+
+    ghost loose = { λ _ _. ⊥ };
+
     ghost faults = { λ _. 0 };
 
     ghost last_call = { λ _. Make };
@@ -101,6 +105,8 @@ impl<R: Files + AllocGlobal + Clone + Drop> Folder for HostFolder<R> {
     ghost counts_now = { λ h t k le. absurd k };
 
     ghost only_now = { λ h m k s. absurd k };
+
+    ghost counts_lost = { λ h t m k le s. absurd k };
 
     fn make(&mut self, dir: &str) -> Result<(), FolderFault> {
         self.file = HostOpen::Closed;
@@ -130,6 +136,13 @@ impl<R: Files + AllocGlobal + Clone + Drop> Folder for HostFolder<R> {
             unreachable!()
         };
         file.flush().map_err(fault)
+    }
+
+    fn sync(&mut self) -> Result<(), FolderFault> {
+        let HostOpen::Writing(file) = &mut self.file else {
+            unreachable!()
+        };
+        file.sync_all().map_err(fault)
     }
 
     fn rename(&mut self, from: &str, to: &str) -> Result<(), FolderFault> {

@@ -64,7 +64,7 @@ fn remove_each<F: Folder>(
     requires there { F.keeps folder.old → AreThere (F.files folder.old) (map string_bytes paths.items) }
     ensures removals { (removals : List Removal)
         × (F.keeps folder.old → RemovesEach (map string_bytes paths.items) (F.faults folder.old < F.faults folder.new) (F.files folder.old) (F.files folder.new) removals)
-        × (F.keeps folder.old → InOrder (RemovesOne (record { files = F.files; folders = F.folders; clock = F.clock; stopped_since = F.stopped_since; faults = F.faults; last_call = F.last_call; keeps = F.keeps })) 0 removals folder.old folder.new)
+        × (F.keeps folder.old → InOrder (RemovesOne (record { files = F.files; folders = F.folders; clock = F.clock; stopped_since = F.stopped_since; lost_since = F.lost_since; loose = F.loose; faults = F.faults; last_call = F.last_call; keeps = F.keeps })) 0 removals folder.old folder.new)
         × (result ≡ count_by is_removed removals)
         × (map blame_of failures.new.items ≡ map blame_of failures.old.items ++ filter_map removal_blame removals) }
     ensures room { vec_len failures.new ≤ vec_len failures.old + vec_len paths }
@@ -95,7 +95,7 @@ fn remove_listed<F: Folder>(
     listed: &[Listed],
 ) -> Result<TempFileCleanupReport, AllocError>
     requires { F.keeps folder.old → map name_of listed.now ≡ listing dir_path.now (F.files folder.old) }
-    ensures ok { F.keeps folder.old → IfOk result (RemovesTemps (record { files = F.files; folders = F.folders; clock = F.clock; stopped_since = F.stopped_since; faults = F.faults; last_call = F.last_call; keeps = F.keeps })
+    ensures ok { F.keeps folder.old → IfOk result (RemovesTemps (record { files = F.files; folders = F.folders; clock = F.clock; stopped_since = F.stopped_since; lost_since = F.lost_since; loose = F.loose; faults = F.faults; last_call = F.last_call; keeps = F.keeps })
         dir_path.now file_name.now folder.old folder.new) }
     ensures err { OnErr result (folder.new ≡ folder.old) }
     ensures later { F.keeps folder.old → F.faults folder.old ≤ F.faults folder.new }
@@ -139,7 +139,7 @@ pub(crate) fn remove_temp_files<F: Folder>(
     dir_path: &str,
     file_name: &str,
 ) -> Result<TempFileCleanupReport, AllocError>
-    ensures ok { F.keeps folder.old → IfOk result (IsCleanup (record { files = F.files; folders = F.folders; clock = F.clock; stopped_since = F.stopped_since; faults = F.faults; last_call = F.last_call; keeps = F.keeps })
+    ensures ok { F.keeps folder.old → IfOk result (IsCleanup (record { files = F.files; folders = F.folders; clock = F.clock; stopped_since = F.stopped_since; lost_since = F.lost_since; loose = F.loose; faults = F.faults; last_call = F.last_call; keeps = F.keeps })
         dir_path.now file_name.now folder.old folder.new) }
     ensures err { F.keeps folder.old → OnErr result (F.files folder.new ≡ F.files folder.old) }
     ensures later { F.keeps folder.old → F.faults folder.old ≤ F.faults folder.new }

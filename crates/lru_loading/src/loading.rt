@@ -131,7 +131,7 @@ fn load_from_file<F: Folder, E, C: FnMut(usize, &[u8]) -> Result<(), E>>(
     ensures turn { (turn : LoadTurn E) × (result ≡ outcome_of shard turn)
         × TurnCalls C.step shard deserialize.old turn deserialize.new
         × IsTrueTurn (F.keeps folder.old) (F.faults folder.old < F.faults folder.new) (F.files folder.old) (shard_path dir_path.now file_name.now shard) shard turn
-        × (F.keeps folder.old → LoadsOne (record { files = F.files; folders = F.folders; clock = F.clock; stopped_since = F.stopped_since; faults = F.faults; last_call = F.last_call; keeps = F.keeps })
+        × (F.keeps folder.old → LoadsOne (record { files = F.files; folders = F.folders; clock = F.clock; stopped_since = F.stopped_since; lost_since = F.lost_since; loose = F.loose; faults = F.faults; last_call = F.last_call; keeps = F.keeps })
         dir_path.now file_name.now shard turn folder.old folder.new) }
     ensures files { F.keeps folder.old → F.files folder.new ≡ F.files folder.old }
     ensures later { F.keeps folder.old → F.faults folder.old ≤ F.faults folder.new }
@@ -195,7 +195,7 @@ pub fn load_shards<F: Folder, L: Log, E: Display, C: FnMut(usize, &[u8]) -> Resu
     requires name { has_slash file_name.now ≡ false }
     requires callable { C.IsAlwaysCallable deserialize.old }
 
-    ensures loads { LoadsShards (record { files = F.files; folders = F.folders; clock = F.clock; stopped_since = F.stopped_since; faults = F.faults; last_call = F.last_call; keeps = F.keeps })
+    ensures loads { LoadsShards (record { files = F.files; folders = F.folders; clock = F.clock; stopped_since = F.stopped_since; lost_since = F.lost_since; loose = F.loose; faults = F.faults; last_call = F.last_call; keeps = F.keeps })
         C.step dir_path.now file_name.now shards deserialize.old folder.old result deserialize.new folder.new }
 
     ensures callable { C.IsAlwaysCallable deserialize.new }

@@ -1,9 +1,9 @@
 // What a load logs and reports.
 use log::sink;
 use lru_test_folders::shelf::{File, Shelf};
+use lru_test_folders::told::{are_lines, told_load};
 use pingora_lru_files::persistence::{FolderFault, ShardLoadReport, load_shards};
 use std::alloc::{AllocError, Global};
-use std::process::Abort;
 use std::test::Fail;
 
 /// Loads so many shards of `c` in `d`, which take every byte but 9, and gives the report and the log.
@@ -24,54 +24,41 @@ fn load(
     Ok((report, log.into_lines().into_vec()))
 }
 
-/// Asserts that these are the lines, each with its level.
-fn assert_lines(rt: &impl Abort, lines: &[String], wanted: &[(&str, &str)]) {
-    assert_eq!(rt; lines.len(), wanted.len());
-    for (line, (level, text)) in lines.iter().zip(wanted) {
-        assert!(rt; line.as_str().starts_with(*level), "{line}");
-        assert!(rt; line.as_str().ends_with(*text), "{line}");
-    }
-}
+/// The files of `d`, what its listing gives, and the path that is stuck; how many shards are loaded; and then what the load
+/// tells and logs. The lines stand in the order failures, cleanup, summary.
+type Row = (
+    &'static [(&'static str, File<'static>)],
+    Result<&'static [&'static str], FolderFault>,
+    &'static str,
+    usize,
+    &'static str,
+    &'static [(&'static str, &'static str)],
+);
 
-#[test]
-fn all_is_loaded(rt: HostRuntime) -> Result<(), Fail> {
-    let shelf = Shelf::new(
-        rt.alloc(),
+const LOADS: [Row; 5] = [
+    // All is loaded.
+    (
         &[("d/c.0", File::Bytes(&[1, 2])), ("d/c.1", File::Bytes(&[]))],
         Err(FolderFault::NotFound),
         "",
-    );
-    let (report, lines) = load(rt.alloc(), shelf, 2)?;
-    assert_eq!(rt; report.loaded_shards, 2);
-    assert_lines(
-        &rt,
-        &lines,
+        2,
+        "loaded 2 missing 0 errored 0\nremoved 0\n",
         &[("[INFO", "] Successfully loaded 2/2 shards.")],
-    );
-    Ok(())
-}
-
-#[test]
-fn nothing_is_there(rt: HostRuntime) -> Result<(), Fail> {
-    let shelf = Shelf::new(rt.alloc(), &[], Err(FolderFault::NotFound), "");
-    let (report, lines) = load(rt.alloc(), shelf, 2)?;
-    assert_eq!(rt; report.missing_shards, 2);
-    assert_lines(
-        &rt,
-        &lines,
+    ),
+    // Nothing is there.
+    (
+        &[],
+        Err(FolderFault::NotFound),
+        "",
+        2,
+        "loaded 0 missing 2 errored 0\nremoved 0\n",
         &[(
             "[INFO",
             "] No persisted LRU shards found. LRU will start empty.",
         )],
-    );
-    Ok(())
-}
-
-// The lines stand in the order failures, cleanup, summary.
-#[test]
-fn each_failure_is_logged(rt: HostRuntime) -> Result<(), Fail> {
-    let shelf = Shelf::new(
-        rt.alloc(),
+    ),
+    // Each failure is told and logged.
+    (
         &[
             ("d/c.0", File::Bytes(&[1])),
             ("d/c.2", File::FailsToOpen(FolderFault::Memory)),
@@ -87,18 +74,8 @@ fn each_failure_is_logged(rt: HostRuntime) -> Result<(), Fail> {
             "",
         ]),
         "d/c.1.00000000.tmp",
-    );
-    let (report, lines) = load(rt.alloc(), shelf, 5)?;
-    assert_eq!(rt; report.loaded_shards, 1);
-    assert_eq!(rt; report.missing_shards, 1);
-    assert_eq!(rt; report.error_shards, 3);
-    assert_eq!(rt; report.failures.len(), 3);
-    let cleanup = report.temp_cleanup?;
-    assert_eq!(rt; cleanup.removed_files, 2);
-    assert_eq!(rt; cleanup.failures.len(), 2);
-    assert_lines(
-        &rt,
-        &lines,
+        5,
+        "loaded 1 missing 1 errored 3\nfailed to load shard 2: failed to open d/c.2: out of memory\nfailed to load shard 3: failed to read from d/c.3: input or output failed\nfailed to deserialize shard 4: damaged\nremoved 2\nfailed to remove temp file d/c.1.00000000.tmp: input or output failed\nfailed to read directory entry in d: input or output failed\n",
         &[
             (
                 "[WARN",
@@ -129,33 +106,26 @@ fn each_failure_is_logged(rt: HostRuntime) -> Result<(), Fail> {
                 "] Loaded 1/5 shards (missing: 1, errored: 3). LRU state may be incomplete.",
             ),
         ],
-    );
-    Ok(())
-}
-
-#[test]
-fn cleanup_finds_no_memory(rt: HostRuntime) -> Result<(), Fail> {
-    let shelf = Shelf::new(rt.alloc(), &[], Err(FolderFault::Memory), "");
-    let (report, lines) = load(rt.alloc(), shelf, 0)?;
-    assert!(rt; report.temp_cleanup.is_err());
-    assert_lines(
-        &rt,
-        &lines,
+    ),
+    // The cleanup finds no memory.
+    (
+        &[],
+        Err(FolderFault::Memory),
+        "",
+        0,
+        "loaded 0 missing 0 errored 0\nremoved none\n",
         &[
             ("[WARN", "] Temp file cleanup failed: out of memory"),
             ("[INFO", "] Successfully loaded 0/0 shards."),
         ],
-    );
-    Ok(())
-}
-
-#[test]
-fn a_folder_is_not_listed(rt: HostRuntime) -> Result<(), Fail> {
-    let shelf = Shelf::new(rt.alloc(), &[], Err(FolderFault::Io), "");
-    let (_report, lines) = load(rt.alloc(), shelf, 0)?;
-    assert_lines(
-        &rt,
-        &lines,
+    ),
+    // The folder is not listed.
+    (
+        &[],
+        Err(FolderFault::Io),
+        "",
+        0,
+        "loaded 0 missing 0 errored 0\nremoved 0\nfailed to read directory d: input or output failed\n",
         &[
             (
                 "[WARN",
@@ -167,14 +137,35 @@ fn a_folder_is_not_listed(rt: HostRuntime) -> Result<(), Fail> {
             ),
             ("[INFO", "] Successfully loaded 0/0 shards."),
         ],
-    );
+    ),
+];
+
+fn ends_so(alloc: Global, row: &Row) -> Result<bool, AllocError> {
+    let (files, listing, stuck, shards, text, lines) = row;
+    let shelf = Shelf::new(alloc, files, *listing, stuck);
+    let (report, logged) = load(alloc, shelf, *shards)?;
+    let told = told_load(alloc, &report)?;
+    Ok((told.as_str() == *text) & are_lines(&logged, lines))
+}
+
+/// The first row, if there is one, that ends otherwise.
+fn wrong_row(alloc: Global) -> Result<Option<usize>, AllocError> {
+    for (place, row) in LOADS.iter().enumerate() {
+        if !ends_so(alloc, row)? {
+            return Ok(Some(place));
+        }
+    }
+    Ok(None)
+}
+
+#[test]
+fn loads_and_what_they_tell(rt: HostRuntime) -> Result<(), Fail> {
+    assert_eq!(rt; wrong_row(rt.alloc())?, None);
     Ok(())
 }
 
 // The closure gets each file that is there, from shard 0 up.
-#[test]
-fn files_are_given_in_order(rt: HostRuntime) -> Result<(), Fail> {
-    let alloc = rt.alloc();
+fn are_given_in_order(alloc: Global) -> Result<bool, AllocError> {
     let files = [
         ("c.0", File::Bytes(b"zero")),
         ("c.2", File::Bytes(b"bad")),
@@ -196,12 +187,17 @@ fn files_are_given_in_order(rt: HostRuntime) -> Result<(), Fail> {
         }
     };
     let report = load_shards(alloc, &mut shelf, &log, "", "c", 4, &mut deserialize)?;
-    assert_eq!(rt; report.loaded_shards, 2);
-    assert_eq!(rt; report.missing_shards, 1);
-    assert_eq!(rt; report.error_shards, 1);
-    assert_eq!(rt;
-        given.as_slice(),
-        [(0, true), (2, true), (3, true)].as_slice()
+    let counts = (
+        report.loaded_shards,
+        report.missing_shards,
+        report.error_shards,
     );
+    let wanted = [(0, true), (2, true), (3, true)];
+    Ok((counts, given.as_slice()) == ((2, 1, 1), wanted.as_slice()))
+}
+
+#[test]
+fn files_are_given_in_order(rt: HostRuntime) -> Result<(), Fail> {
+    assert!(rt; are_given_in_order(rt.alloc())?);
     Ok(())
 }

@@ -68,7 +68,7 @@ not_io true (Ok x) tells e = cc
 not_io true (Err x) tells e = cc
 not_io false result tells e = cc
 
-ended_well : {T : Type 0} (fate : Option ℕ) (found : Bool) (result : Result T FolderFault) → is_ok result ≡ true → Tells (end_of fate found) result → end_of fate found ≡ Done
+pub ended_well : {T : Type 0} (fate : Option ℕ) (found : Bool) (result : Result T FolderFault) → is_ok result ≡ true → Tells (end_of fate found) result → end_of fate found ≡ Done
 ended_well None true result ok tells = refl
 ended_well None false result ok tells = absurd (let e = ap is_ok tells in let f : ⊥ = cc in f)
 ended_well (Some part) found result ok tells = absurd (let e = ap is_ok tells in let f : ⊥ = cc in f)

@@ -1,4 +1,5 @@
 pub mod Calls
+pub mod Losing
 pub mod Memory
 pub mod Plans
 pub mod History
@@ -7,10 +8,12 @@ pub mod HeldInside
 pub mod JournalInside
 pub mod MadeInside
 pub mod MemoryInside
+pub mod LosingLaws
 pub mod MemoryLaws
 pub mod OpenInside
 pub use Rattle.lru_folder.specs.Files
 pub use Rattle.lru_folder.specs.Folder
 pub use Rattle.lru_folder.specs.Listings
+pub use Rattle.lru_folder.specs.Losses
 pub use Rattle.lru_folder.specs.Names
 pub use Rattle.lru_folder.specs.Places

@@ -4,7 +4,9 @@ use Rattle.std.specs.FinMap.{from_entries}
 use Rattle.std.specs.FinSet.{from_list}
 use Rattle.lru_memory_folder.specs.declared.calls.Plan.{Plan}
 use Rattle.lru_memory_folder.specs.Calls.{Noted, after, failures, StoppedSince}
+use Rattle.lru_memory_folder.specs.Losing.{loss_left, LostSince}
 use Rattle.lru_folder.specs.Files.{Files}
+use Rattle.lru_folder.specs.Losses.{Loss, at_opening}
 use Rattle.lru_folder.specs.Folder.{Opened}
 use Rattle.lru_folder.specs.Places.{Folders}
 use Rattle.lru_folder.specs.declared.folder_call.FolderCall.{FolderCall}
@@ -30,6 +32,16 @@ clock_of m = length m.calls
 
 abbrev pub stopped_since_of : Memory → ℕ → Files → Type 0
 stopped_since_of m t = StoppedSince m.calls t (from_entries m.begun)
+
+-- what the calls did to what a loss of power may leave
+abbrev pub loss_now : Memory → Loss
+loss_now m = loss_left m.calls (at_opening (from_entries m.begun))
+
+abbrev pub lost_since_of : Memory → ℕ → Files → Type 0
+lost_since_of m t = LostSince m.calls t (at_opening (from_entries m.begun))
+
+abbrev pub loose_of : Memory → List ℕ → Type 0
+loose_of m = (loss_now m).loose
 
 abbrev pub faults_of : Memory → ℕ
 faults_of m = failures m.calls

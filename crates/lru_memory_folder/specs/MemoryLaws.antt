@@ -1,10 +1,12 @@
 -- The laws of a folder, of a folder in memory.
 use Rattle.std.specs.Prelude.{◌≡◌, ◌≤◌, ℕ, zero, suc, List, [], ◌∷◌, length}
-use Rattle.std.proofs.Common.{inr, refl, arith}
+use Rattle.std.proofs.Common.{inr, refl, sym, subst, arith}
 use Rattle.std.specs.FinMap.{from_entries}
 use Rattle.lru_folder.specs.Files.{Files}
 use Rattle.lru_memory_folder.specs.Calls.{Noted, effect, after, StoppedSince}
-use Rattle.lru_memory_folder.specs.Memory.{Memory, files_of, clock_of, stopped_since_of}
+use Rattle.lru_folder.specs.Losses.{IsSpread, at_opening}
+use Rattle.lru_memory_folder.specs.Memory.{Memory, files_of, clock_of, stopped_since_of, lost_since_of, loose_of}
+use Rattle.lru_memory_folder.specs.LosingLaws.{opened_own, own_left, left-files, LostSince-now}
 
 -- the files now are among those that a stop could leave
 pub StoppedSince-now : (cs : List Noted) (t : ℕ) (start : Files) → t ≤ length cs → StoppedSince cs t start (after cs start)
@@ -22,3 +24,9 @@ memory_counts_now m t le = StoppedSince-now m.calls t (from_entries m.begun) le
 
 pub memory_only_now : (m : Memory) (f : Files) → stopped_since_of m (clock_of m) f → f ≡ files_of m
 memory_only_now m f s = StoppedSince-only m.calls (from_entries m.begun) f s
+
+-- what is there now, with any bytes at its loose paths, is among what a loss of power could leave
+pub memory_counts_lost : (m : Memory) (t : ℕ) (f : Files) → t ≤ clock_of m → IsSpread (loose_of m) (files_of m) f → lost_since_of m t f
+memory_counts_lost m t f le h =
+    let start = at_opening (from_entries m.begun) in
+    LostSince-now m.calls t start f le (own_left m.calls start (opened_own (from_entries m.begun)) f (subst (λ (files : Files). IsSpread (loose_of m) files f) (sym (left-files m.calls start)) h))

@@ -9,6 +9,8 @@ pub(crate) enum Call {
     Write(String, Vec<u8>),
     Rename(String, String),
     Remove(String),
+    /// Of the open file's path: a call that makes its bytes safe from a loss of power, and each name given before.
+    Sync(String),
     /// A call that changes no file.
     Look,
 }

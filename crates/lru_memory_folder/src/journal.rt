@@ -136,6 +136,7 @@ fn apply_whole(alloc: Global, held: &mut Held, call: &Call) -> Result<(), AllocE
             take_out(held, path.as_str());
             Ok(())
         }
+        Call::Sync(_) => Ok(()),
         Call::Look => Ok(()),
     }
 }
@@ -150,6 +151,7 @@ fn apply_front(alloc: Global, held: &mut Held, call: &Call, part: usize) -> Resu
         Call::Create(_) => Ok(()),
         Call::Rename(_, _) => Ok(()),
         Call::Remove(_) => Ok(()),
+        Call::Sync(_) => Ok(()),
         Call::Look => Ok(()),
     }
 }

@@ -1,12 +1,13 @@
-// A folder in memory, which can be made to fail, and which knows what a stop could have left.
+// A folder in memory, which can be made to fail, and which knows what a stop or a loss of power could have left.
 ghost use Rattle.std.specs.Prelude.{◌≡◌, ◌≢◌, [], ℕ, List, None, Some, IfOk, IsErrOf, IsTrue, MatchOption, MatchResult, OnOk, length, map, take};
 ghost use Rattle.std.specs.FinMap.{get, insert};
 ghost use Rattle.lru_memory_folder.specs.declared.calls.Plan.TheVariants.{Works, FailsAt, StopsAt};
 ghost use Rattle.lru_folder.specs.Files.{created, appended, renamed, removed, AllOrNone, SomeFront, Same};
+ghost use Rattle.lru_folder.specs.Losses.{IsSynced, Loses, creating, writing, renaming, removing, looking, firmed, handed_on};
 ghost use Rattle.lru_folder.specs.Folder as mode;
 ghost use Rattle.lru_folder.specs.Folder.{HasCause, IsReading, IsWriting, Passes, Reads, written_path};
 ghost use Rattle.lru_folder.specs.Listings.{name_of};
-ghost use Rattle.lru_memory_folder.specs.Memory.{files_of, folders_of, clock_of, faults_of, stopped_since_of};
+ghost use Rattle.lru_memory_folder.specs.Memory.{files_of, folders_of, clock_of, faults_of, stopped_since_of, lost_since_of, loose_of};
 ghost use Rattle.lru_folder.specs.Places.{folder_of, is_there, can_list, listing, MakesAll, MakesSome};
 ghost use Rattle.lru_memory_folder.specs.Plans.{front_of, nothing, GoesAsPlanned};
 
@@ -23,8 +24,8 @@ use std::marker::Model;
 
 /// A folder in memory, for tests and for programs without a disk.
 ///
-/// It keeps the files that it began with and each call since, so it knows what a stop at any moment could have left. A
-/// call can be made to fail by a plan.
+/// It keeps the files that it began with and each call since, so it knows what a stop or a loss of power at any moment could
+/// have left. A call can be made to fail by a plan.
 #[derive(Drop)]
 pub struct MemoryFolder {
     store: Store,
@@ -100,7 +101,7 @@ impl MemoryFolder {
 }
 
 impl Folder for MemoryFolder {
-    ghost use Rattle.lru_memory_folder.specs.MemoryLaws.{memory_counts_now, memory_only_now};
+    ghost use Rattle.lru_memory_folder.specs.MemoryLaws.{memory_counts_now, memory_only_now, memory_counts_lost};
 
     ghost files = { files_of };
 
@@ -112,6 +113,10 @@ impl Folder for MemoryFolder {
 
     ghost stopped_since = { stopped_since_of };
 
+    ghost lost_since = { lost_since_of };
+
+    ghost loose = { loose_of };
+
     ghost faults = { faults_of };
 
     ghost last_call = { λ m. m.last };
@@ -122,11 +127,14 @@ impl Folder for MemoryFolder {
 
     ghost only_now = { λ m f k s. memory_only_now m f s };
 
+    ghost counts_lost = { λ m t f k le s. memory_counts_lost m t f le s };
+
     fn make(&mut self, dir: &str) -> Result<(), FolderFault>
         ensures closed { self.new.opened ≡ mode.Closed }
         ensures done { OnOk result (MakesAll dir.now (folders_of self.old) (folders_of self.new)) }
         ensures part { MakesSome dir.now (folders_of self.old) (folders_of self.new) }
         ensures time { Passes clock_of stopped_since_of files_of Same self.old self.new }
+        ensures loss { Loses clock_of files_of lost_since_of loose_of looking self.old self.new }
         ensures last { self.new.last ≡ FolderCall.Make }
         ensures cause { HasCause (faults_of self.old) (faults_of self.new) result }
         ensures found { IsErrOf result FolderFault.NotFound → ⊥ }
@@ -143,6 +151,7 @@ impl Folder for MemoryFolder {
             × (files_of self.new ≡ created path.now (files_of self.old)) × (self.new.opened ≡ mode.Writing path.now)) }
         ensures places { folders_of self.new ≡ folders_of self.old }
         ensures time { Passes clock_of stopped_since_of files_of (AllOrNone (created path.now)) self.old self.new }
+        ensures loss { Loses clock_of files_of lost_since_of loose_of (creating path.now) self.old self.new }
         ensures last { self.new.last ≡ FolderCall.Create }
         ensures cause { HasCause (faults_of self.old) (faults_of self.new) result }
         ensures found { IsErrOf result FolderFault.NotFound → ¬ IsTrue (is_there (folders_of self.old) (folder_of path.now)) }
@@ -159,6 +168,7 @@ impl Folder for MemoryFolder {
         ensures done { OnOk result (files_of self.new ≡ appended (written_path self.old.opened) piece.now (files_of self.old)) }
         ensures places { folders_of self.new ≡ folders_of self.old }
         ensures time { Passes clock_of stopped_since_of files_of (SomeFront (written_path self.old.opened) piece.now) self.old self.new }
+        ensures loss { Loses clock_of files_of lost_since_of loose_of (writing (written_path self.old.opened) piece.now) self.old self.new }
         ensures last { self.new.last ≡ FolderCall.Write }
         ensures cause { HasCause (faults_of self.old) (faults_of self.new) result }
         ensures found { IsErrOf result FolderFault.NotFound → ⊥ }
@@ -174,6 +184,7 @@ impl Folder for MemoryFolder {
         ensures mode { self.new.opened ≡ self.old.opened }
         ensures places { folders_of self.new ≡ folders_of self.old }
         ensures time { Passes clock_of stopped_since_of files_of Same self.old self.new }
+        ensures loss { Loses clock_of files_of lost_since_of loose_of looking self.old self.new }
         ensures last { self.new.last ≡ FolderCall.Flush }
         ensures cause { HasCause (faults_of self.old) (faults_of self.new) result }
         ensures found { IsErrOf result FolderFault.NotFound → ⊥ }
@@ -184,12 +195,31 @@ impl Folder for MemoryFolder {
         self.store.flush(fate)
     }
 
+    fn sync(&mut self) -> Result<(), FolderFault>
+        requires { IsWriting self.old.opened }
+        ensures mode { self.new.opened ≡ self.old.opened }
+        ensures done { OnOk result (IsSynced clock_of files_of lost_since_of loose_of (written_path self.old.opened) self.old self.new) }
+        ensures places { folders_of self.new ≡ folders_of self.old }
+        ensures time { Passes clock_of stopped_since_of files_of Same self.old self.new }
+        ensures loss { Loses clock_of files_of lost_since_of loose_of looking self.old self.new }
+        ensures last { self.new.last ≡ FolderCall.Sync }
+        ensures cause { HasCause (faults_of self.old) (faults_of self.new) result }
+        ensures found { IsErrOf result FolderFault.NotFound → ⊥ }
+        ensures planned { GoesAsPlanned nothing self.old self.new result }
+    {
+        self.last = FolderCall::Sync;
+        let fate = next_fate(&mut self.plan);
+        self.store.sync(fate)
+    }
+
     fn rename(&mut self, from: &str, to: &str) -> Result<(), FolderFault>
         ensures closed { self.new.opened ≡ mode.Closed }
         ensures done { OnOk result ((get (files_of self.old) from.now ≢ None)
             × (files_of self.new ≡ renamed from.now to.now (files_of self.old))) }
         ensures places { folders_of self.new ≡ folders_of self.old }
         ensures time { Passes clock_of stopped_since_of files_of (AllOrNone (renamed from.now to.now)) self.old self.new }
+        ensures loss { Loses clock_of files_of lost_since_of loose_of (renaming from.now to.now) self.old self.new }
+        ensures settled { OnOk result ((q : List ℕ) → loose_of self.new q → handed_on from.now to.now (loose_of self.old) q) }
         ensures last { self.new.last ≡ FolderCall.Rename }
         ensures cause { HasCause (faults_of self.old) (faults_of self.new) result }
         ensures found { IsErrOf result FolderFault.NotFound → get (files_of self.old) from.now ≡ None }
@@ -206,6 +236,7 @@ impl Folder for MemoryFolder {
             × (len ≡ length bytes) × (self.new.opened ≡ mode.Reading bytes)) }
         ensures places { folders_of self.new ≡ folders_of self.old }
         ensures time { Passes clock_of stopped_since_of files_of Same self.old self.new }
+        ensures loss { Loses clock_of files_of lost_since_of loose_of looking self.old self.new }
         ensures last { self.new.last ≡ FolderCall.Open }
         ensures cause { HasCause (faults_of self.old) (faults_of self.new) result }
         ensures found { IsErrOf result FolderFault.NotFound → get (files_of self.old) path.now ≡ None }
@@ -224,6 +255,7 @@ impl Folder for MemoryFolder {
         ensures whole { (left : List ℕ) → self.old.opened ≡ mode.Reading left → IfOk result (λ piece. piece.items ≡ take max left) }
         ensures places { folders_of self.new ≡ folders_of self.old }
         ensures time { Passes clock_of stopped_since_of files_of Same self.old self.new }
+        ensures loss { Loses clock_of files_of lost_since_of loose_of looking self.old self.new }
         ensures last { self.new.last ≡ FolderCall.Read }
         ensures cause { HasCause (faults_of self.old) (faults_of self.new) result }
         ensures found { IsErrOf result FolderFault.NotFound → ⊥ }
@@ -240,6 +272,7 @@ impl Folder for MemoryFolder {
             × (map name_of listed.items ≡ listing dir.now (files_of self.old))) }
         ensures places { folders_of self.new ≡ folders_of self.old }
         ensures time { Passes clock_of stopped_since_of files_of Same self.old self.new }
+        ensures loss { Loses clock_of files_of lost_since_of loose_of looking self.old self.new }
         ensures last { self.new.last ≡ FolderCall.List }
         ensures cause { HasCause (faults_of self.old) (faults_of self.new) result }
         ensures found { IsErrOf result FolderFault.NotFound → ¬ IsTrue (can_list (folders_of self.old) dir.now) }
@@ -256,6 +289,8 @@ impl Folder for MemoryFolder {
             × (files_of self.new ≡ removed path.now (files_of self.old))) }
         ensures places { folders_of self.new ≡ folders_of self.old }
         ensures time { Passes clock_of stopped_since_of files_of (AllOrNone (removed path.now)) self.old self.new }
+        ensures loss { Loses clock_of files_of lost_since_of loose_of (removing path.now) self.old self.new }
+        ensures settled { OnOk result ((q : List ℕ) → loose_of self.new q → firmed path.now (loose_of self.old) q) }
         ensures last { self.new.last ≡ FolderCall.Remove }
         ensures cause { HasCause (faults_of self.old) (faults_of self.new) result }
         ensures found { IsErrOf result FolderFault.NotFound → get (files_of self.old) path.now ≡ None }

@@ -6,7 +6,7 @@ ghost use Rattle.lru_folder.specs.Folder.{IsReading, IsWriting, written_path};
 ghost use Rattle.lru_folder.specs.Folder as mode;
 ghost use Rattle.lru_folder.specs.Listings.{name_of};
 ghost use Rattle.lru_folder.specs.Places.{can_list, folder_of, is_there, listing, MakesAll, MakesSome};
-ghost use Rattle.lru_memory_folder.specs.Calls.{Creates, Writes, Renames, Removes, Looks};
+ghost use Rattle.lru_memory_folder.specs.Calls.{Creates, Writes, Renames, Removes, Syncs, Looks};
 ghost use Rattle.lru_memory_folder.specs.History.{end_of, files_left, Goes};
 ghost use Rattle.lru_memory_folder.specs.HeldInside.{files_in};
 ghost use Rattle.lru_memory_folder.specs.MadeInside.{folders_in};
@@ -131,6 +131,19 @@ impl Store {
     {
         self.journal
             .conclude(self.alloc, Call::Look, end_of(fate, true))
+    }
+
+    pub(crate) fn sync(&mut self, fate: Option<usize>) -> Result<(), FolderFault>
+        requires { IsWriting (opened_in (files_left self.old.journal) self.old.file) }
+        ensures mode { self.new.file ≡ self.old.file }
+        ensures goes { Goes (Syncs (written_path (opened_in (files_left self.old.journal) self.old.file))) (end_of fate true) self.old.journal self.new.journal result }
+        ensures made { self.new.made ≡ self.old.made }
+    {
+        let Open::Writing(path) = &self.file else {
+            unreachable!()
+        };
+        let call = Call::Sync(String::from_str(self.alloc, path.as_str())?);
+        self.journal.conclude(self.alloc, call, end_of(fate, true))
     }
 
     pub(crate) fn rename(

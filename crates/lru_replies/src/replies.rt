@@ -193,7 +193,7 @@ pub fn answer<F: Folder, R: Rng, L: Log, W: Write>(
     writer: &mut W,
 ) -> io::Result<()>
     requires { IsPossible (asked command) }
-    ensures text { OnOk result (WritesReply (record { files = F.files; folders = F.folders; clock = F.clock; stopped_since = F.stopped_since; faults = F.faults; last_call = F.last_call; keeps = F.keeps })
+    ensures text { OnOk result (WritesReply (record { files = F.files; folders = F.folders; clock = F.clock; stopped_since = F.stopped_since; lost_since = F.lost_since; loose = F.loose; faults = F.faults; last_call = F.last_call; keeps = F.keeps })
         (record { core = core.old; folder = folder.old; words = R.stream rng.old }) (asked command.entry) (W.contents writer.old) (W.contents writer.new)
         (record { core = core.new; folder = folder.new; words = R.stream rng.new })) }
     ensures kept { F.keeps folder.old ↔ F.keeps folder.new }

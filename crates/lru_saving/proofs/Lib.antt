@@ -1,5 +1,6 @@
 pub mod PieceSteps
 pub mod SaveSteps
+pub mod LossSteps
 pub mod Putting
 pub mod TurnsLemmas
 pub mod SavesSoFar

@@ -5,6 +5,8 @@ use Rattle.std.proofs.lemmas.List.{take_min, take-append-le}
 use Rattle.std.proofs.Math.Seq.{take-append-add, take-append_seam}
 use Rattle.lru_folder.specs.Files.{Files, bytes_at, appended, SomeFront}
 use Rattle.lru_folder.specs.Folder.{Passes}
+use Rattle.lru_folder.specs.Losses.{IsSpread, Loses, loss_of, loosened, writing}
+use Rattle.lru_folder.proofs.LossLemmas.{spread-more, spread-then, spread-overwritten, spread-appended}
 use Rattle.lru_folder.proofs.FilesLemmas.{decide, alike, get-insert_same, get-insert_other}
 
 -- a second piece behind the first
@@ -31,15 +33,18 @@ take_behind done piece rest n =
     ∙ sym (take-append-add done (piece ++ rest) (min n (length piece)))
 
 -- The pieces so far, of a file that was there: what is left of the bytes, and what they have done.
-pub record WritesSoFar {F : Type 0} (clock : F → ℕ) (stopped_since : F → ℕ → Files → Type 0) (files : F → Files) (path bytes : List ℕ) (old mid : F) (rest : List ℕ) : Type 0 where
+pub record WritesSoFar {F : Type 0} (clock : F → ℕ) (stopped_since : F → ℕ → Files → Type 0) (files : F → Files) (lost_since : F → ℕ → Files → Type 0) (loose : F → List ℕ → Type 0)
+    (path bytes : List ℕ) (old mid : F) (rest : List ℕ) : Type 0 where
   pub done : List ℕ
   pub parts : done ++ rest ≡ bytes
   pub now : (held : List ℕ) → get (files old) path ≡ Some held → files mid ≡ appended path done (files old)
   pub time : (held : List ℕ) → get (files old) path ≡ Some held → Passes clock stopped_since files (SomeFront path bytes) old mid
+  pub loss : (held : List ℕ) → get (files old) path ≡ Some held → Loses clock files lost_since loose (writing path bytes) old mid
 
-module _ {F : Type 0} (clock : F → ℕ) (stopped_since : F → ℕ → Files → Type 0) (files : F → Files) (path bytes : List ℕ) (old : F) where
+module _ {F : Type 0} (clock : F → ℕ) (stopped_since : F → ℕ → Files → Type 0) (files : F → Files) (lost_since : F → ℕ → Files → Type 0) (loose : F → List ℕ → Type 0)
+    (path bytes : List ℕ) (old : F) where
   abbrev pub SoFar : F → List ℕ → Type 0
-  SoFar = WritesSoFar clock stopped_since files path bytes old
+  SoFar = WritesSoFar clock stopped_since files lost_since loose path bytes old
 
   -- before the first
   pub pieces_none : (rest : List ℕ) → rest ≡ bytes → SoFar old rest
@@ -48,6 +53,7 @@ module _ {F : Type 0} (clock : F → ℕ) (stopped_since : F → ℕ → Files �
     parts = is;
     now = λ held here. sym (appended-nil path held (files old) here);
     time = λ held here. record { later = omega arith; nothing_else = λ t m le s. inl s; stays = λ t m le s. s; leaves = inl refl };
+    loss = λ held here. record { nothing_else = λ t m le s. inl s; stays = λ t m le s. s; now = λ m s. inl s; loosens = λ q l. inr l };
   }
 
   -- a part of one piece more is a front of all
@@ -75,14 +81,41 @@ module _ {F : Type 0} (clock : F → ℕ) (stopped_since : F → ℕ → Files �
         leaves = front mid piece rest so_far held here (files new) call.leaves;
       }
 
+  -- what it adds to what a loss of power may leave, all of them add
+  adds : (mid : F) (piece rest : List ℕ) → (so_far : SoFar mid (piece ++ rest)) → (held : List ℕ) → get (files old) path ≡ Some held
+      → (m : Files) → (writing path piece).maps (loss_of clock files lost_since loose mid) m → (writing path bytes).maps (loss_of clock files lost_since loose old) m
+  adds mid piece rest so_far held here m (inl h) = ⊎_elim (λ s. inl (h.0, (s, h.1.1))) (λ p. ⊎_elim
+      (λ g. inl (g.0, (g.1.0, spread-then (λ q. q ≡ path) g.0 h.0 m g.1.1 h.1.1)))
+      (λ g. inr (spread-overwritten path (loosened path (loose old)) (appended path bytes (files old)) h.0 m (inl refl) g h.1.1)) p)
+      ((so_far.loss held here).now h.0 h.1.0)
+  adds mid piece rest so_far held here m (inr h) =
+      let written = ap (appended path piece) (so_far.now held here) ∙ appended-appended path so_far.done piece (files old) in
+      inr (spread-appended path (so_far.done ++ piece) bytes (loose old) (files old) m
+      (spread-more (loosened path (loose mid)) (loosened path (loose old)) (appended path (so_far.done ++ piece) (files old)) m (λ q l. ⊎_elim inl (λ o. (so_far.loss held here).loosens q o) l)
+      (subst (λ f. IsSpread (loosened path (loose mid)) f m) written h)))
+
+  pub piece_loses : (mid new : F) (at piece rest : List ℕ) → at ≡ path → SoFar mid (piece ++ rest) → Loses clock files lost_since loose (writing at piece) mid new
+      → (held : List ℕ) → get (files old) path ≡ Some held → Loses clock files lost_since loose (writing path bytes) old new
+  piece_loses mid new at piece rest is so_far lost held here =
+      let before = so_far.loss held here in
+      let le = (so_far.time held here).later in
+      let call = subst (λ (p : List ℕ). Loses clock files lost_since loose (writing p piece) mid new) is lost in
+      record {
+        nothing_else = λ t m early s. ⊎_elim (before.nothing_else t m early) (λ p. inr (adds mid piece rest so_far held here m p)) (call.nothing_else t m (omega (arith, early, le)) s);
+        stays = λ t m early s. call.stays t m (omega (arith, early, le)) (before.stays t m early s);
+        now = λ m s. ⊎_elim (before.now m) (λ p. inr (adds mid piece rest so_far held here m p)) (call.now m s);
+        loosens = λ q l. ⊎_elim inl (before.loosens q) (call.loosens q l);
+      }
+
   -- and where it was written
   pub pieces_more : (mid new : F) (at piece rest : List ℕ) → at ≡ path → SoFar mid (piece ++ rest) → Passes clock stopped_since files (SomeFront at piece) mid new
-      → files new ≡ appended at piece (files mid) → SoFar new rest
-  pieces_more mid new at piece rest is so_far passed written = record {
+      → Loses clock files lost_since loose (writing at piece) mid new → files new ≡ appended at piece (files mid) → SoFar new rest
+  pieces_more mid new at piece rest is so_far passed lost written = record {
     done = so_far.done ++ piece;
     parts = append_assoc so_far.done piece rest ∙ so_far.parts;
     now = λ held here. written ∙ ap (λ (p : List ℕ). appended p piece (files mid)) is ∙ ap (appended path piece) (so_far.now held here) ∙ appended-appended path so_far.done piece (files old);
     time = piece_passes mid new at piece rest is so_far passed;
+    loss = piece_loses mid new at piece rest is so_far lost;
   }
 
   -- after the last

@@ -43,6 +43,7 @@ saves_all m step dir file_name shards closure drawn_from old (Ok report) rest ne
   reason = λ k. tt;
   parents = λ k. tt;
   time = λ k. tt;
+  loss = λ k. tt;
   drawn = tt;
   kept = kept;
 }
@@ -53,6 +54,7 @@ saves_all m step dir file_name shards closure drawn_from old (Err (AllShardsFail
   reason = λ k. tt;
   parents = λ k. tt;
   time = λ k. tt;
+  loss = λ k. tt;
   drawn = tt;
   kept = kept;
 }

@@ -8,6 +8,8 @@ use Rattle.lru_folder.specs.Files.{Files, Same}
 use Rattle.lru_folder.specs.Folder.{InOrder, Passes}
 use Rattle.lru_folder.proofs.InOrderLemmas.{in_order-push}
 use Rattle.lru_folder.proofs.Moments.{started, goes_on, then_run}
+use Rattle.lru_folder.specs.Losses.{Loses, looking}
+use Rattle.lru_folder.proofs.LossLemmas.{loss_started, loses_on, then_loses}
 use Rattle.lru_folder.specs.Meaning.{Meaning}
 use Rattle.lru_folder.specs.Names.{has_slash, temp_path}
 use Rattle.lru_folder.specs.Places.{Folders, folder_of, is_there, MakesAll}
@@ -15,11 +17,11 @@ use Rattle.lru_folder.specs.Blames.{blame_of}
 use Rattle.lru_saving.specs.Saving.{HasReason}
 use Rattle.lru_saving.specs.Progress.{Progress, TakesTurn, next_of}
 use Rattle.std.proofs.lemmas.Bool.{ltb-true}
-use Rattle.lru_saving.specs.Turns.{SaveTurn, EachTurn, Ends, EachOldOrGiven, IsKept, IsRefused, IfIo, SavesOne, SavesEach, failures_of}
+use Rattle.lru_saving.specs.Turns.{SaveTurn, EachTurn, Ends, EachOldOrGiven, IsOldOrGivenWhole, IsFirm, IsKept, IsRefused, IfIo, SavesOne, SavesEach, failures_of}
 use Rattle.lru_folder.proofs.NamesLemmas.{has_slash-temp_text}
 use Rattle.lru_folder.proofs.PlacesLemmas.{there}
 use Rattle.lru_saving.proofs.Putting.{same_progress}
-use Rattle.lru_saving.proofs.TurnsLemmas.{EachTurn-push, failures-push, get-below, length-push, none_yet, one_more, its_own, still_kept}
+use Rattle.lru_saving.proofs.TurnsLemmas.{EachTurn-push, failures-push, get-below, length-push, none_yet, one_more, its_own, still_firm, still_kept, whole_of}
 
 -- what the saver knows
 pub record IsSoFar {E : Type 0} (dir file_name : List ℕ) (shards : ℕ) (turns : List (SaveTurn E)) (saver : Progress E) : Type 0 where
@@ -89,15 +91,18 @@ knows_one {E} dir file_name shards turns turn old new so_far left takes =
 module _ {F E : Type 0} (m : Meaning F) (dir file_name : List ℕ) (old : F) where
   -- once the folder is made, before the first turn
   pub saves_none : (new : F) → ((f : Files) → m.stopped_since old (m.clock old) f → f ≡ m.files old) → Passes m.clock m.stopped_since m.files Same old new
-      → MakesAll dir (m.folders old) (m.folders new) → has_slash file_name ≡ false → m.faults new ≡ m.faults old
+      → Loses m.clock m.files m.lost_since m.loose looking old new → MakesAll dir (m.folders old) (m.folders new) → has_slash file_name ≡ false → m.faults new ≡ m.faults old
       → SavesSoFar {E = E} m dir file_name [] old new new
-  saves_none new only call made none same =
+  saves_none new only call loss made none same =
       let P = EachOldOrGiven {E = E} dir file_name [] (m.files old) in
       let at_start = started m.clock m.stopped_since m.files P old only (none_yet dir file_name (m.files old)) (none_yet dir file_name (m.files old) (m.files old) refl) in
       record {
         each = record {
           any_moment = goes_on m.clock m.stopped_since m.files P Same old old new at_start call (none_yet dir file_name (m.files old));
+          any_loss = loses_on m.clock m.files m.lost_since m.loose (EachOldOrGiven {E = E} dir file_name []) looking old old new call.later
+              (loss_started m.clock m.lost_since (EachOldOrGiven {E = E} dir file_name []) old (λ f. none_yet dir file_name f f refl)) loss (λ f s. absurd s);
           kept = λ i t e. absurd (let below = get-below [] i t e in omega arith);
+          firm = λ i t e. absurd (let below = get-below [] i t e in omega arith);
           refused = λ same i t e. absurd (let below = get-below [] i t e in omega arith);
         };
         in_order = refl;
@@ -114,9 +119,12 @@ module _ {F E : Type 0} (m : Meaning F) (dir file_name : List ℕ) (old : F) whe
     each = record {
       any_moment = then_run m.clock m.stopped_since m.files _ _ (EachOldOrGiven dir file_name (turns ++ turn ∷ []) (m.files old)) old mid new so_far.each.any_moment one.any_moment
           (one_more dir file_name turns turn small (m.files old))
-          (λ f h. its_own dir file_name turns turn small (m.files old) (m.files mid) f so_far.each.any_moment.now h);
+          (λ f h. its_own dir file_name turns turn small (m.files old) (m.files mid) f so_far.each.any_moment.now (whole_of dir file_name (length turns) turn (m.files mid) f h));
+      any_loss = then_loses m.clock m.lost_since (EachOldOrGiven dir file_name turns) (IsOldOrGivenWhole dir file_name (length turns) turn) (EachOldOrGiven dir file_name (turns ++ turn ∷ []))
+          old mid new so_far.each.any_loss one.any_loss (one_more dir file_name turns turn small) (its_own dir file_name turns turn small);
       kept = EachTurn-push (IsKept dir file_name (m.files new)) turns turn
-          (still_kept dir file_name turns turn small (m.files mid) (m.files new) one.any_moment.now so_far.each.kept) one.kept;
+          (still_kept dir file_name turns turn small (m.files mid) (m.files new) (whole_of dir file_name (length turns) turn (m.files mid) (m.files new) one.any_moment.now) so_far.each.kept) one.kept;
+      firm = EachTurn-push (IsFirm dir file_name (m.loose new)) turns turn (still_firm dir file_name turns turn small (m.loose mid) (m.loose new) one.loosens so_far.each.firm) one.firm;
       refused = λ same.
           let then_same : m.faults mid ≡ m.faults old = omega (arith, so_far.later, one.later, same) in
           let now_same : m.faults new ≡ m.faults mid = omega (arith, same, then_same) in

@@ -5,7 +5,8 @@ use Rattle.std.specs.FinMap.{get}
 use Rattle.rand_core.specs.Stream.{Stream, next_u32}
 use Rattle.lru_folder.specs.declared.errors.ShardSaveFailure.{ShardSaveFailure}
 use Rattle.lru_folder.specs.Files.{Files}
-use Rattle.lru_saving.specs.Turns.{shard_path, temp_path, Given, SaveTurn, EachTurn, failures_of, IsKept, OldOrGiven, IsOldOrGiven, EachOldOrGiven, RunsTo}
+use Rattle.lru_folder.specs.Losses.{loosened}
+use Rattle.lru_saving.specs.Turns.{shard_path, temp_path, Given, SaveTurn, EachTurn, failures_of, IsKept, OldOrGiven, IsOldOrGiven, IsOldOrGivenWhole, IsFirm, EachOldOrGiven, RunsTo}
 use Rattle.lru_folder.proofs.NamesLemmas.{shard_path-injective, temp-apart-shard}
 
 module _ {A : Type 0} where
@@ -95,7 +96,7 @@ module _ {E : Type 0} where
     }
 
     -- and what a stop in it leaves
-    pub its_own : (old mid m : Files) → EachOldOrGiven dir file_name turns old mid → IsOldOrGiven dir file_name (length turns) turn mid m
+    pub its_own : (old mid m : Files) → EachOldOrGiven dir file_name turns old mid → IsOldOrGivenWhole dir file_name (length turns) turn mid m
         → EachOldOrGiven dir file_name (turns ++ turn ∷ []) old m
     its_own old mid m h s = record {
       each = EachTurn-push (λ i t. OldOrGiven (shard_path dir file_name i) t.given old m) turns turn
@@ -107,10 +108,23 @@ module _ {E : Type 0} where
     }
 
     -- the files of the shards saved so far stay
-    pub still_kept : (mid m : Files) → IsOldOrGiven dir file_name (length turns) turn mid m → EachTurn (IsKept dir file_name mid) turns → EachTurn (IsKept dir file_name m) turns
+    pub still_kept : (mid m : Files) → IsOldOrGivenWhole dir file_name (length turns) turn mid m → EachTurn (IsKept dir file_name mid) turns → EachTurn (IsKept dir file_name m) turns
     still_kept mid m s h i t e =
         let apart = earlier_apart i t e in
         IsKept-same dir file_name mid m i t (s.others (shard_path dir file_name i) apart.0 apart.1) (h i t e)
+
+    -- nor do their paths become loose
+    pub still_firm : (before after : List ℕ → Type 0) → ((q : List ℕ) → after q → loosened (temp_path dir file_name (length turns) turn.word) before q)
+        → EachTurn (IsFirm dir file_name before) turns → EachTurn (IsFirm dir file_name after) turns
+    still_firm before after loosens h i t e = go t.failed (h i t e)
+      where
+        go : (failed : Option (ShardSaveFailure E)) → IfNone failed (¬ before (shard_path dir file_name i)) → IfNone failed (¬ after (shard_path dir file_name i))
+        go None firm = λ l. ⊎_elim (earlier_apart i t e).1 firm (loosens (shard_path dir file_name i) l)
+        go (Some f) firm = firm
+
+-- a stop leaves no more than a loss of power
+pub whole_of : {E : Type 0} (dir file_name : List ℕ) (shard : ℕ) (turn : SaveTurn E) (old m : Files) → IsOldOrGiven dir file_name shard turn old m → IsOldOrGivenWhole dir file_name shard turn old m
+whole_of dir file_name shard turn old m h = record { file = h.file; others = h.others }
 
 module _ {S E : Type 0} (step : S → ℕ → Given E → S → Type 0) where
   pub RunsTo-push : (turns : List (SaveTurn E)) (shard n : ℕ) (f g h : S) (s t u : Stream) (turn : SaveTurn E) → n ≡ length turns + shard

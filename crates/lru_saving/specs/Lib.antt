@@ -5,6 +5,7 @@ pub mod Saves
 pub mod SaverInside
 pub use Rattle.lru_folder.specs.Files
 pub use Rattle.lru_folder.specs.Folder
+pub use Rattle.lru_folder.specs.Losses
 pub use Rattle.lru_folder.specs.Names
 pub use Rattle.lru_folder.specs.Places
 pub use Rattle.lru_folder.specs.Meaning

@@ -7,6 +7,7 @@ use Rattle.lru_folder.specs.declared.errors.ShardSaveSetupError.TheVariants.{Mem
 use Rattle.lru_folder.specs.declared.reports.ShardSaveReport.{ShardSaveReport}
 use Rattle.lru_folder.specs.Files.{Same}
 use Rattle.lru_folder.specs.Folder.{InOrder, Passes}
+use Rattle.lru_folder.specs.Losses.{Loses, looking}
 use Rattle.lru_folder.specs.Meaning.{Meaning}
 use Rattle.lru_folder.specs.Places.{MakesAll, MakesSome}
 use Rattle.lru_saving.specs.Progress.{IfCreateDir, IfSetup, IsBegun, IsSaveOf, NamesFolder}
@@ -21,6 +22,7 @@ SaveResultOf E = Result (ShardSaveReport E) (ShardSaveError E)
 pub record IsMade {F : Type 0} (m : Meaning F) (dir : List ℕ) (old made : F) : Type 0 where
   pub all : MakesAll dir (m.folders old) (m.folders made)
   pub time : Passes m.clock m.stopped_since m.files Same old made
+  pub loss : Loses m.clock m.files m.lost_since m.loose looking old made
   pub faults : m.faults made ≡ m.faults old
 
 -- Each shard has its turn: the closure is called for its bytes, a word is drawn, and the bytes are saved. `step`: what a
@@ -49,5 +51,6 @@ pub record SavesShards {F S E : Type 0} (m : Meaning F) (step : S → ℕ → Gi
   pub reason : m.keeps old → IfErr result (λ e. IfCreateDir e (HasReason true (m.faults old) (m.faults new)))
   pub parents : m.keeps old → IfErr result (λ e. IfSetup e (MakesSome dir (m.folders old) (m.folders new)))
   pub time : m.keeps old → IfErr result (λ e. IfSetup e (Passes m.clock m.stopped_since m.files Same old new))
+  pub loss : m.keeps old → IfErr result (λ e. IfSetup e (Loses m.clock m.files m.lost_since m.loose looking old new))
   pub drawn : IfErr result (λ e. IfSetup e (rest ≡ drawn_from))
   pub kept : m.keeps old ↔ m.keeps new

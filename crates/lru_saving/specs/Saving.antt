@@ -4,8 +4,11 @@ use Rattle.std.specs.FinMap.{get}
 use Rattle.lru_folder.specs.declared.fault.FolderFault.{FolderFault}
 use Rattle.lru_folder.specs.declared.fault.FolderFault.TheVariants as fault
 use Rattle.lru_folder.specs.declared.errors.ShardFileError.{ShardFileError}
-use Rattle.lru_folder.specs.declared.errors.ShardFileError.TheVariants.{Create, Write, Flush, Open, Read, ReadDir, ReadDirEntry, Remove, Rename}
+use Rattle.lru_folder.specs.declared.errors.ShardFileError.TheVariants.{Create, Write, Flush, Sync, Open, Read, ReadDir, ReadDirEntry, Remove, Rename}
 use Rattle.lru_folder.specs.Files.{Files}
+use Rattle.lru_folder.specs.Folder.{LeavesOnly}
+use Rattle.lru_folder.specs.Losses.{LosesOnly, loosened}
+use Rattle.lru_folder.specs.Meaning.{Meaning}
 
 -- a temporary file is as it was, or is gone, or has a front of these bytes
 abbrev pub IsRemnant : List ℕ → List ℕ → Files → Files → Type 0
@@ -16,6 +19,20 @@ pub record IsOldOrNew (temp path bytes : List ℕ) (old m : Files) : Type 0 wher
   pub file : (get m path ≡ get old path) ⊎ (get m path ≡ Some bytes)
   pub remnant : IsRemnant temp bytes old m
   pub others : (q : List ℕ) → q ≢ path → q ≢ temp → get m q ≡ get old q
+
+-- The file is as it was or has these bytes, and no other path has changed but the temporary one, which may hold anything.
+pub record IsOldOrWhole (temp path bytes : List ℕ) (old m : Files) : Type 0 where
+  pub file : (get m path ≡ get old path) ⊎ (get m path ≡ Some bytes)
+  pub others : (q : List ℕ) → q ≢ path → q ≢ temp → get m q ≡ get old q
+
+-- What is safe at every moment of a save of one file.
+pub record SparesFile {F : Type 0} (m : Meaning F) (temp path bytes : List ℕ) (old new : F) : Type 0 where
+  -- a stop leaves the file as it was, or with these bytes,
+  pub any_moment : LeavesOnly m.clock m.stopped_since m.files (IsOldOrNew temp path bytes (m.files old)) old new
+  -- and a loss of power as a loss at the start could have left it, or with these bytes
+  pub any_loss : LosesOnly m.clock m.lost_since (IsOldOrWhole temp path bytes) old new
+  -- the temporary file alone becomes loose
+  pub loosens : (q : List ℕ) → m.loose new q → loosened temp (m.loose old) q
 
 -- The file has these bytes, the temporary one is gone, and no other path has changed.
 pub record IsSaved (temp path bytes : List ℕ) (old new : Files) : Type 0 where
@@ -28,6 +45,7 @@ abbrev pub IsStepOf : List ℕ → List ℕ → ShardFileError → Type 0
 IsStepOf temp path (Create at source) = string_bytes at ≡ temp
 IsStepOf temp path (Write at source) = string_bytes at ≡ temp
 IsStepOf temp path (Flush at source) = string_bytes at ≡ temp
+IsStepOf temp path (Sync at source) = string_bytes at ≡ temp
 IsStepOf temp path (Rename from to source) = (string_bytes from ≡ temp) × (string_bytes to ≡ path)
 IsStepOf temp path (Open at source) = ⊥
 IsStepOf temp path (Read at source) = ⊥

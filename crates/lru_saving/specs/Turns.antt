@@ -11,6 +11,7 @@ use Rattle.lru_folder.specs.declared.errors.ShardSaveFailure.TheVariants as fail
 use Rattle.lru_folder.specs.Files.{Files}
 use Rattle.lru_folder.specs.Blames.{failed_call, blame_of}
 use Rattle.lru_folder.specs.Folder.{LeavesOnly}
+use Rattle.lru_folder.specs.Losses.{LosesOnly, loosened}
 use Rattle.lru_folder.specs.Meaning.{Meaning}
 pub use Rattle.lru_folder.specs.Names.{shard_path, temp_path}
 use Rattle.lru_folder.specs.Places.{folder_of, is_there}
@@ -55,6 +56,10 @@ abbrev pub IsKept : {E : Type 0} → List ℕ → List ℕ → Files → ℕ →
 IsKept dir file_name files shard turn =
     IfNone turn.failed (IfOk turn.given (λ bytes. get files (shard_path dir file_name shard) ≡ Some bytes.items))
 
+-- and a loss of power keeps them
+abbrev pub IsFirm : {E : Type 0} → List ℕ → List ℕ → (List ℕ → Type 0) → ℕ → SaveTurn E → Type 0
+IsFirm dir file_name loose shard turn = IfNone turn.failed (¬ loose (shard_path dir file_name shard))
+
 -- of a failure of the folder, its error
 abbrev pub IfIo : {E : Type 0} → ShardSaveFailure E → (ShardFileError → Type 0) → Type 0
 IfIo (failure.Serialize at source) P = Unit {0}
@@ -88,6 +93,11 @@ pub record IsOldOrGiven {E : Type 0} (dir file_name : List ℕ) (shard : ℕ) (t
   pub remnant : IsRemnantOf (temp_path dir file_name shard turn.word) turn.given old m
   pub others : (q : List ℕ) → q ≢ shard_path dir file_name shard → q ≢ temp_path dir file_name shard turn.word → get m q ≡ get old q
 
+-- One shard's file is as it was or has the bytes given, and no other path has changed but its temp file, which may hold anything.
+pub record IsOldOrGivenWhole {E : Type 0} (dir file_name : List ℕ) (shard : ℕ) (turn : SaveTurn E) (old m : Files) : Type 0 where
+  pub file : OldOrGiven (shard_path dir file_name shard) turn.given old m
+  pub others : (q : List ℕ) → q ≢ shard_path dir file_name shard → q ≢ temp_path dir file_name shard turn.word → get m q ≡ get old q
+
 -- Each shard's file is as it was or has the bytes given, and no other path has changed but the temp files of these turns.
 pub record EachOldOrGiven {E : Type 0} (dir file_name : List ℕ) (turns : List (SaveTurn E)) (old m : Files) : Type 0 where
   pub each : EachTurn (λ shard turn. OldOrGiven (shard_path dir file_name shard) turn.given old m) turns
@@ -98,8 +108,11 @@ pub record EachOldOrGiven {E : Type 0} (dir file_name : List ℕ) (turns : List 
 pub record SavesOne {F E : Type 0} (m : Meaning F) (dir file_name : List ℕ) (shard : ℕ) (turn : SaveTurn E) (old new : F) : Type 0 where
   -- a stop at any moment leaves the shard's file old or whole new
   pub any_moment : LeavesOnly m.clock m.stopped_since m.files (IsOldOrGiven dir file_name shard turn (m.files old)) old new
-  -- where the shard was saved, its file has the bytes given, and its temp file is gone
+  -- and a loss of power leaves it as a loss at the start could have left it, or whole new
+  pub any_loss : LosesOnly m.clock m.lost_since (IsOldOrGivenWhole dir file_name shard turn) old new
+  -- where the shard was saved, its file has the bytes given, which a loss of power keeps, and its temp file is gone
   pub kept : IsKept dir file_name (m.files new) shard turn
+  pub firm : IsFirm dir file_name (m.loose new) shard turn
   pub gone : IfNone turn.failed (get (m.files new) (temp_path dir file_name shard turn.word) ≡ None)
   -- an error names the call that failed, and has its reason
   pub named : IfSome turn.failed (λ f. IfIo f (λ e. m.last_call new ≡ failed_call e))
@@ -109,12 +122,17 @@ pub record SavesOne {F E : Type 0} (m : Meaning F) (dir file_name : List ℕ) (s
   pub later : m.faults old ≤ m.faults new
   pub told : m.faults old < m.faults new → IsSomeAnd turn.failed IsDeviceFault
   pub places : m.folders new ≡ m.folders old
+  -- its temp file alone becomes loose
+  pub loosens : (q : List ℕ) → m.loose new q → loosened (temp_path dir file_name shard turn.word) (m.loose old) q
 
 -- What all turns do to the folder.
 pub record SavesEach {F E : Type 0} (m : Meaning F) (dir file_name : List ℕ) (turns : List (SaveTurn E)) (old new : F) : Type 0 where
   -- a stop at any moment leaves each shard's file old or whole new
   pub any_moment : LeavesOnly m.clock m.stopped_since m.files (EachOldOrGiven dir file_name turns (m.files old)) old new
+  -- and for each map that a loss of power may leave, one map that a loss at the start could have left is the old one of all
+  pub any_loss : LosesOnly m.clock m.lost_since (EachOldOrGiven dir file_name turns) old new
   pub kept : EachTurn (IsKept dir file_name (m.files new)) turns
+  pub firm : EachTurn (IsFirm dir file_name (m.loose new)) turns
   -- where the device did not fail, a shard failed only where its bytes or memory were refused
   pub refused : m.faults new ≡ m.faults old → EachTurn (λ shard turn. IfSome turn.failed IsRefused) turns
 

@@ -3,9 +3,10 @@ ghost use Rattle.std.specs.FinMap.{get};
 ghost use Rattle.std.specs.Prelude.{◌≢◌, ◌≡◌, ◌↔◌, ℕ, List, Some, IfErr, IfOk, IsErrOf, OnErr, OnOk, string_bytes};
 ghost use Rattle.lru_folder.specs.Blames.{failed_call, blame_of};
 ghost use Rattle.lru_folder.specs.Files.{appended, SomeFront};
-ghost use Rattle.lru_folder.specs.Folder.{HasCause, IsWriting, LeavesOnly, Passes, written_path};
+ghost use Rattle.lru_folder.specs.Folder.{HasCause, IsWriting, Passes, written_path};
+ghost use Rattle.lru_folder.specs.Losses.{Loses, writing};
 ghost use Rattle.lru_folder.specs.Places.{folder_of, is_there};
-ghost use Rattle.lru_saving.specs.Saving.{IsOldOrNew, IsSaved, IsStepOf, HasReason};
+ghost use Rattle.lru_saving.specs.Saving.{IsSaved, IsStepOf, HasReason, SparesFile};
 ghost use Rattle.lru_saving.specs.Turns.{shard_path, temp_path, Ends, SavesOne, turn_of};
 
 use lru_folder::errors::{ShardFileError, ShardSaveFailure};
@@ -27,6 +28,8 @@ fn write_pieces<F: Folder>(folder: &mut F, bytes: &[u8]) -> Result<(), FolderFau
         → OnOk result (F.files folder.new ≡ appended (written_path (F.opened folder.old)) bytes.now (F.files folder.old)) }
     ensures time { F.keeps folder.old → (held : List ℕ) → get (F.files folder.old) (written_path (F.opened folder.old)) ≡ Some held
         → Passes F.clock F.stopped_since F.files (SomeFront (written_path (F.opened folder.old)) bytes.now) folder.old folder.new }
+    ensures loss { F.keeps folder.old → (held : List ℕ) → get (F.files folder.old) (written_path (F.opened folder.old)) ≡ Some held
+        → Loses F.clock F.files F.lost_since F.loose (writing (written_path (F.opened folder.old)) bytes.now) folder.old folder.new }
 
     ensures mode { F.opened folder.new ≡ F.opened folder.old }
     ensures last { F.keeps folder.old → OnErr result (F.last_call folder.new ≡ FolderCall.Write) }
@@ -41,7 +44,8 @@ fn write_pieces<F: Folder>(folder: &mut F, bytes: &[u8]) -> Result<(), FolderFau
     Ok(())
 }
 
-/// Saves the bytes under the temporary path, which then becomes the file's. A fault leaves the temporary file as it is.
+/// Saves the bytes under the temporary path, which then becomes the file's. They are synced before that, so that a loss of
+/// power finds no file under its name whose bytes it can still change. A fault leaves the temporary file as it is.
 pub(crate) fn save_file<F: Folder>(
     folder: &mut F,
     temp: String,
@@ -53,9 +57,10 @@ pub(crate) fn save_file<F: Folder>(
     ensures saved { F.keeps folder.old
         → OnOk result (IsSaved (string_bytes temp) (string_bytes path) bytes.now (F.files folder.old) (F.files folder.new)) }
 
-    // A stop at any moment leaves the file as it was, or with these bytes.
-    ensures any_moment { F.keeps folder.old → LeavesOnly F.clock F.stopped_since F.files
-        (IsOldOrNew (string_bytes temp) (string_bytes path) bytes.now (F.files folder.old)) folder.old folder.new }
+    // A stop, and a loss of power, at any moment leaves the file as it was, or with these bytes. A saved file is not loose.
+    ensures any_moment { F.keeps folder.old → SparesFile (record { files = F.files; folders = F.folders; clock = F.clock; stopped_since = F.stopped_since; lost_since = F.lost_since; loose = F.loose; faults = F.faults; last_call = F.last_call; keeps = F.keeps })
+        (string_bytes temp) (string_bytes path) bytes.now folder.old folder.new }
+    ensures firm { F.keeps folder.old → OnOk result (¬ F.loose folder.new (string_bytes path)) }
 
     // An error names the call that failed, and it has its reason.
     ensures step { IfErr result (IsStepOf (string_bytes temp) (string_bytes path)) }
@@ -75,6 +80,9 @@ pub(crate) fn save_file<F: Folder>(
     }
     if let Err(source) = folder.flush() {
         return Err(ShardFileError::Flush { path: temp, source });
+    }
+    if let Err(source) = folder.sync() {
+        return Err(ShardFileError::Sync { path: temp, source });
     }
     if let Err(source) = folder.rename(&temp, &path) {
         return Err(ShardFileError::Rename {
@@ -114,7 +122,7 @@ pub(crate) fn save_shard<F: Folder, E: Drop>(
     given: Result<Vec<u8>, E>,
 ) -> Result<(), ShardSaveFailure<E>>
     ensures ends { Ends dir_path.now file_name.now shard (turn_of word given result) }
-    ensures saves { F.keeps folder.old → SavesOne (record { files = F.files; folders = F.folders; clock = F.clock; stopped_since = F.stopped_since; faults = F.faults; last_call = F.last_call; keeps = F.keeps })
+    ensures saves { F.keeps folder.old → SavesOne (record { files = F.files; folders = F.folders; clock = F.clock; stopped_since = F.stopped_since; lost_since = F.lost_since; loose = F.loose; faults = F.faults; last_call = F.last_call; keeps = F.keeps })
         dir_path.now file_name.now shard (turn_of word given result) folder.old folder.new }
     ensures kept { F.keeps folder.old ↔ F.keeps folder.new }
 {

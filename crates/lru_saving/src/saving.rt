@@ -17,7 +17,8 @@ use std::fmt::Display;
 ///
 /// For each shard the closure is called for its bytes, and a random word is drawn for the name of its temp file. A shard
 /// fails where its names find no memory, where the closure gives an error, and where the folder fails; the others are
-/// saved none the less. A stop at any moment leaves each shard's file as it was, or with the bytes that were given.
+/// saved none the less. A stop at any moment leaves each shard's file as it was, or with the bytes that were given. So does
+/// a loss of power, where *as it was* is as a loss at the start could have left it; it keeps each shard that is saved.
 ///
 /// `Setup(Memory)`: no room for the failures to come, and the folder was not asked. `Setup(CreateDir)`: `dir_path` was
 /// not made. After both the closure was not called. `AllShardsFailed`: as many shards failed as there are.
@@ -40,7 +41,7 @@ where
     requires name { has_slash file_name.now ≡ false }
     requires callable { S.IsAlwaysCallable serialize }
 
-    ensures saves { SavesShards (record { files = F.files; folders = F.folders; clock = F.clock; stopped_since = F.stopped_since; faults = F.faults; last_call = F.last_call; keeps = F.keeps })
+    ensures saves { SavesShards (record { files = F.files; folders = F.folders; clock = F.clock; stopped_since = F.stopped_since; lost_since = F.lost_since; loose = F.loose; faults = F.faults; last_call = F.last_call; keeps = F.keeps })
         S.step dir_path.now file_name.now shards serialize (R.stream rng.old) folder.old result (R.stream rng.new) folder.new }
 
     // Where no shard had its turn, no word is drawn.

@@ -4,6 +4,7 @@ ghost use Rattle.lru_folder.specs.declared.errors.ShardSaveError.TheVariants.{Se
 ghost use Rattle.lru_folder.specs.declared.errors.ShardSaveSetupError.TheVariants.{Memory};
 ghost use Rattle.lru_folder.specs.Files.{Same};
 ghost use Rattle.lru_folder.specs.Folder.{Passes};
+ghost use Rattle.lru_folder.specs.Losses.{Loses, looking};
 ghost use Rattle.lru_folder.specs.Names.{has_slash};
 ghost use Rattle.lru_folder.specs.Places.{MakesAll, MakesSome};
 ghost use Rattle.lru_saving.specs.Progress.{at_start, next_of, TakesTurn, Tells, IsSetupOf, IfCreateDir};
@@ -65,6 +66,7 @@ impl<E: Drop> ShardSaver<E> {
         ensures reason { F.keeps folder.old → IfErr result (λ e. IfCreateDir e (HasReason true (F.faults folder.old) (F.faults folder.new))) }
 
         ensures time { F.keeps folder.old → Passes F.clock F.stopped_since F.files Same folder.old folder.new }
+        ensures loss { F.keeps folder.old → Loses F.clock F.files F.lost_since F.loose looking folder.old folder.new }
         ensures faults { F.keeps folder.old → OnOk result (F.faults folder.new ≡ F.faults folder.old) }
         ensures kept { F.keeps folder.old ↔ F.keeps folder.new }
     {
@@ -107,7 +109,7 @@ impl<E: Drop> ShardSaver<E> {
         requires { self.old.next < self.old.shards }
 
         ensures turn { (turn : SaveTurn E) × (turn.word ≡ word) × (turn.given ≡ given) × TakesTurn self.old self.new turn
-            × (F.keeps folder.old → SavesOne (record { files = F.files; folders = F.folders; clock = F.clock; stopped_since = F.stopped_since; faults = F.faults; last_call = F.last_call; keeps = F.keeps })
+            × (F.keeps folder.old → SavesOne (record { files = F.files; folders = F.folders; clock = F.clock; stopped_since = F.stopped_since; lost_since = F.lost_since; loose = F.loose; faults = F.faults; last_call = F.last_call; keeps = F.keeps })
             self.old.dir self.old.file_name self.old.next turn folder.old folder.new) }
 
         ensures kept { F.keeps folder.old ↔ F.keeps folder.new }

@@ -1,8 +1,8 @@
 // A save of two shards over older files, of which one call fails, or all from one on.
 use log::sink;
+use lru_test_folders::told::told_names;
 use pingora_lru_files::persistence::{
-    Folder, MemoryFolder, ShardSaveError, ShardSaveReport, ShardSaveSetupError, load_shards,
-    save_shards,
+    MemoryFolder, ShardSaveError, ShardSaveReport, ShardSaveSetupError, load_shards, save_shards,
 };
 use rand::rngs::StdRng;
 use rand_core::SeedableRng;
@@ -76,11 +76,9 @@ fn is_found_whole(alloc: Global, folder: &mut MemoryFolder) -> Result<bool, Allo
     let log = sink::Memory::new(alloc);
     let mut take = |_shard: usize, _bytes: &[u8]| -> Result<(), &str> { Ok(()) };
     let report = load_shards(alloc, folder, &log, "d", "c", 2, &mut take)?;
-    let cleanup = report.temp_cleanup?;
-    let Ok(listed) = folder.list("d") else {
-        return Ok(false);
-    };
-    Ok(report.loaded_shards == 2 && cleanup.failures.is_empty() && listed.len() == 2)
+    let loaded = report.loaded_shards;
+    let failures = report.temp_cleanup?.failures.len();
+    Ok((loaded, failures, told_names(alloc, folder, "d")?.as_str()) == (2, 0, "c.0 c.1 "))
 }
 
 /// The calls from the first number up to the last one, which is left out: how the save ends where one of them fails
@@ -94,13 +92,13 @@ const CALLS: [(u64, u64, (Ended, &str, &str), (Ended, &str, &str)); 3] = [
     ),
     (
         1,
-        5,
+        6,
         (Ended::OneFailed, "old", "cd"),
         (Ended::BothFailed, "old", "old"),
     ),
     (
-        5,
-        9,
+        6,
+        11,
         (Ended::OneFailed, "ab", "old"),
         (Ended::OneFailed, "ab", "old"),
     ),
@@ -110,24 +108,26 @@ const CALLS: [(u64, u64, (Ended, &str, &str), (Ended, &str, &str)); 3] = [
 fn ends_so(alloc: Global, fault: Fault, wanted: (Ended, &str, &str)) -> Result<bool, AllocError> {
     let (ended, mut folder) = save(alloc, fault)?;
     let (wanted, zero, one) = wanted;
-    let files = folder.get("d/c.0") == Some(zero.as_bytes())
-        && folder.get("d/c.1") == Some(one.as_bytes());
-    Ok(ended == wanted && files && is_found_whole(alloc, &mut folder)?)
+    let files = (folder.get("d/c.0"), folder.get("d/c.1"));
+    let is_so = (ended, files) == (wanted, (Some(zero.as_bytes()), Some(one.as_bytes())));
+    Ok(is_so & is_found_whole(alloc, &mut folder)?)
+}
+
+/// The first call, if there is one, at which a save ends otherwise.
+fn wrong_call(alloc: Global) -> Result<Option<u64>, AllocError> {
+    for (first, last, alone, stopped) in CALLS {
+        for call in first..last {
+            let ends_alone = ends_so(alloc, Fault::At(call), alone)?;
+            if !(ends_alone & ends_so(alloc, Fault::From(call), stopped)?) {
+                return Ok(Some(call));
+            }
+        }
+    }
+    Ok(None)
 }
 
 #[test]
 fn every_fault_of_a_save(rt: HostRuntime) -> Result<(), Fail> {
-    for (first, last, alone, stopped) in CALLS {
-        for call in first..last {
-            assert!(rt;
-                ends_so(rt.alloc(), Fault::At(call), alone)?,
-                "{call} alone"
-            );
-            assert!(rt;
-                ends_so(rt.alloc(), Fault::From(call), stopped)?,
-                "from {call} on"
-            );
-        }
-    }
+    assert_eq!(rt; wrong_call(rt.alloc())?, None);
     Ok(())
 }

@@ -1,12 +1,16 @@
 // A shard that is written in two pieces.
 use log::sink;
-use pingora_lru_files::persistence::{MemoryFolder, ShardSaveError, ShardSaveFailure, ShardSaver};
+use lru_test_folders::told::told_save;
+use pingora_lru_files::persistence::{MemoryFolder, ShardSaveError, ShardSaver};
 use std::alloc::{AllocError, Global};
 use std::test::Fail;
 
+/// How the answer begins where the one shard is not saved.
+const FAILED: &str = "All 1 shards failed to save; see prior warnings for per-shard causes.\n";
+
 /// The calls of a save of one shard of 8193 bytes, after the one that makes the folder: the text of the failure that each
 /// of them causes, and how many bytes the temp file then has.
-const CALLS: [(u64, &str, Option<usize>); 5] = [
+const CALLS: [(u64, &str, Option<usize>); 6] = [
     (
         1,
         "failed to save shard 0: failed to create c.0.0000002a.tmp: input or output failed",
@@ -29,53 +33,70 @@ const CALLS: [(u64, &str, Option<usize>); 5] = [
     ),
     (
         5,
+        "failed to save shard 0: failed to sync c.0.0000002a.tmp: input or output failed",
+        Some(8193),
+    ),
+    (
+        6,
         "failed to save shard 0: failed to rename file from c.0.0000002a.tmp to c.0: input or output failed",
         Some(8193),
     ),
 ];
 
-/// The failures of a save of that shard over an older file where one call fails, and the folder then.
-fn save(
+/// Whether a save of that shard over an older file, where one call fails, tells so, and leaves such a file and a temp file
+/// of so many bytes.
+fn ends_so(
     alloc: Global,
     call: u64,
-) -> Result<(Vec<ShardSaveFailure<AllocError>>, MemoryFolder), Fail> {
+    text: &str,
+    file: &[u8],
+    temp: Option<usize>,
+) -> Result<bool, AllocError> {
     let mut folder = MemoryFolder::new(alloc).with("c.0", b"old")?;
     folder.fail_at(call, 0);
-    let mut saver: ShardSaver<AllocError> = ShardSaver::start(alloc, &mut folder, "", "c", 1)?;
-    if saver.next().is_some() {
-        saver.put(&mut folder, 42, vec![in alloc; 7; 8193]);
-    }
-    if saver.next().is_some() {
-        return Err("a second turn")?;
-    }
-    let failures = match saver.finish(&sink::Memory::new(alloc)) {
-        Ok(report) => report.failures,
-        Err(ShardSaveError::AllShardsFailed { failures, .. }) => failures,
-        Err(ShardSaveError::Setup(_)) => return Err("the folder was not made")?,
+    let started: Result<ShardSaver<AllocError>, ShardSaveError<AllocError>> = ShardSaver::start(
+        alloc,
+        &mut folder,
+        "",
+        "c",
+        1,
+    );
+    let saved = match started {
+        Ok(mut saver) => {
+            if saver.next().is_some() {
+                saver.put(&mut folder, 42, vec![in alloc; 7; 8193]);
+            }
+            if saver.next().is_some() {
+                return Ok(false);
+            }
+            saver.finish(&sink::Memory::new(alloc))
+        }
+        Err(error) => Err(error),
     };
-    Ok((failures, folder))
+    let told = told_save(alloc, &saved)?;
+    let len = folder.get("c.0.0000002a.tmp").map(|bytes| bytes.len());
+    Ok((told.as_str(), folder.get("c.0"), len) == (text, Some(file), temp))
+}
+
+/// The first call, if there is one, at which it ends otherwise.
+fn wrong_call(alloc: Global) -> Result<Option<u64>, AllocError> {
+    for (call, text, temp) in CALLS {
+        let text = format!(in alloc; "{FAILED}{text}\n")?;
+        if !ends_so(alloc, call, &text, b"old", temp)? {
+            return Ok(Some(call));
+        }
+    }
+    Ok(None)
 }
 
 #[test]
 fn each_call_of_two_pieces(rt: HostRuntime) -> Result<(), Fail> {
-    let alloc = rt.alloc();
-    for (call, text, len) in CALLS {
-        let (failures, folder) = save(alloc, call)?;
-        assert_eq!(rt; failures.len(), 1);
-        assert_eq!(rt; failures[0].to_string(alloc)?.as_str(), text);
-        assert!(rt; folder.get("c.0") == Some(b"old".as_slice()));
-        assert_eq!(rt;
-            folder.get("c.0.0000002a.tmp").map(|bytes| bytes.len()),
-            len
-        );
-    }
+    assert_eq!(rt; wrong_call(rt.alloc())?, None);
     Ok(())
 }
 
 #[test]
 fn no_call_is_left(rt: HostRuntime) -> Result<(), Fail> {
-    let (failures, folder) = save(rt.alloc(), 6)?;
-    assert!(rt; failures.is_empty());
-    assert!(rt; folder.get("c.0") == Some([7; 8193].as_slice()));
+    assert!(rt; ends_so(rt.alloc(), 7, "saved 1 failed 0\n", &[7; 8193], None)?);
     Ok(())
 }

@@ -7,16 +7,9 @@ use pingora_lru_files::persistence::{MemoryFolder, ShardSaveError, ShardSaver, s
 use rand::rngs::StdRng;
 use rand_core::SeedableRng;
 use std::alloc::{AllocError, Global};
-use std::process::Abort;
 use std::test::Fail;
 
-/// Whether a save was refused memory. Asserts that it was not refused anything else.
-fn is_save_refused(rt: &impl Abort, saved: &Saved) -> bool {
-    let ending = end_of_save(saved);
-    assert!(rt; ending != Ending::Wrong);
-    ending == Ending::Refused
-}
-
+/// A save by a closure.
 fn save(alloc: Global, folder: &mut MemoryFolder) -> Saved {
     let log = sink::Memory::new(alloc);
     let mut rng = StdRng::seed_from_u64(7);
@@ -32,32 +25,8 @@ fn save(alloc: Global, folder: &mut MemoryFolder) -> Saved {
     )
 }
 
-/// Saves both shards. Where one, or the whole save, is refused memory, it is made again.
-fn save_at_last(rt: &impl Abort, alloc: Global, refusals: &mut usize) -> Result<(), Fail> {
-    let mut folder = folder_to_save(alloc)?;
-    let first = save(alloc, &mut folder);
-    if is_save_refused(rt, &first) {
-        *refusals = refusals.saturating_add(1);
-        assert!(rt; is_old_or_new(&folder));
-        assert!(rt; first.is_ok() || is_old(&folder));
-        let second = save(alloc, &mut folder);
-        assert!(rt; !is_save_refused(rt, &second));
-    }
-    assert!(rt; is_saved(&folder));
-    Ok(())
-}
-
-#[test]
-fn a_save_of_shards(rt: HostRuntime) -> Result<(), Fail> {
-    let mut refusals = 0;
-    save_at_last(&rt, rt.alloc(), &mut refusals)?;
-    save_at_last(&rt, rt.alloc(), &mut refusals)?;
-    assert!(rt; refusals <= 1);
-    Ok(())
-}
-
 /// A save as a state, each shard in its turn.
-fn save_in_turns(rt: &impl Abort, alloc: Global, folder: &mut MemoryFolder) -> Saved {
+fn save_in_turns(alloc: Global, folder: &mut MemoryFolder) -> Saved {
     let log = sink::Memory::new(alloc);
     let mut saver: ShardSaver<AllocError> = ShardSaver::start(alloc, folder, "d", "c", 2)?;
     if saver.next().is_some() {
@@ -66,30 +35,53 @@ fn save_in_turns(rt: &impl Abort, alloc: Global, folder: &mut MemoryFolder) -> S
     if saver.next().is_some() {
         saver.put(folder, 43, bytes_of(alloc, 1));
     }
-    assert!(rt; saver.next().is_none());
+    if saver.next().is_some() {
+        return Err(ShardSaveError::AllShardsFailed {
+            shards: 2,
+            failures: Vec::new(alloc),
+        });
+    }
     saver.finish(&log)
 }
 
-/// Saves both shards in turns. Where one, or the whole save, is refused memory, it is made again.
-fn save_in_turns_at_last(rt: &impl Abort, alloc: Global, refusals: &mut usize) -> Result<(), Fail> {
-    let mut folder = folder_to_save(alloc)?;
-    let first = save_in_turns(rt, alloc, &mut folder);
-    if is_save_refused(rt, &first) {
-        *refusals = refusals.saturating_add(1);
-        assert!(rt; is_old_or_new(&folder));
-        assert!(rt; first.is_ok() || is_old(&folder));
-        let second = save_in_turns(rt, alloc, &mut folder);
-        assert!(rt; !is_save_refused(rt, &second));
+fn save_by(alloc: Global, folder: &mut MemoryFolder, in_turns: bool) -> Saved {
+    if in_turns {
+        save_in_turns(alloc, folder)
+    } else {
+        save(alloc, folder)
     }
-    assert!(rt; is_saved(&folder));
+}
+
+/// Saves both shards. Where one, or the whole save, is refused memory, it is made again. Whether all of that is right.
+fn saves_at_last(alloc: Global, in_turns: bool, refusals: &mut usize) -> Result<bool, AllocError> {
+    let mut folder = folder_to_save(alloc)?;
+    let first = save_by(alloc, &mut folder, in_turns);
+    let mut ending = end_of_save(&first);
+    let mut is_kept = true;
+    if ending == Ending::Refused {
+        *refusals = refusals.saturating_add(1);
+        is_kept = is_old_or_new(&folder) & (first.is_ok() | is_old(&folder));
+        ending = end_of_save(&save_by(alloc, &mut folder, in_turns));
+    }
+    Ok(is_kept & (ending == Ending::Whole) & is_saved(&folder))
+}
+
+/// Two such saves, of which one at most is refused memory.
+fn saves_twice(alloc: Global, in_turns: bool) -> Result<bool, AllocError> {
+    let mut refusals = 0;
+    let first = saves_at_last(alloc, in_turns, &mut refusals)?;
+    let second = saves_at_last(alloc, in_turns, &mut refusals)?;
+    Ok(first & second & (refusals <= 1))
+}
+
+#[test]
+fn a_save_of_shards(rt: HostRuntime) -> Result<(), Fail> {
+    assert!(rt; saves_twice(rt.alloc(), false)?);
     Ok(())
 }
 
 #[test]
 fn a_save_in_turns(rt: HostRuntime) -> Result<(), Fail> {
-    let mut refusals = 0;
-    save_in_turns_at_last(&rt, rt.alloc(), &mut refusals)?;
-    save_in_turns_at_last(&rt, rt.alloc(), &mut refusals)?;
-    assert!(rt; refusals <= 1);
+    assert!(rt; saves_twice(rt.alloc(), true)?);
     Ok(())
 }

@@ -1,14 +1,14 @@
 // What a save leaves, reports and logs.
 use log::sink;
+use lru_test_folders::told::{are_lines, told_names, told_save};
 use pingora_lru_files::persistence::{
-    Folder, HostFolder, Listed, MemoryFolder, ShardSaveError, ShardSaveReport, ShardSaveSetupError,
+    Folder, HostFolder, MemoryFolder, ShardSaveError, ShardSaveReport, ShardSaveSetupError,
     ShardSaver, save_shards,
 };
 use rand::rngs::StdRng;
 use rand_core::{Rng, SeedableRng};
 use std::alloc::{AllocError, Global};
 use std::fs;
-use std::process::Abort;
 use std::test::Fail;
 
 /// The bytes of each shard, or an error for shard `refuses`.
@@ -47,51 +47,35 @@ fn save<F: Folder>(
     (result, log.into_lines().into_vec())
 }
 
-/// Asserts that these are the lines, each with its level.
-fn assert_lines(rt: &impl Abort, lines: &[String], wanted: &[(&str, &str)]) {
-    assert_eq!(rt; lines.len(), wanted.len());
-    for (line, (level, text)) in lines.iter().zip(wanted) {
-        assert!(rt; line.as_str().starts_with(*level), "{line}");
-        assert!(rt; line.as_str().ends_with(*text), "{line}");
-    }
-}
+/// Saves of `abc` into an empty folder: how many shards, which of them has no bytes to give, and which call fails; then what
+/// the save tells and logs, the names that are there, and the bytes of shards 0, 1 and 2.
+type Row = (
+    usize,
+    usize,
+    u64,
+    &'static str,
+    &'static [(&'static str, &'static str)],
+    &'static str,
+    [Option<&'static [u8]>; 3],
+);
 
-#[test]
-fn all_are_saved(rt: HostRuntime) -> Result<(), Fail> {
-    let mut folder = MemoryFolder::new(rt.alloc());
-    let (result, lines) = save(rt.alloc(), &mut folder, 2, 9);
-    let report = result?;
-    assert_eq!(rt; report.saved_shards, 2);
-    assert_eq!(rt; report.failed_shards, 0);
-    assert_eq!(rt; report.failures.len(), 0);
-    assert_lines(
-        &rt,
-        &lines,
+const BYTES: Option<&[u8]> = Some(b"abc");
+
+const SAVES: [Row; 4] = [
+    (
+        2,
+        9,
+        99,
+        "saved 2 failed 0\n",
         &[("[INFO", "] Successfully saved 2/2 shards.")],
-    );
-    assert!(rt; folder.get("d/c.0") == Some(b"abc".as_slice()));
-    assert!(rt; folder.get("d/c.1") == Some(b"abc".as_slice()));
-    let listed = folder.list("d").map_err(|_| "no list")?;
-    assert_eq!(rt; listed.len(), 2);
-    assert!(rt; matches!(&listed[0], Listed::Name(name) if name.as_str() == "c.0"));
-    assert!(rt; matches!(&listed[1], Listed::Name(name) if name.as_str() == "c.1"));
-    Ok(())
-}
-
-#[test]
-fn one_refuses(rt: HostRuntime) -> Result<(), Fail> {
-    let mut folder = MemoryFolder::new(rt.alloc());
-    let (result, lines) = save(rt.alloc(), &mut folder, 3, 1);
-    let report = result?;
-    assert_eq!(rt; report.saved_shards, 2);
-    assert_eq!(rt; report.failed_shards, 1);
-    assert_eq!(rt; report.failures.len(), 1);
-    assert!(rt; folder.get("d/c.0") == Some(b"abc".as_slice()));
-    assert!(rt; folder.get("d/c.1").is_none());
-    assert!(rt; folder.get("d/c.2") == Some(b"abc".as_slice()));
-    assert_lines(
-        &rt,
-        &lines,
+        "c.0 c.1 ",
+        [BYTES, BYTES, None],
+    ),
+    (
+        3,
+        1,
+        99,
+        "saved 2 failed 1\nfailed to serialize shard 1: no\n",
         &[
             (
                 "[WARN",
@@ -102,42 +86,58 @@ fn one_refuses(rt: HostRuntime) -> Result<(), Fail> {
                 "] Saved 2/3 shards; 1 shards failed. Persisted LRU state may be incomplete.",
             ),
         ],
-    );
-    Ok(())
-}
-
-#[test]
-fn no_shards(rt: HostRuntime) -> Result<(), Fail> {
-    let mut folder = MemoryFolder::new(rt.alloc());
-    let (result, lines) = save(rt.alloc(), &mut folder, 0, 9);
-    match result {
-        Ok(_) => return Err("saved nothing")?,
-        Err(error) => assert_eq!(rt;
-            error.to_string(rt.alloc())?.as_str(),
-            "All 0 shards failed to save; see prior warnings for per-shard causes."
-        ),
-    }
-    assert_lines(
-        &rt,
-        &lines,
+        "c.0 c.2 ",
+        [BYTES, None, BYTES],
+    ),
+    (
+        0,
+        9,
+        99,
+        "All 0 shards failed to save; see prior warnings for per-shard causes.\n",
         &[("[INFO", "] Successfully saved 0/0 shards.")],
-    );
-    Ok(())
+        "",
+        [None, None, None],
+    ),
+    (
+        2,
+        9,
+        0,
+        "failed to create d: input or output failed\n",
+        &[],
+        "not found",
+        [None, None, None],
+    ),
+];
+
+fn ends_so(alloc: Global, row: &Row) -> Result<bool, AllocError> {
+    let (shards, refuses, fails, text, lines, names, files) = row;
+    let mut folder = MemoryFolder::new(alloc);
+    folder.fail_at(*fails, 0);
+    let (saved, logged) = save(alloc, &mut folder, *shards, *refuses);
+    let told = told_save(alloc, &saved)?;
+    let listed = told_names(alloc, &mut folder, "d")?;
+    let left = [
+        folder.get("d/c.0"),
+        folder.get("d/c.1"),
+        folder.get("d/c.2"),
+    ];
+    let is_so = (told.as_str(), listed.as_str(), left) == (*text, *names, *files);
+    Ok(is_so & are_lines(&logged, lines))
+}
+
+/// The first row, if there is one, that ends otherwise.
+fn wrong_row(alloc: Global) -> Result<Option<usize>, AllocError> {
+    for (place, row) in SAVES.iter().enumerate() {
+        if !ends_so(alloc, row)? {
+            return Ok(Some(place));
+        }
+    }
+    Ok(None)
 }
 
 #[test]
-fn the_folder_is_not_made(rt: HostRuntime) -> Result<(), Fail> {
-    let mut folder = MemoryFolder::new(rt.alloc());
-    folder.fail_at(0, 0);
-    let (result, lines) = save(rt.alloc(), &mut folder, 2, 9);
-    match result {
-        Ok(_) => return Err("saved into nothing")?,
-        Err(error) => assert_eq!(rt;
-            error.to_string(rt.alloc())?.as_str(),
-            "failed to create d: input or output failed"
-        ),
-    }
-    assert!(rt; lines.is_empty());
+fn saves_and_what_they_leave(rt: HostRuntime) -> Result<(), Fail> {
+    assert_eq!(rt; wrong_row(rt.alloc())?, None);
     Ok(())
 }
 
@@ -155,63 +155,89 @@ fn no_shard_is_asked_for_without_a_folder(rt: HostRuntime) -> Result<(), Fail> {
         Ok(Vec::new(alloc))
     };
     let refused = save_shards(alloc, &mut folder, &mut rng, &log, "d", "c", 2, give);
-    assert!(rt;
-        matches!(
-            refused,
-            Err(ShardSaveError::Setup(ShardSaveSetupError::CreateDir { .. }))
-        )
+    let is_refused = matches!(
+        refused,
+        Err(ShardSaveError::Setup(ShardSaveSetupError::CreateDir { .. }))
     );
-    assert!(rt; !was_asked);
-    assert_eq!(rt; rng.next_u32(), StdRng::seed_from_u64(7).next_u32());
+    assert_eq!(rt;
+        (is_refused, was_asked, rng.next_u32()),
+        (true, false, StdRng::seed_from_u64(7).next_u32())
+    );
     Ok(())
-}
-
-/// Saves `new` over `old` with the word 42, stopped at the n-th call, and gives the folder.
-fn stopped(alloc: Global, n: u64, part: usize) -> Result<MemoryFolder, Fail> {
-    let mut folder = MemoryFolder::new(alloc).with("c.0", b"old")?;
-    let mut saver: ShardSaver<&'static str> = ShardSaver::start(alloc, &mut folder, "", "c", 1)?;
-    folder.stop_at(n, part);
-    if saver.next().is_some() {
-        let bytes = b"new".as_slice().to_vec(alloc)?;
-        saver.put(&mut folder, 42, Ok(bytes));
-    }
-    folder.mend();
-    Ok(folder)
 }
 
 /// The temp file of that save.
 const TEMP: &str = "c.0.0000002a.tmp";
 
 /// Stops at each of its calls, a write stopped after so many bytes: what the file and the temp file then have.
-const STOPS: [(u64, usize, &str, Option<&str>); 6] = [
+const STOPS: [(u64, usize, &str, Option<&str>); 7] = [
     (0, 0, "old", None),
     (1, 0, "old", Some("")),
     (1, 2, "old", Some("ne")),
     (2, 0, "old", Some("new")),
     (3, 0, "old", Some("new")),
-    (4, 0, "new", None),
+    (4, 0, "old", Some("new")),
+    (5, 0, "new", None),
 ];
+
+/// Saves `new` over `old` with the word 42, stopped at the n-th call: whether that leaves the file and the temp file so.
+fn stops_so(
+    alloc: Global,
+    n: u64,
+    part: usize,
+    file: &str,
+    temp: Option<&str>,
+) -> Result<bool, AllocError> {
+    let mut folder = MemoryFolder::new(alloc).with("c.0", b"old")?;
+    let started: Result<ShardSaver<AllocError>, ShardSaveError<AllocError>> = ShardSaver::start(
+        alloc,
+        &mut folder,
+        "",
+        "c",
+        1,
+    );
+    if let Ok(mut saver) = started {
+        folder.stop_at(n, part);
+        if saver.next().is_some() {
+            saver.put(&mut folder, 42, b"new".as_slice().to_vec(alloc));
+        }
+    }
+    folder.mend();
+    let wanted = (Some(file.as_bytes()), temp.map(|text| text.as_bytes()));
+    Ok((folder.get("c.0"), folder.get(TEMP)) == wanted)
+}
+
+/// The first row, if there is one, that ends otherwise.
+fn wrong_stop(alloc: Global) -> Result<Option<(u64, usize)>, AllocError> {
+    for (call, part, file, temp) in STOPS {
+        if !stops_so(alloc, call, part, file, temp)? {
+            return Ok(Some((call, part)));
+        }
+    }
+    Ok(None)
+}
 
 // A stop at each call leaves the file old or new, and the temp file missing or a front of the new bytes.
 #[test]
 fn a_stop_leaves_old_or_new(rt: HostRuntime) -> Result<(), Fail> {
-    for (call, part, file, temp) in STOPS {
-        let folder = stopped(rt.alloc(), call, part)?;
-        assert!(rt; folder.get("c.0") == Some(file.as_bytes()));
-        match temp {
-            Some(front) => assert!(rt; folder.get(TEMP) == Some(front.as_bytes())),
-            None => assert!(rt; folder.get(TEMP).is_none()),
-        }
-    }
+    assert_eq!(rt; wrong_stop(rt.alloc())?, None);
     Ok(())
 }
 
-#[test]
-fn a_failure_names_its_path(rt: HostRuntime) -> Result<(), Fail> {
-    let alloc = rt.alloc();
+/// Whether a save of two empty shards, of which the second is not created, tells so.
+fn names_its_path(alloc: Global) -> Result<bool, AllocError> {
     let log = sink::Memory::new(alloc);
     let mut folder = MemoryFolder::new(alloc);
-    let mut saver: ShardSaver<&'static str> = ShardSaver::start(alloc, &mut folder, "d", "c", 2)?;
+    let saver: Result<ShardSaver<AllocError>, ShardSaveError<AllocError>> = ShardSaver::start(
+        alloc,
+        &mut folder,
+        "d",
+        "c",
+        2,
+    );
+    let Ok(mut saver) = saver else {
+        return Ok(false);
+    };
     if saver.next().is_some() {
         saver.put(&mut folder, 1, Ok(Vec::new(alloc)));
     }
@@ -219,64 +245,57 @@ fn a_failure_names_its_path(rt: HostRuntime) -> Result<(), Fail> {
     if saver.next().is_some() {
         saver.put(&mut folder, 42, Ok(Vec::new(alloc)));
     }
-    assert!(rt; saver.next().is_none());
-    let report = saver.finish(&log)?;
-    assert_eq!(rt; report.saved_shards, 1);
-    assert_eq!(rt; report.failures.len(), 1);
-    assert_eq!(rt;
-        report.failures[0].to_string(alloc)?.as_str(),
-        "failed to save shard 1: failed to create d/c.1.0000002a.tmp: input or output failed"
-    );
-    assert!(rt; folder.get("d/c.0") == Some(b"".as_slice()));
-    Ok(())
+    if saver.next().is_some() {
+        return Ok(false);
+    }
+    let told = told_save(alloc, &saver.finish(&log))?;
+    let wanted =
+        "saved 1 failed 1\nfailed to save shard 1: failed to create d/c.1.0000002a.tmp: input or output failed\n";
+    Ok((told.as_str(), folder.get("d/c.0")) == (wanted, Some(b"".as_slice())))
 }
 
 #[test]
-fn a_real_folder(rt: HostRuntime) -> Result<(), Fail> {
-    let alloc = rt.alloc();
+fn a_failure_names_its_path(rt: HostRuntime) -> Result<(), Fail> {
+    assert!(rt; names_its_path(rt.alloc())?);
+    Ok(())
+}
+
+/// Saves two shards of `c` into a real folder, and tells that.
+fn save_there<F: Folder>(alloc: Global, folder: &mut F, dir: &str) -> Result<String, AllocError> {
     let log = sink::Memory::new(alloc);
     let mut rng = StdRng::seed_from_u64(7);
+    let give = |shard: usize| bytes_of(alloc, shard, 9);
+    told_save(
+        alloc,
+        &save_shards(alloc, folder, &mut rng, &log, dir, "c", 2, give),
+    )
+}
+
+/// The first two bytes of a file of a real folder, with its length.
+fn read_two<F: Folder>(folder: &mut F, path: &str) -> Option<(u64, Vec<u8>)> {
+    let len = folder.open(path).ok()?;
+    Some((len, folder.read(2).ok()?))
+}
+
+// The last save is into a file, which stands where the folder should be.
+#[test]
+fn a_real_folder(rt: HostRuntime) -> Result<(), Fail> {
+    let alloc = rt.alloc();
     let mut folder = HostFolder::new(rt);
-    let report = save_shards(
-        alloc,
-        &mut folder,
-        &mut rng,
-        &log,
-        "saved_here/deep",
-        "c",
-        2,
-        |shard| bytes_of(alloc, shard, 9),
-    )?;
-    assert_eq!(rt; report.saved_shards, 2);
+    let saved = save_there(alloc, &mut folder, "saved_here/deep")?;
+    let names = told_names(alloc, &mut folder, "saved_here/deep")?;
+    let (len, front) = read_two(&mut folder, "saved_here/deep/c.0").ok_or("no bytes")?;
+    let refused = save_there(alloc, &mut folder, "saved_here/deep/c.0")?;
     let bytes = fs::read(&rt, "saved_here/deep/c.1")?;
-    assert_eq!(rt; bytes.as_slice(), b"abc".as_slice());
-    let listed = folder.list("saved_here/deep").map_err(|_| "no list")?;
-    assert_eq!(rt; listed.len(), 2);
-    assert!(rt; matches!(&listed[0], Listed::Name(name) if name.as_str() == "c.0"));
-    assert!(rt; matches!(&listed[1], Listed::Name(name) if name.as_str() == "c.1"));
-    assert_eq!(rt; folder.open("saved_here/deep/c.0"), Ok(3));
-    assert_eq!(rt;
-        folder.read(2).map_err(|_| "no bytes")?.as_slice(),
-        b"ab".as_slice()
+    assert!(rt;
+        (saved.as_str(), names.as_str(), refused.as_str())
+            == (
+                "saved 2 failed 0\n",
+                "c.0 c.1 ",
+                "failed to create saved_here/deep/c.0: input or output failed\n"
+            )
+            && (len, front.as_slice(), bytes.as_slice()) == (3, b"ab".as_slice(), b"abc".as_slice())
     );
-    // A file stands where the folder should be.
-    let refused = save_shards(
-        alloc,
-        &mut folder,
-        &mut rng,
-        &log,
-        "saved_here/deep/c.0",
-        "c",
-        1,
-        |shard| bytes_of(alloc, shard, 9),
-    );
-    match refused {
-        Err(error) => assert_eq!(rt;
-            error.to_string(alloc)?.as_str(),
-            "failed to create saved_here/deep/c.0: input or output failed"
-        ),
-        Ok(_) => return Err("a file was taken for a folder")?,
-    }
     fs::remove_dir_all(&rt, "saved_here")?;
     Ok(())
 }
@@ -297,7 +316,6 @@ fn each_shard_is_asked_for_once(rt: HostRuntime) -> Result<(), Fail> {
         }
     };
     let report = save_shards(alloc, &mut folder, &mut rng, &log, "d", "c", 3, give)?;
-    assert_eq!(rt; report.saved_shards, 3);
-    assert_eq!(rt; asked.as_slice(), [0, 1, 2].as_slice());
+    assert!(rt; (report.saved_shards, asked.as_slice()) == (3, [0, 1, 2].as_slice()));
     Ok(())
 }

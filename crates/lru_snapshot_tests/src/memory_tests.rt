@@ -6,7 +6,7 @@ ghost use Rattle.std.specs.Prelude.{◌<◌};
 
 use log::sink;
 use lru_test_folders::refusals::{
-    Ending, Loaded, Saved, end_of_load, end_of_save, is_damaged, unloaded_shard,
+    Ending, Loaded, end_of_load, end_of_save, is_damaged, unloaded_shard,
 };
 use lru_test_folders::two_shards::{
     EVEN_BYTES, ODD_BYTES, folder_to_load, folder_to_save, has_temp, is_old, is_old_or_new,
@@ -14,13 +14,13 @@ use lru_test_folders::two_shards::{
 };
 use pingora_lru::lru_core::LruCore;
 use pingora_lru::unit::Cause;
+use pingora_lru_files::persistence::ShardLoadReport;
 use pingora_lru_files::snapshot::{
     Keyed, LoadError, load_core, load_shard, save_core, shard_bytes,
 };
 use rand::rngs::StdRng;
 use rand_core::SeedableRng;
 use std::alloc::{AllocError, Global};
-use std::process::Abort;
 use std::test::Fail;
 
 /// The key, the value and the weight of a row.
@@ -62,11 +62,13 @@ fn empty(alloc: Global) -> Result<LruCore<Keyed, 2>, AllocError> {
 }
 
 /// A core with the rows of both shards.
-fn filled(alloc: Global) -> Result<LruCore<Keyed, 2>, Fail> {
+fn filled(alloc: Global) -> Result<LruCore<Keyed, 2>, AllocError> {
     let mut core = empty(alloc)?;
     for (key, value, weight) in [(4, 40, 1), (2, 20, 3), (7, 70, 2)] {
-        if core.insert_tail(key, Keyed { key, value }, weight).is_err() {
-            core.insert_tail(key, Keyed { key, value }, weight)?;
+        if core.insert_tail(key, Keyed { key, value }, weight).is_err()
+            && core.insert_tail(key, Keyed { key, value }, weight).is_err()
+        {
+            return Err(AllocError);
         }
     }
     Ok(core)
@@ -86,14 +88,13 @@ fn shows(core: &LruCore<Keyed, 2>, shard: usize, rows: &[Row]) -> bool
     rest.next().is_none()
 }
 
-/// Asserts that these are the rows of shard 0 and of shard 1.
-fn assert_rows(rt: &impl Abort, core: &LruCore<Keyed, 2>, rows: (&[Row], &[Row])) {
-    assert!(rt; shows(core, 0, rows.0));
-    assert!(rt; shows(core, 1, rows.1));
+/// Whether these are the rows of shard 0 and of shard 1.
+fn has_rows(core: &LruCore<Keyed, 2>, rows: (&[Row], &[Row])) -> bool {
+    shows(core, 0, rows.0) & shows(core, 1, rows.1)
 }
 
-/// Asks for the bytes of a shard till they come.
-fn bytes_at_last(rt: &impl Abort, alloc: Global, refusals: &mut usize) -> Result<(), Fail> {
+/// Asks for the bytes of a shard till they come. Whether they are its own.
+fn bytes_at_last(alloc: Global, refusals: &mut usize) -> Result<bool, AllocError> {
     let core = filled(alloc)?;
     let bytes = match shard_bytes(alloc, &core, 0) {
         Ok(bytes) => bytes,
@@ -102,160 +103,172 @@ fn bytes_at_last(rt: &impl Abort, alloc: Global, refusals: &mut usize) -> Result
             shard_bytes(alloc, &core, 0)?
         }
     };
-    assert_eq!(rt; bytes.as_slice(), EVEN_BYTES.as_slice());
-    Ok(())
+    Ok(bytes.as_slice() == EVEN_BYTES.as_slice())
 }
 
-#[test]
-fn the_bytes_of_a_shard(rt: HostRuntime) -> Result<(), Fail> {
-    let mut refusals = 0;
-    bytes_at_last(&rt, rt.alloc(), &mut refusals)?;
-    bytes_at_last(&rt, rt.alloc(), &mut refusals)?;
-    assert!(rt; refusals <= 1);
-    Ok(())
-}
-
-/// Loads into a shard. A refusal that says memory leaves the rows as they were, and the load is made again.
-fn load_at_last(
-    rt: &impl Abort,
+/// Loads into a shard of a core with the rows `before`. A refusal that says memory leaves them as they were, and the load is
+/// made again. Whether the answer at last is this one.
+fn loads_at_last(
     alloc: Global,
     refusals: &mut usize,
     core: &mut LruCore<Keyed, 2>,
-    shard: usize,
-    bytes: &[u8],
     before: (&[Row], &[Row]),
-) -> Result<usize, LoadError>
-    requires { shard < 2 }
-{
-    let first = load_shard(alloc, core, shard, bytes);
-    if first != Err(LoadError::Unit(Cause::Memory)) {
-        return first;
+    (shard, bytes, answer): (usize, &[u8], Result<usize, LoadError>),
+) -> bool {
+    let is_before = has_rows(core, before);
+    let mut is_kept = true;
+    let mut loaded = load_shard(alloc, core, shard % 2, bytes);
+    if loaded == Err(LoadError::Unit(Cause::Memory)) {
+        *refusals = refusals.saturating_add(1);
+        is_kept = has_rows(core, before);
+        loaded = load_shard(alloc, core, shard % 2, bytes);
     }
-    *refusals = refusals.saturating_add(1);
-    assert_rows(rt, core, before);
-    load_shard(alloc, core, shard, bytes)
+    is_before & is_kept & (loaded == answer)
 }
 
-/// Loads into both shards, with refusals of other kinds between.
-fn loads_at_last(rt: &impl Abort, alloc: Global, refusals: &mut usize) -> Result<(), Fail> {
-    let core = &mut empty(alloc)?;
-    let before: (&[Row], &[Row]) = (&[], &[]);
-    let loaded = load_at_last(rt, alloc, refusals, core, 1, &ODD_BYTES, before);
-    assert_eq!(rt; loaded, Ok(1));
-    let before: (&[Row], &[Row]) = (&[], &ODD);
-    let loaded = load_at_last(rt, alloc, refusals, core, 0, &EVEN_BYTES, before);
-    assert_eq!(rt; loaded, Ok(2));
-    let before: (&[Row], &[Row]) = (&EVEN, &ODD);
-    let held = load_at_last(rt, alloc, refusals, core, 0, &EVEN_BYTES, before);
-    assert_eq!(rt; held, Err(LoadError::Damaged));
-    let heavy = load_at_last(rt, alloc, refusals, core, 0, &HEAVY_BYTES, before);
-    assert_eq!(rt; heavy, Err(LoadError::Unit(Cause::Weight)));
-    assert_rows(rt, core, before);
-    let loaded = load_at_last(rt, alloc, refusals, core, 0, &LAST_BYTES, before);
-    assert_eq!(rt; loaded, Ok(1));
-    let before: (&[Row], &[Row]) = (&MORE, &ODD);
-    assert_rows(rt, core, before);
-    let loaded = load_at_last(rt, alloc, refusals, core, 0, &many_bytes(), before);
-    assert_eq!(rt; loaded, Ok(20));
-    assert_eq!(rt; (core.shard_len(0), core.shard_weight(0)), (23, 29));
-    Ok(())
+/// The rows of both shards, and then what is loaded into which of them, with its answer. Refusals of other kinds stand
+/// between.
+const LOADS: [((&[Row], &[Row]), (usize, &[u8], Result<usize, LoadError>)); 5] = [
+    ((&[], &[]), (1, &ODD_BYTES, Ok(1))),
+    ((&[], &ODD), (0, &EVEN_BYTES, Ok(2))),
+    ((&EVEN, &ODD), (0, &EVEN_BYTES, Err(LoadError::Damaged))),
+    (
+        (&EVEN, &ODD),
+        (0, &HEAVY_BYTES, Err(LoadError::Unit(Cause::Weight))),
+    ),
+    ((&EVEN, &ODD), (0, &LAST_BYTES, Ok(1))),
+];
+
+/// Loads all of that into one core, and then many rows.
+fn all_at_last(alloc: Global, refusals: &mut usize) -> Result<bool, AllocError> {
+    let mut core = empty(alloc)?;
+    let mut are_right = true;
+    for (before, load) in LOADS {
+        are_right = are_right & loads_at_last(alloc, refusals, &mut core, before, load);
+    }
+    let bytes = many_bytes();
+    let many = (0, bytes.as_slice(), Ok(20));
+    let is_last = loads_at_last(alloc, refusals, &mut core, (&MORE, &ODD), many);
+    let counts = (core.shard_len(0), core.shard_weight(0));
+    Ok(are_right & is_last & (counts == (23, 29)))
 }
 
-#[test]
-fn the_rows_of_a_shard(rt: HostRuntime) -> Result<(), Fail> {
-    let mut refusals = 0;
-    loads_at_last(&rt, rt.alloc(), &mut refusals)?;
-    loads_at_last(&rt, rt.alloc(), &mut refusals)?;
-    assert!(rt; refusals <= 1);
-    Ok(())
-}
-
-/// Whether a save was refused memory. Asserts that it was not refused anything else.
-fn is_save_refused(rt: &impl Abort, saved: &Saved) -> bool {
-    let ending = end_of_save(saved);
-    assert!(rt; ending != Ending::Wrong);
-    ending == Ending::Refused
-}
-
-/// Saves a core over old files. Where a shard, or the whole save, is refused memory, it is made again.
-fn save_core_at_last(rt: &impl Abort, alloc: Global, refusals: &mut usize) -> Result<(), Fail> {
+/// Saves a core over old files. Where a shard, or the whole save, is refused memory, it is made again. Whether all of that
+/// is right.
+fn save_core_at_last(alloc: Global, refusals: &mut usize) -> Result<bool, AllocError> {
     let core = filled(alloc)?;
     let mut folder = folder_to_save(alloc)?;
     let log = sink::Memory::new(alloc);
     let mut rng = StdRng::seed_from_u64(7);
     let first = save_core(alloc, &mut folder, &mut rng, &log, "d", "c", &core);
-    if is_save_refused(rt, &first) {
+    let mut ending = end_of_save(&first);
+    let mut is_kept = true;
+    if ending == Ending::Refused {
         *refusals = refusals.saturating_add(1);
-        assert!(rt; is_old_or_new(&folder));
-        assert!(rt; first.is_ok() || is_old(&folder));
+        is_kept = is_old_or_new(&folder) & (first.is_ok() | is_old(&folder));
         let second = save_core(alloc, &mut folder, &mut rng, &log, "d", "c", &core);
-        assert!(rt; !is_save_refused(rt, &second));
+        ending = end_of_save(&second);
     }
-    assert!(rt; is_saved(&folder));
-    assert_rows(rt, &core, (&EVEN, &ODD));
-    Ok(())
+    let is_whole = is_kept & (ending == Ending::Whole);
+    Ok(is_whole & is_saved(&folder) & has_rows(&core, (&EVEN, &ODD)))
 }
 
-#[test]
-fn a_save_of_a_core(rt: HostRuntime) -> Result<(), Fail> {
-    let mut refusals = 0;
-    save_core_at_last(&rt, rt.alloc(), &mut refusals)?;
-    save_core_at_last(&rt, rt.alloc(), &mut refusals)?;
-    assert!(rt; refusals <= 1);
-    Ok(())
+/// Whether a core has the rows of each shard that was loaded, and no others.
+fn is_loaded(core: &LruCore<Keyed, 2>, loaded: &Loaded) -> bool {
+    let rows: (&[Row], &[Row]) = match loaded {
+        Err(AllocError) => (&[], &[]),
+        Ok(report) if report.failures.is_empty() => (&EVEN, &ODD),
+        Ok(report) if unloaded_shard(&report.failures[0]) == 0 => (&[], &ODD),
+        Ok(_) => (&EVEN, &[]),
+    };
+    has_rows(core, rows)
 }
 
-/// Whether a load was refused memory. Asserts that it was not refused anything else.
-fn is_load_refused(rt: &impl Abort, loaded: &Loaded) -> bool {
-    let ending = end_of_load(loaded);
-    assert!(rt; ending != Ending::Wrong);
-    ending == Ending::Refused
-}
-
-/// Asserts that a core has the rows of each shard that was loaded, and no others.
-fn assert_loaded(rt: &impl Abort, core: &LruCore<Keyed, 2>, loaded: &Loaded) {
-    match loaded {
-        Err(AllocError) => assert_rows(rt, core, (&[], &[])),
-        Ok(report) if report.failures.is_empty() => assert_rows(rt, core, (&EVEN, &ODD)),
-        Ok(report) if unloaded_shard(&report.failures[0]) == 0 => {
-            assert_rows(rt, core, (&[], &ODD));
+/// Whether the load that is made again loads so many shards, which were left; and finds those damaged that were loaded.
+fn loads_what_is_left(second: &ShardLoadReport<LoadError>, loaded: usize, left: usize) -> bool {
+    for failure in &second.failures {
+        if !is_damaged(failure) {
+            return false;
         }
-        Ok(_) => assert_rows(rt, core, (&EVEN, &[])),
     }
+    let is_clean = match &second.temp_cleanup {
+        Ok(cleanup) => cleanup.failures.is_empty(),
+        Err(AllocError) => false,
+    };
+    is_clean & ((second.loaded_shards, second.error_shards) == (left, loaded))
 }
 
 /// Loads an empty core. Where a shard, the whole load, or its cleanup is refused memory, the load is made again: it
-/// loads the shards that are left, and the files of the others are damaged to a core that has their rows.
-fn load_core_at_last(rt: &impl Abort, alloc: Global, refusals: &mut usize) -> Result<(), Fail> {
+/// loads the shards that are left, and the files of the others are damaged to a core that has their rows. Whether all of
+/// that is right.
+fn load_core_at_last(alloc: Global, refusals: &mut usize) -> Result<bool, AllocError> {
     let mut core = empty(alloc)?;
     let mut folder = folder_to_load(alloc)?;
     let log = sink::Memory::new(alloc);
     let first = load_core(alloc, &mut folder, &log, "d", "c", &mut core);
-    assert_loaded(rt, &core, &first);
-    if is_load_refused(rt, &first) {
+    let is_first = is_loaded(&core, &first);
+    let mut ending = end_of_load(&first);
+    if ending == Ending::Refused {
         *refusals = refusals.saturating_add(1);
         let (loaded, left) = match &first {
             Ok(report) => (report.loaded_shards, report.error_shards),
             Err(AllocError) => (0, 2),
         };
         let second = load_core(alloc, &mut folder, &log, "d", "c", &mut core)?;
-        assert_eq!(rt; (second.loaded_shards, second.error_shards), (left, loaded));
-        for failure in &second.failures {
-            assert!(rt; is_damaged(failure));
+        if loads_what_is_left(&second, loaded, left) {
+            ending = Ending::Whole;
         }
-        assert_eq!(rt; second.temp_cleanup?.failures.len(), 0);
     }
-    assert_rows(rt, &core, (&EVEN, &ODD));
-    assert!(rt; !has_temp(&folder));
-    assert!(rt; is_saved(&folder));
+    let is_whole = is_first & (ending == Ending::Whole) & has_rows(&core, (&EVEN, &ODD));
+    Ok(is_whole & is_saved(&folder) & !has_temp(&folder))
+}
+
+/// What is asked for twice.
+#[derive(Clone, Copy, Debug)]
+enum Script {
+    Bytes,
+    Loads,
+    SaveCore,
+    LoadCore,
+}
+
+fn is_right(alloc: Global, script: Script, refusals: &mut usize) -> Result<bool, AllocError> {
+    match script {
+        Script::Bytes => bytes_at_last(alloc, refusals),
+        Script::Loads => all_at_last(alloc, refusals),
+        Script::SaveCore => save_core_at_last(alloc, refusals),
+        Script::LoadCore => load_core_at_last(alloc, refusals),
+    }
+}
+
+/// Whether both runs of a script are right, of which one at most is refused memory.
+fn is_right_twice(alloc: Global, script: Script) -> Result<bool, AllocError> {
+    let mut refusals = 0;
+    let first = is_right(alloc, script, &mut refusals)?;
+    let second = is_right(alloc, script, &mut refusals)?;
+    Ok(first & second & (refusals <= 1))
+}
+
+#[test]
+fn the_bytes_of_a_shard(rt: HostRuntime) -> Result<(), Fail> {
+    assert!(rt; is_right_twice(rt.alloc(), Script::Bytes)?);
+    Ok(())
+}
+
+#[test]
+fn the_rows_of_a_shard(rt: HostRuntime) -> Result<(), Fail> {
+    assert!(rt; is_right_twice(rt.alloc(), Script::Loads)?);
+    Ok(())
+}
+
+#[test]
+fn a_save_of_a_core(rt: HostRuntime) -> Result<(), Fail> {
+    assert!(rt; is_right_twice(rt.alloc(), Script::SaveCore)?);
     Ok(())
 }
 
 #[test]
 fn a_load_of_a_core(rt: HostRuntime) -> Result<(), Fail> {
-    let mut refusals = 0;
-    load_core_at_last(&rt, rt.alloc(), &mut refusals)?;
-    load_core_at_last(&rt, rt.alloc(), &mut refusals)?;
-    assert!(rt; refusals <= 1);
+    assert!(rt; is_right_twice(rt.alloc(), Script::LoadCore)?);
     Ok(())
 }

@@ -24,14 +24,18 @@ const ROW: [u8; 24] = [
     2, 0, 0, 0, 0, 0, 0, 0, 20, 0, 0, 0, 0, 0, 0, 0, 2, 0, 0, 0, 0, 0, 0, 0,
 ];
 
+/// Whether shard 0 of a core with that row has its bytes, and shard 1 none.
+fn is_24_bytes(alloc: Global) -> Result<bool, AllocError> {
+    let mut core = empty::<2>(alloc)?;
+    let shard = core.admit(2, Keyed { key: 2, value: 20 }, 2).ok();
+    let bytes = shard_bytes(alloc, &core, 0)?;
+    let none = shard_bytes(alloc, &core, 1)?;
+    Ok((shard, bytes.as_slice(), none.len()) == (Some(0), ROW.as_slice(), 0))
+}
+
 #[test]
 fn a_row_is_24_bytes(rt: HostRuntime) -> Result<(), Fail> {
-    let mut core = empty::<2>(rt.alloc())?;
-    assert_eq!(rt; core.admit(2, Keyed { key: 2, value: 20 }, 2).ok(), Some(0));
-    let bytes = shard_bytes(rt.alloc(), &core, 0)?;
-    assert_eq!(rt; bytes.as_slice(), ROW.as_slice());
-    let none = shard_bytes(rt.alloc(), &core, 1)?;
-    assert!(rt; none.is_empty());
+    assert!(rt; is_24_bytes(rt.alloc())?);
     Ok(())
 }
 
@@ -40,23 +44,33 @@ const LONG: [u8; 25] = [
     2, 0, 0, 0, 0, 0, 0, 0, 20, 0, 0, 0, 0, 0, 0, 0, 2, 0, 0, 0, 0, 0, 0, 0, 0,
 ];
 
-// Loads into an empty core, one after another: the shard, the bytes, the answer, and the bytes of shard 0 then. Shard 1
-// stays empty.
+/// Loads into an empty core, one after another: the shard, the bytes, the answer, and the bytes of shard 0 then. Shard 1
+/// stays empty.
+const LOADS: [(usize, &[u8], Result<usize, LoadError>, &[u8]); 5] = [
+    (0, &[], Ok(0), &[]),
+    (0, &LONG, Err(LoadError::Damaged), &[]),
+    (1, &ROW, Err(LoadError::Damaged), &[]),
+    (0, &ROW, Ok(1), &ROW),
+    (0, &ROW, Err(LoadError::Damaged), &ROW),
+];
+
+/// The first load, if there is one, that ends otherwise.
+fn wrong_load(alloc: Global) -> Result<Option<usize>, AllocError> {
+    let mut core = empty::<2>(alloc)?;
+    for (place, (shard, bytes, answer, held)) in LOADS.iter().enumerate() {
+        let loaded = load_shard(alloc, &mut core, *shard % 2, bytes);
+        let zero = shard_bytes(alloc, &core, 0)?;
+        let one = shard_bytes(alloc, &core, 1)?;
+        if (loaded, zero.as_slice(), one.len()) != (*answer, *held, 0) {
+            return Ok(Some(place));
+        }
+    }
+    Ok(None)
+}
+
 #[test]
 fn bytes_are_loaded_or_nothing_changes(rt: HostRuntime) -> Result<(), Fail> {
-    let loads: [(usize, &[u8], Result<usize, LoadError>, &[u8]); 5] = [
-        (0, &[], Ok(0), &[]),
-        (0, &LONG, Err(LoadError::Damaged), &[]),
-        (1, &ROW, Err(LoadError::Damaged), &[]),
-        (0, &ROW, Ok(1), &ROW),
-        (0, &ROW, Err(LoadError::Damaged), &ROW),
-    ];
-    let mut core = empty::<2>(rt.alloc())?;
-    for (shard, bytes, answer, held) in loads {
-        assert_eq!(rt; load_shard(rt.alloc(), &mut core, shard % 2, bytes), answer);
-        assert_eq!(rt; shard_bytes(rt.alloc(), &core, 0)?.as_slice(), held);
-        assert!(rt; shard_bytes(rt.alloc(), &core, 1)?.is_empty());
-    }
+    assert_eq!(rt; wrong_load(rt.alloc())?, None);
     Ok(())
 }
 
@@ -85,10 +99,8 @@ const ONE: [u8; 8] = [1, 0, 0, 0, 0, 0, 0, 0];
 
 const GREATEST: [u8; 8] = [255, 255, 255, 255, 255, 255, 255, 127];
 
-// A shard that refuses what it is given is as it was, and so are all counts.
-#[test]
-fn refused_bytes_change_nothing(rt: HostRuntime) -> Result<(), Fail> {
-    let alloc = rt.alloc();
+/// The first of these, if there is one, that is not refused so, or that changes a shard or a count.
+fn wrong_refusal(alloc: Global) -> Result<Option<usize>, AllocError> {
     let held = [record(2, ONE), record(4, ONE)];
     let twice = [record(2, ONE), record(2, ONE)];
     let heavy = [record(0, GREATEST), record(2, ONE)];
@@ -100,12 +112,22 @@ fn refused_bytes_change_nothing(rt: HostRuntime) -> Result<(), Fail> {
         (heavy.as_flattened(), LoadError::Unit(Cause::Weight)),
     ];
     let mut core = empty::<2>(alloc)?;
-    core.insert_tail(4, Keyed { key: 4, value: 40 }, 0)?;
-    let before = shown(&core, alloc)?;
-    for (bytes, error) in refused {
-        assert_eq!(rt; load_shard(alloc, &mut core, 0, bytes), Err(error));
-        assert!(rt; shown(&core, alloc)? == before);
+    if core.insert_tail(4, Keyed { key: 4, value: 40 }, 0).is_err() {
+        return Ok(Some(9));
     }
+    let before = shown(&core, alloc)?;
+    for (place, (bytes, error)) in refused.iter().enumerate() {
+        let loaded = load_shard(alloc, &mut core, 0, bytes);
+        if (loaded != Err(*error)) | (shown(&core, alloc)? != before) {
+            return Ok(Some(place));
+        }
+    }
+    Ok(None)
+}
+
+#[test]
+fn refused_bytes_change_nothing(rt: HostRuntime) -> Result<(), Fail> {
+    assert_eq!(rt; wrong_refusal(rt.alloc())?, None);
     Ok(())
 }
 
@@ -117,12 +139,19 @@ const TEXTS: [(LoadError, &str); 4] = [
     (LoadError::Unit(Cause::Memory), "refused memory"),
 ];
 
+/// The first of them, if there is one, that is shown otherwise.
+fn wrong_text(alloc: Global) -> Result<Option<LoadError>, AllocError> {
+    for (error, text) in TEXTS {
+        if error.to_string(alloc)?.as_str() != text {
+            return Ok(Some(error));
+        }
+    }
+    Ok(None)
+}
+
 #[test]
 fn a_refusal_has_its_text(rt: HostRuntime) -> Result<(), Fail> {
-    for (error, text) in TEXTS {
-        let shown = error.to_string(rt.alloc())?;
-        assert_eq!(rt; shown.as_str(), text);
-    }
+    assert_eq!(rt; wrong_text(rt.alloc())?, None);
     Ok(())
 }
 
@@ -131,55 +160,65 @@ const ZERO: [u8; 24] = [
     0, 0, 0, 0, 0, 0, 0, 0, 0, 0, 0, 0, 0, 0, 0, 0, 1, 0, 0, 0, 0, 0, 0, 0,
 ];
 
-// Loaded twice: the file of shard 0 is whole, that of shard 1 is missing, that of shard 2 has 25 bytes. The second time
-// shard 0 holds its row already. Shard 2 has a row, and keeps it.
-#[test]
-fn a_core_is_loaded_as_far_as_its_files_go(rt: HostRuntime) -> Result<(), Fail> {
-    let mut folder = MemoryFolder::new(rt.alloc())
+/// Loaded twice: the file of shard 0 is whole, that of shard 1 is missing, that of shard 2 has 25 bytes. The second time
+/// shard 0 holds its row already. Shard 2 has a row, and keeps it. The counts that are not so, if there are any.
+fn wrong_counts(alloc: Global) -> Result<Option<(usize, usize, usize)>, AllocError> {
+    let mut folder = MemoryFolder::new(alloc)
         .with("d/c.0", &ZERO)?
         .with("d/c.2", &[0; 25])?;
-    let log = sink::Memory::new(rt.alloc());
-    let mut core = empty::<3>(rt.alloc())?;
-    assert_eq!(rt; core.admit(2, Keyed { key: 2, value: 20 }, 2).ok(), Some(2));
+    let log = sink::Memory::new(alloc);
+    let mut core = empty::<3>(alloc)?;
+    let admitted = core.admit(2, Keyed { key: 2, value: 20 }, 2).ok();
     for counts in [(1, 1, 1), (0, 1, 2)] {
-        let report = load_core(rt.alloc(), &mut folder, &log, "d", "c", &mut core)?;
-        assert_eq!(rt;
-            (
-                report.loaded_shards,
-                report.missing_shards,
-                report.error_shards
-            ),
-            counts
+        let report = load_core(alloc, &mut folder, &log, "d", "c", &mut core)?;
+        let found = (
+            report.loaded_shards,
+            report.missing_shards,
+            report.error_shards,
         );
-        assert_eq!(rt;
-            shard_bytes(rt.alloc(), &core, 0)?.as_slice(),
-            ZERO.as_slice()
-        );
-        assert!(rt; shard_bytes(rt.alloc(), &core, 1)?.is_empty());
-        assert_eq!(rt;
-            shard_bytes(rt.alloc(), &core, 2)?.as_slice(),
-            ROW.as_slice()
-        );
+        let zero = shard_bytes(alloc, &core, 0)?;
+        let one = shard_bytes(alloc, &core, 1)?;
+        let two = shard_bytes(alloc, &core, 2)?;
+        let rows = (zero.as_slice(), one.len(), two.as_slice());
+        if (admitted, found, rows) != (Some(2), counts, (ZERO.as_slice(), 0, ROW.as_slice())) {
+            return Ok(Some(found));
+        }
     }
-    Ok(())
+    Ok(None)
 }
 
 #[test]
-fn a_core_comes_back(rt: HostRuntime) -> Result<(), Fail> {
-    let mut core = empty::<2>(rt.alloc())?;
+fn a_core_is_loaded_as_far_as_its_files_go(rt: HostRuntime) -> Result<(), Fail> {
+    assert_eq!(rt; wrong_counts(rt.alloc())?, None);
+    Ok(())
+}
+
+/// Whether two cores have the same bytes in both shards.
+fn are_same(
+    alloc: Global,
+    core: &LruCore<Keyed, 2>,
+    back: &LruCore<Keyed, 2>,
+) -> Result<bool, AllocError> {
+    let old = (shard_bytes(alloc, core, 0)?, shard_bytes(alloc, core, 1)?);
+    let new = (shard_bytes(alloc, back, 0)?, shard_bytes(alloc, back, 1)?);
+    Ok(old == new)
+}
+
+/// Whether five rows are saved and loaded into an empty core.
+fn comes_back(alloc: Global) -> Result<bool, AllocError> {
+    let mut core = empty::<2>(alloc)?;
+    let mut are_admitted = true;
     for key in 0..5u64 {
-        let data = Keyed {
-            key,
-            value: key + 10,
-        };
-        assert_eq!(rt; core.admit(key, data, 1).ok(), Some((key % 2) as usize));
+        let value = key + 10;
+        let shard = core.admit(key, Keyed { key, value }, 1).ok();
+        are_admitted = are_admitted & (shard == Some((key % 2) as usize));
     }
-    let mut folder = MemoryFolder::new(rt.alloc());
-    let log = sink::Memory::new(rt.alloc());
+    let mut folder = MemoryFolder::new(alloc);
+    let log = sink::Memory::new(alloc);
     let mut rng = StdRng::seed_from_u64(7);
-    let mut back = empty::<2>(rt.alloc())?;
+    let mut back = empty::<2>(alloc)?;
     let (saved, loaded) = save_and_load(
-        rt.alloc(),
+        alloc,
         &mut folder,
         &mut rng,
         &log,
@@ -188,27 +227,35 @@ fn a_core_comes_back(rt: HostRuntime) -> Result<(), Fail> {
         &core,
         &mut back,
     );
-    assert_eq!(rt; saved.map_err(|_| "not saved")?.saved_shards, 2);
-    assert_eq!(rt; loaded?.loaded_shards, 2);
-    for shard in 0..2 {
-        let old = shard_bytes(rt.alloc(), &core, shard)?;
-        let new = shard_bytes(rt.alloc(), &back, shard)?;
-        assert_eq!(rt; new.as_slice(), old.as_slice());
-    }
+    let saved = saved.ok().map(|report| report.saved_shards);
+    let counts = (saved, loaded?.loaded_shards);
+    Ok(are_admitted & (counts == (Some(2), 2)) & are_same(alloc, &core, &back)?)
+}
+
+#[test]
+fn a_core_comes_back(rt: HostRuntime) -> Result<(), Fail> {
+    assert!(rt; comes_back(rt.alloc())?);
     Ok(())
+}
+
+/// Whether the bytes of 1,200 rows are loaded into an empty shard.
+fn come_back(alloc: Global) -> Result<bool, AllocError> {
+    let mut core = empty::<1>(alloc)?;
+    let mut are_admitted = true;
+    for key in 0..1200u64 {
+        let shard = core.admit(key, Keyed { key, value: key }, 1).ok();
+        are_admitted = are_admitted & (shard == Some(0));
+    }
+    let bytes = shard_bytes(alloc, &core, 0)?;
+    let mut back = empty::<1>(alloc)?;
+    let loaded = load_shard(alloc, &mut back, 0, &bytes);
+    let again = shard_bytes(alloc, &back, 0)?;
+    let is_same = again.as_slice() == bytes.as_slice();
+    Ok((are_admitted, bytes.len(), loaded, is_same) == (true, 28_800, Ok(1200), true))
 }
 
 #[test]
 fn many_rows_come_back(rt: HostRuntime) -> Result<(), Fail> {
-    let mut core = empty::<1>(rt.alloc())?;
-    for key in 0..1200u64 {
-        assert_eq!(rt; core.admit(key, Keyed { key, value: key }, 1).ok(), Some(0));
-    }
-    let bytes = shard_bytes(rt.alloc(), &core, 0)?;
-    assert_eq!(rt; bytes.len(), 28_800);
-    let mut back = empty::<1>(rt.alloc())?;
-    assert_eq!(rt; load_shard(rt.alloc(), &mut back, 0, &bytes), Ok(1200));
-    let again = shard_bytes(rt.alloc(), &back, 0)?;
-    assert_eq!(rt; again.as_slice(), bytes.as_slice());
+    assert!(rt; come_back(rt.alloc())?);
     Ok(())
 }

@@ -4,4 +4,5 @@
 pub mod odd_names;
 pub mod refusals;
 pub mod shelf;
+pub mod told;
 pub mod two_shards;

@@ -19,6 +19,7 @@ pub fn source_of(error: &ShardFileError) -> FolderFault {
         ShardFileError::Create { source, .. } => *source,
         ShardFileError::Write { source, .. } => *source,
         ShardFileError::Flush { source, .. } => *source,
+        ShardFileError::Sync { source, .. } => *source,
         ShardFileError::Open { source, .. } => *source,
         ShardFileError::Read { source, .. } => *source,
         ShardFileError::ReadDir { source, .. } => *source,

@@ -76,6 +76,10 @@ impl Folder for Shelf<'_> {
 
     ghost stopped_since = { λ _ _ _. ⊥ };
 
+    ghost lost_since = { λ _ _ _. ⊥ };
+
+    ghost loose = { λ _ _. ⊥ };
+
     ghost faults = { λ _. 0 };
 
     ghost last_call = { λ _. Make };
@@ -85,6 +89,8 @@ impl Folder for Shelf<'_> {
     ghost counts_now = { λ _ _ broken _. absurd broken };
 
     ghost only_now = { λ _ _ broken _. absurd broken };
+
+    ghost counts_lost = { λ _ _ _ broken _ _. absurd broken };
 
     fn make(&mut self, _dir: &str) -> Result<(), FolderFault> {
         self.close();
@@ -105,6 +111,10 @@ impl Folder for Shelf<'_> {
     }
 
     fn flush(&mut self) -> Result<(), FolderFault> {
+        Err(FolderFault::Io)
+    }
+
+    fn sync(&mut self) -> Result<(), FolderFault> {
         Err(FolderFault::Io)
     }
 

@@ -3,11 +3,13 @@ pub use Rattle.lru_folder.specs.Files
 pub use Rattle.lru_folder.specs.Places
 pub use Rattle.lru_folder.specs.Listings
 pub use Rattle.lru_folder.specs.Folder
+pub use Rattle.lru_folder.specs.Losses
 pub use Rattle.lru_folder.specs.Meaning
 pub use Rattle.lru_folder.specs.TextsFault
 pub use Rattle.lru_folder.specs.Texts
 pub use Rattle.lru_folder.specs.Blames
 pub use Rattle.lru_memory_folder.specs.Calls
+pub use Rattle.lru_memory_folder.specs.Losing
 pub use Rattle.lru_memory_folder.specs.Memory
 pub use Rattle.lru_memory_folder.specs.Plans
 pub use Rattle.lru_saving.specs.Saving

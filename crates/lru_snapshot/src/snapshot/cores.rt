@@ -31,7 +31,7 @@ pub fn save_core<F: Folder, R: Rng, L: Log, const N: usize>(
 ) -> Result<ShardSaveReport<AllocError>, ShardSaveError<AllocError>>
     requires { has_slash file_name.now ≡ false }
 
-    ensures saves { SavesCore (record { files = F.files; folders = F.folders; clock = F.clock; stopped_since = F.stopped_since; faults = F.faults; last_call = F.last_call; keeps = F.keeps })
+    ensures saves { SavesCore (record { files = F.files; folders = F.folders; clock = F.clock; stopped_since = F.stopped_since; lost_since = F.lost_since; loose = F.loose; faults = F.faults; last_call = F.last_call; keeps = F.keeps })
         dir_path.now file_name.now N core.now (R.stream rng.old) folder.old result (R.stream rng.new) folder.new }
 
     // Where no shard had its turn, no word is drawn.
@@ -78,7 +78,7 @@ pub fn load_core<F: Folder, L: Log, const N: usize>(
 ) -> Result<ShardLoadReport<LoadError>, AllocError>
     requires { has_slash file_name.now ≡ false }
 
-    ensures loads { LoadsCore (record { files = F.files; folders = F.folders; clock = F.clock; stopped_since = F.stopped_since; faults = F.faults; last_call = F.last_call; keeps = F.keeps })
+    ensures loads { LoadsCore (record { files = F.files; folders = F.folders; clock = F.clock; stopped_since = F.stopped_since; lost_since = F.lost_since; loose = F.loose; faults = F.faults; last_call = F.last_call; keeps = F.keeps })
         dir_path.now file_name.now N core.old folder.old result core.new folder.new }
 
     // A core without rows that loads all shards from files that tell another's rows has its lists. Where the files hold

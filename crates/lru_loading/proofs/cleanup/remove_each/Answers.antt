@@ -17,7 +17,7 @@ pub loop-path-init : goal.loop-path-init
 unfolding each_none
 loop-path-init g c =
     let F = g.F.Folder in
-    let m : Meaning _ = record { files = F.files; folders = F.folders; clock = F.clock; stopped_since = F.stopped_since; faults = F.faults; last_call = F.last_call; keeps = F.keeps } in
+    let m : Meaning _ = record { files = F.files; folders = F.folders; clock = F.clock; stopped_since = F.stopped_since; lost_since = F.lost_since; loose = F.loose; faults = F.faults; last_call = F.last_call; keeps = F.keeps } in
     let kept = F.keeps c.args.folder.now in
     let paths = map string_bytes c.args.paths.items in
     let start = c.args.folder.now in
@@ -41,7 +41,7 @@ pub loop-path-preserved : goal.loop-path-preserved
 unfolding each_more
 loop-path-preserved g c =
     let F = g.F.Folder in
-    let m : Meaning _ = record { files = F.files; folders = F.folders; clock = F.clock; stopped_since = F.stopped_since; faults = F.faults; last_call = F.last_call; keeps = F.keeps } in
+    let m : Meaning _ = record { files = F.files; folders = F.folders; clock = F.clock; stopped_since = F.stopped_since; lost_since = F.lost_since; loose = F.loose; faults = F.faults; last_call = F.last_call; keeps = F.keeps } in
     let so_far = c.loop-path.invariant in
     let path = string_bytes c.in-Some.path in
     let kept = F.keeps c.args.folder.now in
@@ -84,7 +84,7 @@ pub loop-path-preserved-in-Err : goal.loop-path-preserved-in-Err
 unfolding each_more
 loop-path-preserved-in-Err g c =
     let F = g.F.Folder in
-    let m : Meaning _ = record { files = F.files; folders = F.folders; clock = F.clock; stopped_since = F.stopped_since; faults = F.faults; last_call = F.last_call; keeps = F.keeps } in
+    let m : Meaning _ = record { files = F.files; folders = F.folders; clock = F.clock; stopped_since = F.stopped_since; lost_since = F.lost_since; loose = F.loose; faults = F.faults; last_call = F.last_call; keeps = F.keeps } in
     let so_far = c.loop-path.invariant in
     let path = string_bytes c.in-Some.path in
     let source = c.in-Err.source in
@@ -132,7 +132,7 @@ loop-path-preserved-in-Err g c =
 pub returns-clause-removals : goal.returns-clause-removals
 returns-clause-removals g c =
     let F = g.F.Folder in
-    let m : Meaning _ = record { files = F.files; folders = F.folders; clock = F.clock; stopped_since = F.stopped_since; faults = F.faults; last_call = F.last_call; keeps = F.keeps } in
+    let m : Meaning _ = record { files = F.files; folders = F.folders; clock = F.clock; stopped_since = F.stopped_since; lost_since = F.lost_since; loose = F.loose; faults = F.faults; last_call = F.last_call; keeps = F.keeps } in
     let so_far = c.loop-path.invariant in
     let kept = F.keeps c.args.folder.now in
     let paths = map string_bytes c.args.paths.items in

@@ -17,7 +17,7 @@ pub loop-shard-init : goal.loop-shard-init
 unfolding load_none
 loop-shard-init g c =
     let F = g.F.Folder in
-    let m : Meaning _ = record { files = F.files; folders = F.folders; clock = F.clock; stopped_since = F.stopped_since; faults = F.faults; last_call = F.last_call; keeps = F.keeps } in
+    let m : Meaning _ = record { files = F.files; folders = F.folders; clock = F.clock; stopped_since = F.stopped_since; lost_since = F.lost_since; loose = F.loose; faults = F.faults; last_call = F.last_call; keeps = F.keeps } in
     let start = c.args.folder.now in
     let empty = (c.in_ok-failures.ensures {u = tt}).items in
     record {
@@ -37,7 +37,7 @@ pub loop-shard-preserved : goal.loop-shard-preserved
 unfolding load_next load_more
 loop-shard-preserved g c =
     let F = g.F.Folder in
-    let m : Meaning _ = record { files = F.files; folders = F.folders; clock = F.clock; stopped_since = F.stopped_since; faults = F.faults; last_call = F.last_call; keeps = F.keeps } in
+    let m : Meaning _ = record { files = F.files; folders = F.folders; clock = F.clock; stopped_since = F.stopped_since; lost_since = F.lost_since; loose = F.loose; faults = F.faults; last_call = F.last_call; keeps = F.keeps } in
     let so_far = c.loop-shard.invariant in
     let called = c.load_from_file.ensures in
     let start = c.args.folder.now in
@@ -121,7 +121,7 @@ pub returns-clause-loads : goal.returns-clause-loads
 unfolding load_over
 returns-clause-loads g c =
     let F = g.F.Folder in
-    let m : Meaning _ = record { files = F.files; folders = F.folders; clock = F.clock; stopped_since = F.stopped_since; faults = F.faults; last_call = F.last_call; keeps = F.keeps } in
+    let m : Meaning _ = record { files = F.files; folders = F.folders; clock = F.clock; stopped_since = F.stopped_since; lost_since = F.lost_since; loose = F.loose; faults = F.faults; last_call = F.last_call; keeps = F.keeps } in
     let so_far = c.loop-shard.invariant in
     let start = c.args.folder.now in
     let mid = c.loop-shard.folder in

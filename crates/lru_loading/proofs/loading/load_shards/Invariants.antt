@@ -7,7 +7,7 @@ use Rattle.lru_loading.proofs.loading.load_shards.Given as goal
 abbrev pub invariant-loop-shard : goal.invariant-loop-shard
 invariant-loop-shard g l =
     let F = g.F.Folder in
-    let m : Meaning _ = record { files = F.files; folders = F.folders; clock = F.clock; stopped_since = F.stopped_since; faults = F.faults; last_call = F.last_call; keeps = F.keeps } in
+    let m : Meaning _ = record { files = F.files; folders = F.folders; clock = F.clock; stopped_since = F.stopped_since; lost_since = F.lost_since; loose = F.loose; faults = F.faults; last_call = F.last_call; keeps = F.keeps } in
     record {
       callable : goal.C-IsAlwaysCallable g l.deserialize;
       load : (load : IsLoad (goal.C-step g) (g.F.Folder.keeps l.fn.folder) (g.F.Folder.faults l.fn.folder < g.F.Folder.faults l.folder) (g.F.Folder.files l.fn.folder)

@@ -11,7 +11,7 @@ use Rattle.lru_replies.proofs.replies.answer.Goals as goal
 
 pub returns-in-Save-clause-text : goal.returns-in-Save-clause-text
 returns-in-Save-clause-text g c =
-    let m : Meaning g.row.F.Denot = record { files = g.F.Folder.files; folders = g.F.Folder.folders; clock = g.F.Folder.clock; stopped_since = g.F.Folder.stopped_since; faults = g.F.Folder.faults; last_call = g.F.Folder.last_call; keeps = g.F.Folder.keeps } in
+    let m : Meaning g.row.F.Denot = record { files = g.F.Folder.files; folders = g.F.Folder.folders; clock = g.F.Folder.clock; stopped_since = g.F.Folder.stopped_since; lost_since = g.F.Folder.lost_since; loose = g.F.Folder.loose; faults = g.F.Folder.faults; last_call = g.F.Folder.last_call; keeps = g.F.Folder.keeps } in
     let old : State g.row.F.Denot = record { core = c.args.core.now; folder = c.args.folder.now; words = g.R.Rng.stream c.args.rng.now } in
     let new : State g.row.F.Denot = record { core = c.args.core.now; folder = c.save_core-result.new.folder; words = g.R.Rng.stream c.save_core-result.new.rng } in
     subst (λ (command : Command). OnOk c.write_saved.result ((x : List ℕ) × (Answers m old (asked command) x new × Appends (g.W.Write.contents c.args.writer.now) (g.W.Write.contents c.write_saved.new.writer) x)))
@@ -20,7 +20,7 @@ returns-in-Save-clause-text g c =
 
 pub returns-in-Load-clause-text : goal.returns-in-Load-clause-text
 returns-in-Load-clause-text g c =
-    let m : Meaning g.row.F.Denot = record { files = g.F.Folder.files; folders = g.F.Folder.folders; clock = g.F.Folder.clock; stopped_since = g.F.Folder.stopped_since; faults = g.F.Folder.faults; last_call = g.F.Folder.last_call; keeps = g.F.Folder.keeps } in
+    let m : Meaning g.row.F.Denot = record { files = g.F.Folder.files; folders = g.F.Folder.folders; clock = g.F.Folder.clock; stopped_since = g.F.Folder.stopped_since; lost_since = g.F.Folder.lost_since; loose = g.F.Folder.loose; faults = g.F.Folder.faults; last_call = g.F.Folder.last_call; keeps = g.F.Folder.keeps } in
     let old : State g.row.F.Denot = record { core = c.args.core.now; folder = c.args.folder.now; words = g.R.Rng.stream c.args.rng.now } in
     let new : State g.row.F.Denot = record { core = c.load_core-result.new.core; folder = c.load_core-result.new.folder; words = g.R.Rng.stream c.args.rng.now } in
     subst (λ (command : Command). OnOk c.write_loaded.result ((x : List ℕ) × (Answers m old (asked command) x new × Appends (g.W.Write.contents c.args.writer.now) (g.W.Write.contents c.write_loaded.new.writer) x)))

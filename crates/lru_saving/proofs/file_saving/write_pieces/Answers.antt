@@ -2,7 +2,7 @@ use Rattle.std.proofs.Common.{rules, ◌∙◌, ap, subst, refl}
 use Rattle.std.specs.Slice.Iter.{chunks_rest}
 use Rattle.lru_folder.specs.Folder.{written_path}
 use Rattle.lru_folder.proofs.CauseLemmas.{no_fault}
-use Rattle.lru_saving.proofs.PieceSteps.{SoFar, pieces_none, pieces_more, piece_passes}
+use Rattle.lru_saving.proofs.PieceSteps.{SoFar, pieces_none, pieces_more, piece_passes, piece_loses}
 use Rattle.lru_saving.proofs.file_saving.write_pieces.Goals as goal
 
 pub loop-piece-init : goal.loop-piece-init
@@ -12,7 +12,7 @@ loop-piece-init g c =
     record {
       can = search rules;
       ends = tt;
-      written = λ k. pieces_none F.clock F.stopped_since F.files (written_path (F.opened start)) c.args.bytes.now start _ (search rules);
+      written = λ k. pieces_none F.clock F.stopped_since F.files F.lost_since F.loose (written_path (F.opened start)) c.args.bytes.now start _ (search rules);
       mode = refl;
       quiet = λ k. refl;
       places = λ k. refl;
@@ -35,9 +35,9 @@ loop-piece-preserved g c =
     record {
       can = search rules;
       ends = tt;
-      written = λ k. pieces_more F.clock F.stopped_since F.files path c.args.bytes.now start mid new (written_path (F.opened mid)) piece rest at
-          (subst (SoFar F.clock F.stopped_since F.files path c.args.bytes.now start mid) parts (so_far.written k))
-          (c.write.ensures.time (so_far.kept.0 k)) (written.done (so_far.kept.0 k));
+      written = λ k. pieces_more F.clock F.stopped_since F.files F.lost_since F.loose path c.args.bytes.now start mid new (written_path (F.opened mid)) piece rest at
+          (subst (SoFar F.clock F.stopped_since F.files F.lost_since F.loose path c.args.bytes.now start mid) parts (so_far.written k))
+          (c.write.ensures.time (so_far.kept.0 k)) (c.write.ensures.loss (so_far.kept.0 k)) (written.done (so_far.kept.0 k));
       mode = c.write.ensures.mode ∙ so_far.mode;
       quiet = λ k. no_fault (F.faults mid) (F.faults new) _ (written.cause (so_far.kept.0 k)) (λ e. let f : ⊥ = cc in f) ∙ so_far.quiet k;
       places = λ k. c.write.ensures.places (so_far.kept.0 k) ∙ so_far.places k;
@@ -51,6 +51,17 @@ returns-in_err-write-clause-time g c k held here =
     let mid = c.loop-piece.folder in
     let so_far = c.loop-piece.invariant in
     let path = written_path (F.opened start) in
-    piece_passes F.clock F.stopped_since F.files path c.args.bytes.now start mid c.write.new.self (written_path (F.opened mid)) c.in-Some.piece.now (chunks_rest c.next.new.self) (ap written_path so_far.mode)
-    (subst (SoFar F.clock F.stopped_since F.files path c.args.bytes.now start mid) c.in-Some.ensures.steps.1.0 (so_far.written k))
+    piece_passes F.clock F.stopped_since F.files F.lost_since F.loose path c.args.bytes.now start mid c.write.new.self (written_path (F.opened mid)) c.in-Some.piece.now (chunks_rest c.next.new.self) (ap written_path so_far.mode)
+    (subst (SoFar F.clock F.stopped_since F.files F.lost_since F.loose path c.args.bytes.now start mid) c.in-Some.ensures.steps.1.0 (so_far.written k))
     (c.write.ensures.time (so_far.kept.0 k)) held here
+
+pub returns-in_err-write-clause-loss : goal.returns-in_err-write-clause-loss
+returns-in_err-write-clause-loss g c k held here =
+    let F = g.F.Folder in
+    let start = c.args.folder.now in
+    let mid = c.loop-piece.folder in
+    let so_far = c.loop-piece.invariant in
+    let path = written_path (F.opened start) in
+    piece_loses F.clock F.stopped_since F.files F.lost_since F.loose path c.args.bytes.now start mid c.write.new.self (written_path (F.opened mid)) c.in-Some.piece.now (chunks_rest c.next.new.self) (ap written_path so_far.mode)
+    (subst (SoFar F.clock F.stopped_since F.files F.lost_since F.loose path c.args.bytes.now start mid) c.in-Some.ensures.steps.1.0 (so_far.written k))
+    (c.write.ensures.loss (so_far.kept.0 k)) held here

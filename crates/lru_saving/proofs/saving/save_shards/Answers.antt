@@ -10,7 +10,7 @@ use Rattle.lru_saving.proofs.saving.save_shards.Given as given
 pub loop-shard-init : goal.loop-shard-init
 loop-shard-init g c =
     let F = g.F.Folder in
-    let m : Meaning _ = record { files = F.files; folders = F.folders; clock = F.clock; stopped_since = F.stopped_since; faults = F.faults; last_call = F.last_call; keeps = F.keeps } in
+    let m : Meaning _ = record { files = F.files; folders = F.folders; clock = F.clock; stopped_since = F.stopped_since; lost_since = F.lost_since; loose = F.loose; faults = F.faults; last_call = F.last_call; keeps = F.keeps } in
     let start = c.args.folder.now in
     let s = c.in_ok-saver.ensures in
     record {
@@ -22,9 +22,9 @@ loop-shard-init g c =
         knows_none c.args.dir_path.now c.args.file_name.now c.args.shards c.in_ok-saver.saver s.begun,
         c.start.new.folder,
         λ k. (
-          record { all = s.made k; time = s.time k; faults = s.faults k },
+          record { all = s.made k; time = s.time k; loss = s.loss k; faults = s.faults k },
           saves_none m c.args.dir_path.now c.args.file_name.now start c.start.new.folder
-              (λ f h. g.met.F.Folder.only_now start f k h) (s.time k) (s.made k) c.requires.name (s.faults k),
+              (λ f h. g.met.F.Folder.only_now start f k h) (s.time k) (s.loss k) (s.made k) c.requires.name (s.faults k),
         ),
       );
     }
@@ -32,7 +32,7 @@ loop-shard-init g c =
 pub loop-shard-preserved : goal.loop-shard-preserved
 loop-shard-preserved g c =
     let F = g.F.Folder in
-    let m : Meaning _ = record { files = F.files; folders = F.folders; clock = F.clock; stopped_since = F.stopped_since; faults = F.faults; last_call = F.last_call; keeps = F.keeps } in
+    let m : Meaning _ = record { files = F.files; folders = F.folders; clock = F.clock; stopped_since = F.stopped_since; lost_since = F.lost_since; loose = F.loose; faults = F.faults; last_call = F.last_call; keeps = F.keeps } in
     let so_far = c.loop-shard.invariant in
     let turns = so_far.run.0 in
     let put = c.put.ensures.turn in
@@ -67,7 +67,7 @@ loop-shard-preserved g c =
 pub returns-clause-saves : goal.returns-clause-saves
 returns-clause-saves g c =
     let F = g.F.Folder in
-    let m : Meaning _ = record { files = F.files; folders = F.folders; clock = F.clock; stopped_since = F.stopped_since; faults = F.faults; last_call = F.last_call; keeps = F.keeps } in
+    let m : Meaning _ = record { files = F.files; folders = F.folders; clock = F.clock; stopped_since = F.stopped_since; lost_since = F.lost_since; loose = F.loose; faults = F.faults; last_call = F.last_call; keeps = F.keeps } in
     let so_far = c.loop-shard.invariant in
     let run = so_far.run in
     saves_all m (given.S-step g) c.args.dir_path.now c.args.file_name.now c.args.shards c.args.serialize (g.R.Rng.stream c.args.rng.now) c.args.folder.now c.finish.result

@@ -9,7 +9,7 @@ use Rattle.lru_saving.proofs.saving.save_shards.Given as goal
 abbrev pub invariant-loop-shard : goal.invariant-loop-shard
 invariant-loop-shard g l =
     let F = g.F.Folder in
-    let m : Meaning _ = record { files = F.files; folders = F.folders; clock = F.clock; stopped_since = F.stopped_since; faults = F.faults; last_call = F.last_call; keeps = F.keeps } in
+    let m : Meaning _ = record { files = F.files; folders = F.folders; clock = F.clock; stopped_since = F.stopped_since; lost_since = F.lost_since; loose = F.loose; faults = F.faults; last_call = F.last_call; keeps = F.keeps } in
     record {
       callable : goal.S-IsAlwaysCallable g l.serialize;
       kept : (F.keeps l.fn.folder → F.keeps l.folder) × (F.keeps l.folder → F.keeps l.fn.folder);

@@ -3,6 +3,7 @@ use Rattle.lru_memory_folder.specs.Calls.{Looks}
 use Rattle.lru_memory_folder.specs.MadeInside.{texts_of}
 use Rattle.lru_memory_folder.specs.Plans.{nothing}
 use Rattle.lru_memory_folder.proofs.MemoryLemmas.{passes, planned}
+use Rattle.lru_memory_folder.proofs.MemoryLosses.{loses}
 use Rattle.lru_memory_folder.proofs.memory_folder.MemoryFolderFolder.flush.Goals as goal
 
 pub returns-clause-time : goal.returns-clause-time
@@ -12,3 +13,6 @@ pub returns-clause-planned : goal.returns-clause-planned
 returns-clause-planned c =
     planned (λ m. nothing) (λ m. Looks) true c.next_fate-fate.result _ _ _ c.flush.result c.self.view_is (λ part m. refl) (λ some. ap (λ v. texts_of v.items) c.flush.ensures.made)
     c.next_fate-fate.ensures.fate c.next_fate-fate.ensures.counted c.flush.ensures.goes
+
+pub returns-clause-loss : goal.returns-clause-loss
+returns-clause-loss c = loses (λ m. Looks) _ _ _ _ c.flush.result c.self.view_is c.flush.ensures.goes

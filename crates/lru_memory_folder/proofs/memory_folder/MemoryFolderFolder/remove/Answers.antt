@@ -5,6 +5,7 @@ use Rattle.lru_memory_folder.specs.Plans.{nothing}
 use Rattle.std.specs.FinMap.{get}
 use Rattle.lru_memory_folder.specs.Memory.{files_of}
 use Rattle.lru_memory_folder.proofs.MemoryLemmas.{passes, planned, did, on_ok, is_here}
+use Rattle.lru_memory_folder.proofs.MemoryLosses.{loses, settled}
 use Rattle.lru_memory_folder.proofs.memory_folder.MemoryFolderFolder.remove.Goals as goal
 
 pub returns-clause-time : goal.returns-clause-time
@@ -19,3 +20,9 @@ pub returns-clause-done : goal.returns-clause-done
 returns-clause-done c =
     on_ok _ _ c.remove.result (λ both. (is_here (files_of c.args.self.now) c.args.path.now both.0, both.1))
     (did (λ m. Removes c.args.path.now) (λ m. is_some (get (files_of m) c.args.path.now)) c.next_fate-fate.result _ _ _ c.remove.result c.self.view_is c.remove.ensures.goes)
+
+pub returns-clause-loss : goal.returns-clause-loss
+returns-clause-loss c = loses (λ m. Removes c.args.path.now) _ _ _ _ c.remove.result c.self.view_is c.remove.ensures.goes
+
+pub returns-clause-settled : goal.returns-clause-settled
+returns-clause-settled c = settled (λ m. Removes c.args.path.now) _ c.next_fate-fate.result _ _ _ c.remove.result c.self.view_is c.remove.ensures.goes

@@ -4,6 +4,7 @@ use Rattle.lru_memory_folder.specs.MadeInside.{texts_of}
 use Rattle.lru_memory_folder.specs.Plans.{front_of}
 use Rattle.lru_folder.specs.Folder.{written_path}
 use Rattle.lru_memory_folder.proofs.MemoryLemmas.{passes, planned, did, on_ok}
+use Rattle.lru_memory_folder.proofs.MemoryLosses.{loses}
 use Rattle.lru_memory_folder.proofs.memory_folder.MemoryFolderFolder.write.Goals as goal
 
 pub returns-clause-time : goal.returns-clause-time
@@ -17,3 +18,6 @@ returns-clause-planned c =
 pub returns-clause-done : goal.returns-clause-done
 returns-clause-done c =
     on_ok _ _ c.write.result (λ both. both.1) (did (λ m. Writes (written_path m.opened) c.args.piece.now) (λ m. true) c.next_fate-fate.result _ _ _ c.write.result c.self.view_is c.write.ensures.goes)
+
+pub returns-clause-loss : goal.returns-clause-loss
+returns-clause-loss c = loses (λ m. Writes (written_path m.opened) c.args.piece.now) _ _ _ _ c.write.result c.self.view_is c.write.ensures.goes

@@ -6,7 +6,7 @@ use Rattle.lru_snapshot.proofs.snapshot.cores.save_and_load.Goals as goal
 pub returns-clause-same : goal.returns-clause-same
 returns-clause-same g c = λ keeps tell empty saved loaded.
     let F = g.F.Folder in
-    let m : Meaning _ = record { files = F.files; folders = F.folders; clock = F.clock; stopped_since = F.stopped_since; faults = F.faults; last_call = F.last_call; keeps = F.keeps } in
+    let m : Meaning _ = record { files = F.files; folders = F.folders; clock = F.clock; stopped_since = F.stopped_since; lost_since = F.lost_since; loose = F.loose; faults = F.faults; last_call = F.last_call; keeps = F.keeps } in
     let save = c.save_core-saved.ensures in
     let load = c.load_core-loaded.ensures in
     let core = c.args.core.now in
@@ -18,7 +18,7 @@ returns-clause-same g c = λ keeps tell empty saved loaded.
 pub returns-clause-all : goal.returns-clause-all
 returns-clause-all g c = λ keeps same tell empty.
     let F = g.F.Folder in
-    let m : Meaning _ = record { files = F.files; folders = F.folders; clock = F.clock; stopped_since = F.stopped_since; faults = F.faults; last_call = F.last_call; keeps = F.keeps } in
+    let m : Meaning _ = record { files = F.files; folders = F.folders; clock = F.clock; stopped_since = F.stopped_since; lost_since = F.lost_since; loose = F.loose; faults = F.faults; last_call = F.last_call; keeps = F.keeps } in
     let save = c.save_core-saved.ensures in
     let load = c.load_core-loaded.ensures in
     let core = c.args.core.now in

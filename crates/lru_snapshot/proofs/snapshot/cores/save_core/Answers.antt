@@ -36,6 +36,7 @@ returns-clause-saves g c =
       reason = h.reason;
       parents = h.parents;
       time = h.time;
+      loss = h.loss;
       drawn = h.drawn;
       kept = h.kept;
     }
@@ -43,11 +44,11 @@ returns-clause-saves g c =
 pub returns-clause-held : goal.returns-clause-held
 returns-clause-held g c = λ keeps all.
     let F = g.F.Folder in
-    let m : Meaning _ = record { files = F.files; folders = F.folders; clock = F.clock; stopped_since = F.stopped_since; faults = F.faults; last_call = F.last_call; keeps = F.keeps } in
+    let m : Meaning _ = record { files = F.files; folders = F.folders; clock = F.clock; stopped_since = F.stopped_since; lost_since = F.lost_since; loose = F.loose; faults = F.faults; last_call = F.last_call; keeps = F.keeps } in
     holds m c.args.dir_path.now c.args.file_name.now g.row.N c.args.core.now _ _ c.args.folder.now _ c.save_shards.result keeps (returns-clause-saves g c) all
 
 pub returns-clause-all : goal.returns-clause-all
 returns-clause-all g c = λ keeps same.
     let F = g.F.Folder in
-    let m : Meaning _ = record { files = F.files; folders = F.folders; clock = F.clock; stopped_since = F.stopped_since; faults = F.faults; last_call = F.last_call; keeps = F.keeps } in
+    let m : Meaning _ = record { files = F.files; folders = F.folders; clock = F.clock; stopped_since = F.stopped_since; lost_since = F.lost_since; loose = F.loose; faults = F.faults; last_call = F.last_call; keeps = F.keeps } in
     saves_all m c.args.dir_path.now c.args.file_name.now g.row.N c.args.core.now _ _ c.args.folder.now _ c.save_shards.result keeps c.shards.ensures.valid.some same (returns-clause-saves g c)
