@@ -20,6 +20,10 @@ use std::{fs, io};
 /// No theorem speaks of them: the clauses of a folder hold of each folder that keeps its meaning, and nothing says that
 /// this one does. While nobody else writes there and the disk gives back what was written it should, which is tried by
 /// real runs and not proved.
+///
+/// From `create` until it has its name, or the next call that closes it, a file is locked: another such folder, in this
+/// process or not, neither creates nor removes it, and answers `Io`. `rename` syncs the folder of the new name, and answers
+/// `Io` where that fails, though the name is given. What is a link or a pipe is not opened.
 #[derive(Drop)]
 pub struct HostFolder<R: Files> {
     rt: R,
