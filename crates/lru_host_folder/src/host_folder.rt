@@ -2,13 +2,16 @@
 ghost use Rattle.std.specs.Prelude.{◌≡◌};
 ghost use Rattle.lru_folder.specs.Folder as mode;
 
+use crate::claim::Claim;
 use crate::host_open::HostOpen;
 use lru_folder::fault::FolderFault;
 use lru_folder::folder::Folder;
 use lru_folder::listed::Listed;
-use std::fs::OpenFile;
+use std::alloc::Allocator;
+use std::fs::{DirEntry, Metadata, OpenFile, OpenOptions};
 use std::io::{ErrorKind, Read, Write};
 use std::marker::Model;
+use std::os::unix::fs::MetadataExt;
 use std::rt::Files;
 use std::{fs, io};
 
@@ -17,6 +20,10 @@ use std::{fs, io};
 /// No theorem speaks of them: the clauses of a folder hold of each folder that keeps its meaning, and nothing says that
 /// this one does. While nobody else writes there and the disk gives back what was written it should, which is tried by
 /// real runs and not proved.
+///
+/// From `create` until it has its name, or the next call that closes it, a file is locked: another such folder, in this
+/// process or not, neither creates nor removes it, and answers `Io`. `rename` syncs the folder of the new name, and answers
+/// `Io` where that fails, though the name is given. What is a link or a pipe is not opened.
 #[derive(Drop)]
 pub struct HostFolder<R: Files> {
     rt: R,
@@ -54,6 +61,121 @@ fn fault(error: io::Error) -> FolderFault {
     }
 }
 
+/// The folder of a path, as the system names it: the text before the last slash.
+fn folder_of(path: &str) -> &str {
+    match path.rsplit_once('/') {
+        None => ".",
+        Some((dir, _)) if dir.is_empty() => "/",
+        Some((dir, _)) => dir,
+    }
+}
+
+/// Syncs a folder, so that a loss of power keeps the names in it.
+fn sync_folder(rt: &impl Files, dir: &str) -> io::Result<()> {
+    fs::open(rt, dir)?.sync_all()
+}
+
+/// Whether both tell of one file.
+fn is_same(one: &Metadata, other: &Metadata) -> bool {
+    one.dev() == other.dev() && one.ino() == other.ino()
+}
+
+/// Whether an entry of a folder is a file; one that has vanished meanwhile is none.
+fn is_file<R: Files, A: Allocator>(entry: &DirEntry<R, A>) -> io::Result<bool> {
+    match entry.file_type() {
+        Ok(kind) => Ok(kind.is_file()),
+        Err(error) if error.kind() == ErrorKind::NotFound => Ok(false),
+        Err(error) => Err(error),
+    }
+}
+
+/// One read, made again where a signal interrupts it.
+fn read_once<T: Read>(file: &mut T, piece: &mut [u8]) -> io::Result<usize> {
+    for _ in 0..u64::MAX {
+        match file.read(piece) {
+            Err(error) if error.kind() == ErrorKind::Interrupted => {}
+            answer => return answer,
+        }
+    }
+    Err(io::Error::from(ErrorKind::Interrupted))
+}
+
+impl<R: Files> HostFolder<R>
+where
+    R::File: Claim,
+{
+    /// Opens a file to read, with its length. What is no file, as a link or a pipe, is refused before it is opened.
+    fn open_file(&self, path: &str) -> io::Result<(R::File, u64)> {
+        if !fs::symlink_metadata(&self.rt, path)?.is_file() {
+            return Err(io::Error::from(ErrorKind::InvalidInput));
+        }
+        let file = fs::open(&self.rt, path)?;
+        let len = file.metadata()?.len();
+        Ok((file, len))
+    }
+
+    /// Claims the open file, if no other open has claimed it and the path is still its own.
+    fn claim(&self, file: &R::File, path: &str) -> io::Result<()> {
+        if file.claim() && is_same(&file.metadata()?, &fs::symlink_metadata(&self.rt, path)?) {
+            Ok(())
+        } else {
+            Err(io::Error::from(ErrorKind::ResourceBusy))
+        }
+    }
+
+    /// Takes the path away. A file that another folder has open for writing stays, and is refused.
+    fn remove_unclaimed(&self, path: &str) -> io::Result<()> {
+        // It stays claimed until it is gone, so that nobody else begins with it.
+        let opened = self.open_file(path);
+        if let Ok((file, _)) = &opened {
+            self.claim(file, path)?;
+        }
+        fs::remove_file(&self.rt, path)
+    }
+
+    /// Opens a file that was not there before, so that no link and no other folder's file is written through.
+    fn create_new(&self, path: &str) -> io::Result<R::File> {
+        OpenOptions::new()
+            .write(true)
+            .create_new(true)
+            .open(&self.rt, path)
+    }
+
+    /// Creates a file, claimed from then on until it is closed. A leftover of the same name is removed first.
+    fn create_anew(&self, path: &str) -> Result<R::File, FolderFault> {
+        let file = match self.create_new(path) {
+            Err(error) if error.kind() == ErrorKind::AlreadyExists => {
+                match self.remove_unclaimed(path) {
+                    Err(error) if error.kind() != ErrorKind::NotFound => return Err(fault(error)),
+                    _ => {}
+                }
+                self.create_new(path).map_err(fault)?
+            }
+            created => created.map_err(fault)?,
+        };
+        match self.claim(&file, path) {
+            Ok(()) => Ok(file),
+            Err(_) => Err(FolderFault::Io),
+        }
+    }
+
+    /// Gives a file a new name, and syncs the folder of that name, so that a loss of power does not take it back. Where
+    /// that sync fails the name is given none the less.
+    fn rename_for_good(&self, from: &str, to: &str) -> Result<(), FolderFault> {
+        if let Err(error) = fs::rename(&self.rt, from, to) {
+            // The system says the same where the folder of the new name is not there.
+            return match fs::symlink_metadata(&self.rt, from) {
+                Ok(_) => Err(FolderFault::Io),
+                Err(_) => Err(fault(error)),
+            };
+        }
+        match sync_folder(&self.rt, folder_of(to)) {
+            Ok(()) => Ok(()),
+            Err(_) => Err(FolderFault::Io),
+        }
+    }
+}
+
 impl<R: Files + AllocGlobal + Clone + Drop> HostFolder<R> {
     /// The names in a folder as the system gives them, and how many are no UTF-8.
     fn names(&self, dir: &str) -> io::Result<(Vec<String>, usize)> {
@@ -62,7 +184,7 @@ impl<R: Files + AllocGlobal + Clone + Drop> HostFolder<R> {
         for entry in fs::read_dir(&self.rt, dir)? {
             match entry {
                 Ok(entry) => {
-                    if entry.file_type()?.is_file() {
+                    if is_file(&entry)? {
                         names.push(String::from_str(self.rt.alloc(), entry.file_name())?)?;
                     }
                 }
@@ -77,7 +199,10 @@ impl<R: Files + AllocGlobal + Clone + Drop> HostFolder<R> {
     }
 }
 
-impl<R: Files + AllocGlobal + Clone + Drop> Folder for HostFolder<R> {
+impl<R: Files + AllocGlobal + Clone + Drop> Folder for HostFolder<R>
+where
+    R::File: Claim,
+{
     ghost use Rattle.std.specs.FinMap as map;
     ghost use Rattle.std.specs.FinSet as set;
     ghost use Rattle.lru_folder.specs.declared.folder_call.FolderCall.TheVariants.{Make};
@@ -115,12 +240,12 @@ impl<R: Files + AllocGlobal + Clone + Drop> Folder for HostFolder<R> {
 
     fn create(&mut self, path: &str) -> Result<(), FolderFault> {
         self.file = HostOpen::Closed;
-        match fs::create(&self.rt, path) {
+        match self.create_anew(path) {
             Ok(file) => {
                 self.file = HostOpen::Writing(file);
                 Ok(())
             }
-            Err(error) => Err(fault(error)),
+            Err(fault) => Err(fault),
         }
     }
 
@@ -146,20 +271,18 @@ impl<R: Files + AllocGlobal + Clone + Drop> Folder for HostFolder<R> {
     }
 
     fn rename(&mut self, from: &str, to: &str) -> Result<(), FolderFault> {
+        // The open file stays claimed until it has its name, so that nobody else takes it for a leftover.
+        let renamed = self.rename_for_good(from, to);
         self.file = HostOpen::Closed;
-        fs::rename(&self.rt, from, to).map_err(fault)
+        renamed
     }
 
     fn open(&mut self, path: &str) -> Result<u64, FolderFault> {
         self.file = HostOpen::Closed;
-        let file = match fs::open(&self.rt, path) {
-            Ok(file) => file,
-            Err(error) => return Err(fault(error)),
-        };
-        match file.metadata() {
-            Ok(metadata) => {
+        match self.open_file(path) {
+            Ok((file, len)) => {
                 self.file = HostOpen::Reading(file);
-                Ok(metadata.len())
+                Ok(len)
             }
             Err(error) => Err(fault(error)),
         }
@@ -171,7 +294,7 @@ impl<R: Files + AllocGlobal + Clone + Drop> Folder for HostFolder<R> {
             unreachable!()
         };
         let mut piece = vec![in alloc; 0u8; max]?;
-        match file.read(&mut piece) {
+        match read_once(file, &mut piece) {
             Ok(count) => {
                 piece.truncate(count);
                 Ok(piece)
@@ -201,6 +324,6 @@ impl<R: Files + AllocGlobal + Clone + Drop> Folder for HostFolder<R> {
 
     fn remove(&mut self, path: &str) -> Result<(), FolderFault> {
         self.file = HostOpen::Closed;
-        fs::remove_file(&self.rt, path).map_err(fault)
+        self.remove_unclaimed(path).map_err(fault)
     }
 }

@@ -1,14 +1,15 @@
-// A runtime for tests, whose folders have one name more, which is no UTF-8.
+// A runtime for tests, whose folders list one name more, which no file has.
 use std::alloc::{Alloc, Allocator, Global};
 use std::fs::{Metadata, OpenOptions};
 use std::io;
 use std::io::Read;
 use std::rt::Files;
 
-/// The names of a folder, each ended by a NUL, behind a first one that is no UTF-8.
+/// The names of a folder, each ended by a NUL, behind a first one that has no file, or is no UTF-8.
 #[derive(Drop)]
 pub struct Names<D> {
     rest: D,
+    has_vanished: bool,
     is_begun: bool,
 }
 
@@ -17,7 +18,11 @@ impl<D: Read> Read for Names<D> {
         if self.is_begun {
             return self.rest.read(buf);
         }
-        let first = b"c.\xff.tmp\0".as_slice();
+        let first = if self.has_vanished {
+            b"c.0.0000002b.tmp\0".as_slice()
+        } else {
+            b"c.\xff.tmp\0".as_slice()
+        };
         if buf.len() < first.len() {
             return Err(io::Error::from(io::ErrorKind::InvalidInput));
         }
@@ -31,11 +36,24 @@ impl<D: Read> Read for Names<D> {
 #[derive(Clone, Copy)]
 pub struct OddNames<R> {
     rt: R,
+    has_vanished: bool,
 }
 
 impl<R> OddNames<R> {
+    /// With a name that is no UTF-8.
     pub fn new(rt: R) -> Self {
-        OddNames { rt }
+        OddNames {
+            rt,
+            has_vanished: false,
+        }
+    }
+
+    /// With a name whose file has vanished.
+    pub fn vanished(rt: R) -> Self {
+        OddNames {
+            rt,
+            has_vanished: true,
+        }
     }
 }
 
@@ -60,6 +78,7 @@ impl<R: Files> Files for OddNames<R> {
         let rest = self.rt.open_dir(path)?;
         Ok(Names {
             rest,
+            has_vanished: self.has_vanished,
             is_begun: false,
         })
     }
