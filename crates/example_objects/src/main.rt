@@ -18,6 +18,7 @@ use pingora_lru_files::snapshot::{load_core, save_core};
 use rand::rngs::StdRng;
 use rand_core::SeedableRng;
 use std::env::Env;
+use std::io::ErrorKind;
 use std::process::ExitCode;
 use std::{env, io};
 use store::{Store, empty_store, put};
@@ -25,6 +26,14 @@ use store::{Store, empty_store, put};
 fn two_numbers(words: &str) -> Option<(u64, usize)> {
     let (id, bytes) = words.split_once(' ')?;
     Some((id.parse().ok()?, bytes.parse().ok()?))
+}
+
+/// The line, or `None` where it is no text.
+fn text_of(line: io::Result<String>) -> io::Result<Option<String>> {
+    match line {
+        Err(error) if error.kind() == ErrorKind::InvalidData => Ok(None),
+        line => Ok(Some(line?)),
+    }
 }
 
 /// The budget that the arguments give, if they do.
@@ -99,7 +108,11 @@ fn main(rt: HostRuntime) -> io::Result<ExitCode> {
     let mut number = 0u64;
     for line in rt.lines(rt.alloc()) {
         number = number.saturating_add(1);
-        if !obey(rt, &mut store, &mut rng, &line?)? {
+        let is_good = match text_of(line)? {
+            Some(line) => obey(rt, &mut store, &mut rng, &line)?,
+            None => false,
+        };
+        if !is_good {
             println!(rt; "error line {number}")?;
             return Ok(ExitCode::from(2));
         }
