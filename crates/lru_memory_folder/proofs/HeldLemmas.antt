@@ -13,6 +13,7 @@ use Rattle.std.proofs.lemmas.Bool.{false_from_ne_true}
 use Rattle.std.specs.FinMap.{find, get, insert, remove, get-from_entries}
 use Rattle.lru_folder.proofs.FilesLemmas.{decide, alike, get-insert_same, get-insert_other, get-remove_same, get-remove_other}
 use Rattle.lru_memory_folder.specs.HeldInside.{entries_of, files_in}
+use Rattle.lru_memory_folder.specs.MadeInside.{texts_of}
 
 -- the bytes in the program's hand
 abbrev pub items_of : Vec ℕ Global → List ℕ
@@ -69,3 +70,10 @@ entries_of-copy [] [] h = refl
 entries_of-copy [] (f ∷ fs) h = absurd h
 entries_of-copy (e ∷ es) [] h = absurd h
 entries_of-copy (e ∷ es) (f ∷ fs) h = λ i. (h.0.0 i, same_items e.1.items f.1.items h.0.1.0 i) ∷ entries_of-copy es fs h.1 i
+
+-- a copy of texts has the same texts
+pub texts_of-copy : (ts us : List (Vec ℕ Global)) → AllZip (λ t u. AllZip (λ x y. y ≡ x) t.items u.items × (vec_len u ≡ vec_len t)) ts us → texts_of us ≡ texts_of ts
+texts_of-copy [] [] h = refl
+texts_of-copy [] (u ∷ us) h = absurd h
+texts_of-copy (t ∷ ts) [] h = absurd h
+texts_of-copy (t ∷ ts) (u ∷ us) h = λ i. same_items t.items u.items h.0.0 i ∷ texts_of-copy ts us h.1 i

@@ -6,3 +6,4 @@ pub mod ListingLemmas
 pub mod JournalLemmas
 pub mod MemoryLemmas
 pub mod MemoryLosses
+pub mod ReplayLemmas

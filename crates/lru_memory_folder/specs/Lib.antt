@@ -8,6 +8,8 @@ pub mod HeldInside
 pub mod JournalInside
 pub mod MadeInside
 pub mod MemoryInside
+pub mod MarksInside
+pub mod ReplayInside
 pub mod LosingLaws
 pub mod MemoryLaws
 pub mod OpenInside

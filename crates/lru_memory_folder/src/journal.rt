@@ -4,9 +4,11 @@ ghost use Rattle.lru_memory_folder.specs.Calls.{begun, ended, whole};
 ghost use Rattle.lru_memory_folder.specs.DeedInside.{deed_of};
 ghost use Rattle.lru_memory_folder.specs.HeldInside.{files_in};
 ghost use Rattle.lru_memory_folder.specs.History.{files_left, with_call, Goes};
+ghost use Rattle.lru_memory_folder.specs.ReplayInside.{loss_in};
 
 use crate::calls::{Call, End, Ended};
 use crate::held::{Held, append, copy_all, front, give_name, put, take_out};
+use crate::replay::Replay;
 use lru_folder::fault::FolderFault;
 use std::alloc::{AllocError, Global};
 use std::collections::BTreeMap;
@@ -70,6 +72,23 @@ impl Journal {
         self.held
     }
 
+    /// The files that a loss of power leaves which keeps the first `names` name changes since the last sync, and puts one
+    /// byte into each path that was then loose.
+    pub(crate) fn after_loss(
+        &self,
+        alloc: Global,
+        names: usize,
+        byte: u8,
+    ) -> Result<Held, AllocError>
+        ensures { IfOk result (λ held. (loss_in self.now).maps (files_in held.entries)) }
+    {
+        let mut replay = Replay::new(&self.begun, names)?;
+        for ended in &self.calls {
+            replay.step(alloc, ended, names, byte)?;
+        }
+        Ok(replay.into_lost())
+    }
+
     /// Does what a call does that ends so, and notes it. Where memory is refused, nothing changes.
     pub(crate) fn note(&mut self, alloc: Global, call: Call, end: End) -> Result<(), AllocError>
         ensures ok { OnOk result (self.new ≡ with_call self.old (deed_of call) end) }
@@ -108,7 +127,7 @@ fn push(calls: &mut Vec<Ended>, call: Call, end: End)
 }
 
 /// Does to the files what a call does that ends so. Where memory is refused, nothing changes.
-fn apply(alloc: Global, held: &mut Held, call: &Call, end: End) -> Result<(), AllocError>
+pub(crate) fn apply(alloc: Global, held: &mut Held, call: &Call, end: End) -> Result<(), AllocError>
     ensures ok { OnOk result (files_in held.new.entries ≡ ended (deed_of call.now) end (files_in held.old.entries)) }
     ensures err { OnErr result (held.new.entries ≡ held.old.entries) }
 {

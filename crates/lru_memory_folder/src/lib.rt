@@ -8,4 +8,5 @@ pub mod memory_folder;
 mod open;
 mod places;
 mod plan;
+mod replay;
 mod store;

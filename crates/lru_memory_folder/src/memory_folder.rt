@@ -77,6 +77,22 @@ impl MemoryFolder {
         find(self.store.held(), path)
     }
 
+    /// The folder as a loss of power may leave it: the files after the first `names` name changes (by `create`, `rename` and
+    /// `remove`) that were done since the last `sync` that answered Ok or since the folder began, after all where there are
+    /// fewer; and in each of those paths that was loose at some moment from there to the next name change, the one byte in
+    /// place of its bytes. It keeps the folders and begins anew, and no call is made to fail.
+    pub fn after_loss(&self, names: usize, byte: u8) -> Result<MemoryFolder, AllocError>
+        ensures files { IfOk result (λ folder. lost_since_of self.now (clock_of self.now) (files_of folder)) }
+        ensures folders { IfOk result (λ folder. folders_of folder ≡ folders_of self.now) }
+        ensures begins { IfOk result (λ folder. (folder.calls ≡ []) × (folder.opened ≡ mode.Closed) × (folder.plan ≡ Works)) }
+    {
+        Ok(MemoryFolder {
+            store: self.store.after_loss(names, byte)?,
+            plan: Plan::Works,
+            last: FolderCall::Make,
+        })
+    }
+
     /// Makes the `n`-th call from now, counted from 0, answer `Io`, and no other. A `write` puts at most the first `part`
     /// bytes before; any other call does nothing.
     pub fn fail_at(&mut self, n: u64, part: usize)

@@ -9,8 +9,9 @@ ghost use Rattle.lru_folder.specs.Places.{can_list, folder_of, is_there, listing
 ghost use Rattle.lru_memory_folder.specs.Calls.{Creates, Writes, Renames, Removes, Syncs, Looks};
 ghost use Rattle.lru_memory_folder.specs.History.{end_of, files_left, Goes};
 ghost use Rattle.lru_memory_folder.specs.HeldInside.{files_in};
-ghost use Rattle.lru_memory_folder.specs.MadeInside.{folders_in};
+ghost use Rattle.lru_memory_folder.specs.MadeInside.{folders_in, texts_of};
 ghost use Rattle.lru_memory_folder.specs.OpenInside.{opened_in};
+ghost use Rattle.lru_memory_folder.specs.ReplayInside.{loss_in};
 
 use crate::calls::{Call, end_of};
 use crate::held::{Held, holds, len_of, names_of, piece_at, put};
@@ -69,6 +70,22 @@ impl Store {
             alloc,
             journal: Journal::begin(alloc, held)?,
             made,
+            file: Open::Closed,
+        })
+    }
+
+    /// The store as a loss of power leaves it. It begins anew, with the folders that were made.
+    pub(crate) fn after_loss(&self, names: usize, byte: u8) -> Result<Self, AllocError>
+        ensures files { IfOk result (λ store. (loss_in self.now.journal).maps (files_left store.journal)) }
+        ensures folders { IfOk result (λ store. texts_of store.made.items ≡ texts_of self.now.made.items) }
+        ensures begins { IfOk result (λ store. store.journal.calls ≡ []) }
+        ensures shut { IfOk result (λ store. store.file ≡ Open.Closed) }
+    {
+        let held = self.journal.after_loss(self.alloc, names, byte)?;
+        Ok(Store {
+            alloc: self.alloc,
+            journal: Journal::begin(self.alloc, held)?,
+            made: self.made.clone()?,
             file: Open::Closed,
         })
     }

@@ -3,7 +3,9 @@
 use log::sink;
 use lru_test_folders::refusals::{Ending, Saved, end_of_save};
 use lru_test_folders::two_shards::{bytes_of, folder_to_save, is_old, is_old_or_new, is_saved};
-use pingora_lru_files::persistence::{MemoryFolder, ShardSaveError, ShardSaver, save_shards};
+use pingora_lru_files::persistence::{
+    Folder, FolderFault, MemoryFolder, ShardSaveError, ShardSaver, save_shards,
+};
 use rand::rngs::StdRng;
 use rand_core::SeedableRng;
 use std::alloc::{AllocError, Global};
@@ -72,6 +74,39 @@ fn saves_twice(alloc: Global, in_turns: bool) -> Result<bool, AllocError> {
     let first = saves_at_last(alloc, in_turns, &mut refusals)?;
     let second = saves_at_last(alloc, in_turns, &mut refusals)?;
     Ok(first & second & (refusals <= 1))
+}
+
+/// What a loss of power leaves of a file that was written over and not synced. Where that is refused memory, it is asked
+/// again. Whether all of that is right.
+fn is_lost_at_last(folder: &MemoryFolder, refusals: &mut usize) -> Result<bool, AllocError> {
+    let left = match folder.after_loss(1, b'X') {
+        Ok(left) => left,
+        Err(AllocError) => {
+            *refusals = refusals.saturating_add(1);
+            folder.after_loss(1, b'X')?
+        }
+    };
+    let wanted = (Some(b"X".as_slice()), Some(b"older".as_slice()));
+    Ok((left.get("d/c.0"), left.get("d/c.1")) == wanted)
+}
+
+/// That folder. Where it is refused memory, it is made anew.
+fn folder_to_lose(alloc: Global) -> Result<MemoryFolder, FolderFault> {
+    let mut folder = folder_to_save(alloc)?;
+    if folder.create("d/c.0").is_err() {
+        folder.create("d/c.0")?;
+    }
+    Ok(folder)
+}
+
+#[test]
+fn a_loss_of_power(rt: HostRuntime) -> Result<(), Fail> {
+    let folder = folder_to_lose(rt.alloc())?;
+    let mut refusals = 0;
+    let first = is_lost_at_last(&folder, &mut refusals)?;
+    let second = is_lost_at_last(&folder, &mut refusals)?;
+    assert!(rt; first & second & (refusals <= 1));
+    Ok(())
 }
 
 #[test]

@@ -2,8 +2,8 @@
 use log::sink;
 use lru_test_folders::told::{are_lines, told_names, told_save};
 use pingora_lru_files::persistence::{
-    Folder, HostFolder, MemoryFolder, ShardSaveError, ShardSaveReport, ShardSaveSetupError,
-    ShardSaver, save_shards,
+    Folder, FolderFault, HostFolder, MemoryFolder, ShardSaveError, ShardSaveReport,
+    ShardSaveSetupError, ShardSaver, save_shards,
 };
 use rand::rngs::StdRng;
 use rand_core::{Rng, SeedableRng};
@@ -180,14 +180,8 @@ const STOPS: [(u64, usize, &str, Option<&str>); 7] = [
     (5, 0, "new", None),
 ];
 
-/// Saves `new` over `old` with the word 42, stopped at the n-th call: whether that leaves the file and the temp file so.
-fn stops_so(
-    alloc: Global,
-    n: u64,
-    part: usize,
-    file: &str,
-    temp: Option<&str>,
-) -> Result<bool, AllocError> {
+/// Saves `new` over `old` with the word 42, stopped at the n-th call.
+fn stopped(alloc: Global, n: u64, part: usize) -> Result<MemoryFolder, AllocError> {
     let mut folder = MemoryFolder::new(alloc).with("c.0", b"old")?;
     let started: Result<ShardSaver<AllocError>, ShardSaveError<AllocError>> = ShardSaver::start(
         alloc,
@@ -203,14 +197,22 @@ fn stops_so(
         }
     }
     folder.mend();
-    let wanted = (Some(file.as_bytes()), temp.map(|text| text.as_bytes()));
-    Ok((folder.get("c.0"), folder.get(TEMP)) == wanted)
+    Ok(folder)
+}
+
+/// Whether the file and the temp file are there with these bytes.
+fn has_so(folder: &MemoryFolder, file: Option<&str>, temp: Option<&str>) -> bool {
+    let wanted = (
+        file.map(|text| text.as_bytes()),
+        temp.map(|text| text.as_bytes()),
+    );
+    (folder.get("c.0"), folder.get(TEMP)) == wanted
 }
 
 /// The first row, if there is one, that ends otherwise.
 fn wrong_stop(alloc: Global) -> Result<Option<(u64, usize)>, AllocError> {
     for (call, part, file, temp) in STOPS {
-        if !stops_so(alloc, call, part, file, temp)? {
+        if !has_so(&stopped(alloc, call, part)?, Some(file), temp) {
             return Ok(Some((call, part)));
         }
     }
@@ -221,6 +223,77 @@ fn wrong_stop(alloc: Global) -> Result<Option<(u64, usize)>, AllocError> {
 #[test]
 fn a_stop_leaves_old_or_new(rt: HostRuntime) -> Result<(), Fail> {
     assert_eq!(rt; wrong_stop(rt.alloc())?, None);
+    Ok(())
+}
+
+/// Losses of power after that save was stopped at a call: how many name changes since the last sync are kept, and what the
+/// file and the temp file then have. What was not safe is an `X`.
+const LOSSES: [(u64, usize, &str, Option<&str>); 8] = [
+    // At its write: the temp file was made, and no sync came after.
+    (1, 0, "old", None),
+    (1, 1, "old", Some("X")),
+    // At its sync.
+    (3, 0, "old", None),
+    (3, 1, "old", Some("X")),
+    (3, 9, "old", Some("X")),
+    // At its rename.
+    (4, 0, "old", Some("new")),
+    // Not stopped.
+    (9, 0, "old", Some("new")),
+    (9, 1, "new", None),
+];
+
+/// The first row, if there is one, that ends otherwise.
+fn wrong_loss(alloc: Global) -> Result<Option<(u64, usize)>, AllocError> {
+    for (call, names, file, temp) in LOSSES {
+        let folder = stopped(alloc, call, 0)?.after_loss(names, b'X')?;
+        if !has_so(&folder, Some(file), temp) {
+            return Ok(Some((call, names)));
+        }
+    }
+    Ok(None)
+}
+
+// A loss of power leaves the file old or new, whatever it makes of the temp file.
+#[test]
+fn a_loss_of_power_leaves_old_or_new(rt: HostRuntime) -> Result<(), Fail> {
+    assert_eq!(rt; wrong_loss(rt.alloc())?, None);
+    Ok(())
+}
+
+/// Losses of power after the temp file took the file's name without a sync, and was removed then: what is there. So much
+/// would a save lose that left its sync out.
+const UNSAFE_LOSSES: [(usize, Option<&str>, Option<&str>); 4] = [
+    (0, Some("old"), None),
+    (1, Some("old"), Some("X")),
+    (2, Some("X"), None),
+    (3, None, None),
+];
+
+/// That folder.
+fn without_sync(alloc: Global) -> Result<MemoryFolder, FolderFault> {
+    let mut folder = MemoryFolder::new(alloc).with("c.0", b"old")?;
+    folder.create(TEMP)?;
+    folder.write(b"new")?;
+    folder.rename(TEMP, "c.0")?;
+    folder.remove("c.0")?;
+    Ok(folder)
+}
+
+/// The first row, if there is one, that ends otherwise.
+fn wrong_unsafe_loss(alloc: Global) -> Result<Option<usize>, FolderFault> {
+    let folder = without_sync(alloc)?;
+    for (names, file, temp) in UNSAFE_LOSSES {
+        if !has_so(&folder.after_loss(names, b'X')?, file, temp) {
+            return Ok(Some(names));
+        }
+    }
+    Ok(None)
+}
+
+#[test]
+fn a_loss_of_power_without_a_sync(rt: HostRuntime) -> Result<(), Fail> {
+    assert_eq!(rt; wrong_unsafe_loss(rt.alloc())?, None);
     Ok(())
 }
 

@@ -1,0 +1,202 @@
+// The calls of a folder in memory, made again to see what a loss of power may leave.
+ghost use Rattle.std.specs.Prelude.{◌≡◌, ◌⊎◌, [], ◌∷◌, IfOk, IfSome, OnOk, None, Some, true};
+ghost use Rattle.std.specs.FinMap.{get};
+ghost use Rattle.lru_memory_folder.specs.DeedInside.{deed_of};
+ghost use Rattle.lru_memory_folder.specs.HeldInside.{entries_of, files_in};
+ghost use Rattle.lru_memory_folder.specs.History.{History, with_call};
+ghost use Rattle.lru_memory_folder.specs.ReplayInside.{IsReplay, IsSync, loss_in};
+ghost use Rattle.lru_memory_folder.specs.MarksInside.{given_by, lost_after, lost_done, lost_failed, marked, put_some};
+
+use crate::calls::{Call, End, Ended};
+use crate::held::{Held, copy_all, find, give, put, take_out};
+use crate::journal::apply;
+use std::alloc::{AllocError, Global};
+
+/// The files that the calls so far left, and what a loss of power may leave of them.
+#[derive(Drop)]
+pub(crate) struct Replay {
+    pub(crate) held: Held,
+    /// The same files, with the one byte in each loose path.
+    pub(crate) lost: Held,
+    /// What `lost` was before the first name change that is not kept, if there was one since the last sync.
+    pub(crate) chosen: Option<Held>,
+    /// How many name changes are still to be kept.
+    names_left: usize,
+}
+
+/// Puts the one byte into a path that is there.
+fn mark(alloc: Global, lost: &mut Held, held: &Held, path: &str, byte: u8) -> Result<(), AllocError>
+    ensures { OnOk result (files_in lost.new.entries ≡ marked path.now byte (files_in held.now.entries) (files_in lost.old.entries)) }
+{
+    match find(held, path) {
+        Some(_) => put(lost, String::from_str(alloc, path)?, vec![in alloc; byte]?),
+        None => Ok(()),
+    }
+}
+
+/// Gives a path that was synced its bytes back.
+fn restore(alloc: Global, lost: &mut Held, held: &Held, path: &str) -> Result<(), AllocError>
+    ensures { OnOk result (files_in lost.new.entries ≡ put_some path.now (get (files_in held.now.entries) path.now) (files_in lost.old.entries)) }
+{
+    match find(held, path) {
+        Some(bytes) => put(lost, String::from_str(alloc, path)?, bytes.to_vec(alloc)?),
+        None => Ok(()),
+    }
+}
+
+/// Gives a name away with its bytes. A name that is not there has none to give, and changes no file.
+fn hand_on(
+    alloc: Global,
+    lost: &mut Held,
+    held: &Held,
+    from: &str,
+    to: &str,
+) -> Result<(), AllocError>
+    ensures { OnOk result (files_in lost.new.entries ≡ given_by (get (files_in lost.old.entries) from.now) from.now to.now (files_in held.now.entries) (files_in lost.old.entries)) }
+{
+    let Some(bytes) = find(lost, from) else {
+        return restore(alloc, lost, held, to);
+    };
+    let bytes = bytes.to_vec(alloc)?;
+    give(lost, from, String::from_str(alloc, to)?, bytes)
+}
+
+/// Does to what a loss leaves what the whole of a call does, which left these files.
+fn lose_whole(
+    alloc: Global,
+    lost: &mut Held,
+    held: &Held,
+    call: &Call,
+    byte: u8,
+) -> Result<(), AllocError>
+    ensures { OnOk result (files_in lost.new.entries ≡ lost_done (deed_of call.now) byte (files_in held.now.entries) (files_in lost.old.entries)) }
+{
+    match call {
+        Call::Create(path) => mark(alloc, lost, held, path.as_str(), byte),
+        Call::Write(path, _) => mark(alloc, lost, held, path.as_str(), byte),
+        Call::Rename(from, to) => hand_on(alloc, lost, held, from.as_str(), to.as_str()),
+        Call::Remove(path) => {
+            take_out(lost, path.as_str());
+            Ok(())
+        }
+        Call::Sync(path) => restore(alloc, lost, held, path.as_str()),
+        Call::Look => Ok(()),
+    }
+}
+
+/// The same of a call that failed.
+fn lose_part(
+    alloc: Global,
+    lost: &mut Held,
+    held: &Held,
+    call: &Call,
+    byte: u8,
+) -> Result<(), AllocError>
+    ensures { OnOk result (files_in lost.new.entries ≡ lost_failed (deed_of call.now) byte (files_in held.now.entries) (files_in lost.old.entries)) }
+{
+    match call {
+        Call::Create(path) => mark(alloc, lost, held, path.as_str(), byte),
+        Call::Write(path, _) => mark(alloc, lost, held, path.as_str(), byte),
+        Call::Rename(_, _) => Ok(()),
+        Call::Remove(_) => Ok(()),
+        Call::Sync(_) => Ok(()),
+        Call::Look => Ok(()),
+    }
+}
+
+/// What a call does that ended so.
+fn lose(
+    alloc: Global,
+    lost: &mut Held,
+    held: &Held,
+    ended: &Ended,
+    byte: u8,
+) -> Result<(), AllocError>
+    ensures { OnOk result (files_in lost.new.entries ≡ lost_after (deed_of ended.now.call) ended.now.end byte (files_in held.now.entries) (files_in lost.old.entries)) }
+{
+    match ended.end {
+        End::Done => lose_whole(alloc, lost, held, &ended.call, byte),
+        End::NotFound => lose_part(alloc, lost, held, &ended.call, byte),
+        End::Failed(_) => lose_part(alloc, lost, held, &ended.call, byte),
+    }
+}
+
+/// Whether the call was the whole of a sync.
+fn is_sync(ended: &Ended) -> bool
+    ensures { ¬ (result ≡ true) → ¬ IsSync (deed_of ended.now.call) ended.now.end }
+{
+    matches!((&ended.call, ended.end), (Call::Sync(_), End::Done))
+}
+
+/// Whether the call was the whole of a change of names.
+fn changes_names(ended: &Ended) -> bool {
+    matches!(
+        (&ended.call, ended.end),
+        (
+            Call::Create(_) | Call::Rename(_, _) | Call::Remove(_),
+            End::Done
+        )
+    )
+}
+
+impl Replay {
+    /// Before the first call. `names`: how many name changes are kept.
+    pub(crate) fn new(begun: &Held, names: usize) -> Result<Self, AllocError>
+        ensures { IfOk result (IsReplay (record { begun = entries_of begun.now.entries; calls = [] })) }
+    {
+        Ok(Replay {
+            held: copy_all(begun)?,
+            lost: copy_all(begun)?,
+            chosen: None,
+            names_left: names,
+        })
+    }
+
+    /// Before a call: a sync makes all that came before it safe, and of the name changes after it `names` are kept.
+    fn choose(&mut self, ended: &Ended, names: usize) -> Result<(), AllocError>
+        ensures held { self.new.held ≡ self.old.held }
+        ensures lost { self.new.lost ≡ self.old.lost }
+        ensures sync { OnOk result (IsSync (deed_of ended.now.call) ended.now.end → self.new.chosen ≡ None) }
+        ensures chosen { OnOk result (IfSome self.new.chosen (λ files.
+            (self.old.chosen ≡ Some files) ⊎ (files_in files.entries ≡ files_in self.old.lost.entries))) }
+    {
+        if is_sync(ended) {
+            self.chosen = None;
+            self.names_left = names;
+        } else if changes_names(ended) && self.chosen.is_none() {
+            if self.names_left == 0 {
+                self.chosen = Some(copy_all(&self.lost)?);
+            } else {
+                self.names_left -= 1;
+            }
+        }
+        Ok(())
+    }
+
+    /// Makes a call again.
+    pub(crate) fn step(
+        &mut self,
+        alloc: Global,
+        ended: &Ended,
+        names: usize,
+        byte: u8,
+    ) -> Result<(), AllocError>
+        ensures { OnOk result ((h : History) → IsReplay h self.old → IsReplay (with_call h (deed_of ended.now.call) ended.now.end) self.new) }
+    {
+        self.choose(ended, names)?;
+        apply(alloc, &mut self.held, &ended.call, ended.end)?;
+        lose(alloc, &mut self.lost, &self.held, ended, byte)?;
+        Ok(())
+    }
+
+    /// What a loss of power leaves, once all calls were made.
+    pub(crate) fn into_lost(self) -> Held
+        ensures { (h : History) → IsReplay h self → (loss_in h).maps (files_in result.entries) }
+    {
+        let Replay { lost, chosen, .. } = self;
+        match chosen {
+            Some(files) => files,
+            None => lost,
+        }
+    }
+}
