@@ -1,4 +1,5 @@
-//! Touches and spills of two tiers, beside the promotes of one core and its evictions with an admission each.
+//! Touches and spills of two tiers, beside the promotes of one core, its evictions with an admission each, and evictions
+//! of one core with an admission to another each.
 ghost use Rattle.std.specs.Prelude.{◌<◌};
 
 use crate::trace;
@@ -50,6 +51,56 @@ fn measure_core<R: Print + Clock>(
         }
     }
     watch.tell(rt, "a core, evict and admit", done, rows as usize, start)
+}
+
+// Evicts each row of a core, and admits a row of that key to another: what a spill does, by two calls.
+fn evict_and_admit<R: Print + Clock>(
+    rt: &R,
+    watch: Watch,
+    rows: u64,
+    core: &mut LruCore<u64, 8>,
+    other: &mut LruCore<u64, 8>,
+) -> io::Result<()> {
+    let start = Instant::now(rt)?;
+    let mut done = 0usize;
+    for turn in 0..rows {
+        let (a, b) = draws(turn);
+        if let Some((key, weight)) = core.evict_step(a, b)
+            && other.admit(key, key, weight).is_ok()
+        {
+            done = done.wrapping_add(1);
+        }
+    }
+    let what = "a core, evict, and another, admit";
+    watch.tell(rt, what, done, rows as usize, start)
+}
+
+// Two cores, with the rows and the steps that the tiers have.
+fn measure_cores<R: Print + Clock>(
+    rt: &R,
+    alloc: Global,
+    watch: Watch,
+    rows: u32,
+    trace: &[u64],
+) -> io::Result<()> {
+    let rows = rows as u64;
+    let mut core = LruCore::<u64, 8>::with_capacity(alloc, 0, rows as usize / 4)?;
+    for key in 0..rows {
+        if core.admit(key, key, 1).is_err() {
+            return Err(no_room());
+        }
+    }
+    for key in trace {
+        core.promote(*key);
+    }
+    let mut other = LruCore::<u64, 8>::with_capacity(alloc, 0, rows as usize / 4)?;
+    evict_and_admit(rt, watch, rows, &mut core, &mut other)?;
+    for key in 0..rows {
+        if other.remove(key).is_some() && core.admit(key, key, 1).is_err() {
+            return Err(no_room());
+        }
+    }
+    evict_and_admit(rt, watch, rows, &mut core, &mut other)
 }
 
 // Spills each row, and touches each again, so that all rows are hot as before.
@@ -106,11 +157,12 @@ fn measure_tiers<R: Print + Clock>(
     spill_and_touch(rt, watch, rows, &mut tiered)
 }
 
-/// A million promotes and touches among so many rows, and each row evicted or spilled once.
+/// A million promotes and touches among so many rows, and each row evicted or spilled, at most twice.
 pub fn measure<R: Print + Clock>(rt: &R, alloc: Global, watch: Watch, rows: u32) -> io::Result<()>
     requires { 0 < rows }
 {
     let trace = trace::uniform_keys(alloc, 7, rows, 1_000_000)?;
     measure_core(rt, alloc, watch, rows, &trace)?;
+    measure_cores(rt, alloc, watch, rows, &trace)?;
     measure_tiers(rt, alloc, watch, rows, &trace)
 }
