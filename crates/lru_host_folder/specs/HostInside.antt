@@ -7,5 +7,5 @@ use Rattle.lru_host_folder.specs.declared.host_open.HostOpen.TheVariants.{Closed
 
 abbrev pub mode_of : {T : Type 0} → HostOpen T → Opened
 mode_of Closed = folder.Closed
-mode_of (Writing file) = folder.Writing []
-mode_of (Reading file) = folder.Lost
+mode_of (Writing file path) = folder.Writing []
+mode_of (Reading file path) = folder.Lost

@@ -4,6 +4,7 @@ ghost use Rattle.lru_folder.specs.Folder as mode;
 
 use crate::claim::Claim;
 use crate::host_open::HostOpen;
+use log::{Log, warn};
 use lru_folder::fault::FolderFault;
 use lru_folder::folder::Folder;
 use lru_folder::listed::Listed;
@@ -24,6 +25,9 @@ use std::{fs, io};
 /// From `create` until it has its name, or the next call that closes it, a file is locked: another such folder, in this
 /// process or not, neither creates nor removes it, and answers `Io`. `rename` syncs the folder of the new name, and answers
 /// `Io` where that fails, though the name is given. What is a link or a pipe is not opened.
+///
+/// Before it answers `Io` it logs a warning by its runtime: the call, the path and what the system said, as no space, no
+/// permission or too long a name. A plain runtime logs to the standard error; a `log::Logged` to a log of one's own.
 #[derive(Drop)]
 pub struct HostFolder<R: Files> {
     rt: R,
@@ -52,12 +56,31 @@ impl<R: Files> HostFolder<R> {
     }
 }
 
+/// An error of the system that is `Io` to a folder. What the system said is logged.
+fn refused<L: Log>(log: &L, call: &str, path: &str, error: io::Error) -> FolderFault {
+    warn!(log; "failed to {call} {path}: {error}");
+    FolderFault::Io
+}
+
 /// What an error of the system is to a folder.
-fn fault(error: io::Error) -> FolderFault {
+fn fault<L: Log>(log: &L, call: &str, path: &str, error: io::Error) -> FolderFault {
     match error.kind() {
         ErrorKind::NotFound => FolderFault::NotFound,
         ErrorKind::OutOfMemory => FolderFault::Memory,
-        _ => FolderFault::Io,
+        _ => refused(log, call, path, error),
+    }
+}
+
+/// What a folder answers where the system answers so.
+fn answer<L: Log, T>(
+    log: &L,
+    call: &str,
+    path: &str,
+    answered: io::Result<T>,
+) -> Result<T, FolderFault> {
+    match answered {
+        Ok(value) => Ok(value),
+        Err(error) => Err(fault(log, call, path, error)),
     }
 }
 
@@ -100,14 +123,14 @@ fn read_once<T: Read>(file: &mut T, piece: &mut [u8]) -> io::Result<usize> {
     Err(io::Error::from(ErrorKind::Interrupted))
 }
 
-impl<R: Files> HostFolder<R>
+impl<R: Files + Log> HostFolder<R>
 where
     R::File: Claim,
 {
     /// Opens a file to read, with its length. What is no file, as a link or a pipe, is refused before it is opened.
     fn open_file(&self, path: &str) -> io::Result<(R::File, u64)> {
         if !fs::symlink_metadata(&self.rt, path)?.is_file() {
-            return Err(io::Error::from(ErrorKind::InvalidInput));
+            return Err(io::Error::new(ErrorKind::InvalidInput, "not a file"));
         }
         let file = fs::open(&self.rt, path)?;
         let len = file.metadata()?.len();
@@ -119,7 +142,7 @@ where
         if file.claim() && is_same(&file.metadata()?, &fs::symlink_metadata(&self.rt, path)?) {
             Ok(())
         } else {
-            Err(io::Error::from(ErrorKind::ResourceBusy))
+            Err(io::Error::new(ErrorKind::ResourceBusy, "in use by another folder"))
         }
     }
 
@@ -141,21 +164,26 @@ where
             .open(&self.rt, path)
     }
 
-    /// Creates a file, claimed from then on until it is closed. A leftover of the same name is removed first.
-    fn create_anew(&self, path: &str) -> Result<R::File, FolderFault> {
-        let file = match self.create_new(path) {
+    /// Creates a file. A leftover of the same name is removed first.
+    fn create_anew(&self, path: &str) -> io::Result<R::File> {
+        match self.create_new(path) {
             Err(error) if error.kind() == ErrorKind::AlreadyExists => {
                 match self.remove_unclaimed(path) {
-                    Err(error) if error.kind() != ErrorKind::NotFound => return Err(fault(error)),
+                    Err(error) if error.kind() != ErrorKind::NotFound => return Err(error),
                     _ => {}
                 }
-                self.create_new(path).map_err(fault)?
+                self.create_new(path)
             }
-            created => created.map_err(fault)?,
-        };
+            created => created,
+        }
+    }
+
+    /// Creates a file, claimed from then on until it is closed.
+    fn create_claimed(&self, path: &str) -> Result<R::File, FolderFault> {
+        let file = answer(&self.rt, "create", path, self.create_anew(path))?;
         match self.claim(&file, path) {
             Ok(()) => Ok(file),
-            Err(_) => Err(FolderFault::Io),
+            Err(error) => Err(refused(&self.rt, "create", path, error)),
         }
     }
 
@@ -165,13 +193,13 @@ where
         if let Err(error) = fs::rename(&self.rt, from, to) {
             // The system says the same where the folder of the new name is not there.
             return match fs::symlink_metadata(&self.rt, from) {
-                Ok(_) => Err(FolderFault::Io),
-                Err(_) => Err(fault(error)),
+                Ok(_) => Err(refused(&self.rt, "give a file the name", to, error)),
+                Err(_) => Err(fault(&self.rt, "rename", from, error)),
             };
         }
         match sync_folder(&self.rt, folder_of(to)) {
             Ok(()) => Ok(()),
-            Err(_) => Err(FolderFault::Io),
+            Err(error) => Err(refused(&self.rt, "sync the folder of", to, error)),
         }
     }
 }
@@ -199,7 +227,7 @@ impl<R: Files + AllocGlobal + Clone + Drop> HostFolder<R> {
     }
 }
 
-impl<R: Files + AllocGlobal + Clone + Drop> Folder for HostFolder<R>
+impl<R: Files + Log + AllocGlobal + Clone + Drop> Folder for HostFolder<R>
 where
     R::File: Claim,
 {
@@ -235,39 +263,36 @@ where
 
     fn make(&mut self, dir: &str) -> Result<(), FolderFault> {
         self.file = HostOpen::Closed;
-        fs::create_dir_all(&self.rt, dir).map_err(fault)
+        answer(&self.rt, "create", dir, fs::create_dir_all(&self.rt, dir))
     }
 
     fn create(&mut self, path: &str) -> Result<(), FolderFault> {
         self.file = HostOpen::Closed;
-        match self.create_anew(path) {
-            Ok(file) => {
-                self.file = HostOpen::Writing(file);
-                Ok(())
-            }
-            Err(fault) => Err(fault),
-        }
+        let name = String::from_str(self.rt.alloc(), path)?;
+        let file = self.create_claimed(path)?;
+        self.file = HostOpen::Writing(file, name);
+        Ok(())
     }
 
     fn write(&mut self, piece: &[u8]) -> Result<(), FolderFault> {
-        let HostOpen::Writing(file) = &mut self.file else {
+        let HostOpen::Writing(file, path) = &mut self.file else {
             unreachable!()
         };
-        file.write_all(piece).map_err(fault)
+        answer(&self.rt, "write to", path, file.write_all(piece))
     }
 
     fn flush(&mut self) -> Result<(), FolderFault> {
-        let HostOpen::Writing(file) = &mut self.file else {
+        let HostOpen::Writing(file, path) = &mut self.file else {
             unreachable!()
         };
-        file.flush().map_err(fault)
+        answer(&self.rt, "flush", path, file.flush())
     }
 
     fn sync(&mut self) -> Result<(), FolderFault> {
-        let HostOpen::Writing(file) = &mut self.file else {
+        let HostOpen::Writing(file, path) = &mut self.file else {
             unreachable!()
         };
-        file.sync_all().map_err(fault)
+        answer(&self.rt, "sync", path, file.sync_all())
     }
 
     fn rename(&mut self, from: &str, to: &str) -> Result<(), FolderFault> {
@@ -279,28 +304,21 @@ where
 
     fn open(&mut self, path: &str) -> Result<u64, FolderFault> {
         self.file = HostOpen::Closed;
-        match self.open_file(path) {
-            Ok((file, len)) => {
-                self.file = HostOpen::Reading(file);
-                Ok(len)
-            }
-            Err(error) => Err(fault(error)),
-        }
+        let name = String::from_str(self.rt.alloc(), path)?;
+        let (file, len) = answer(&self.rt, "open", path, self.open_file(path))?;
+        self.file = HostOpen::Reading(file, name);
+        Ok(len)
     }
 
     fn read(&mut self, max: usize) -> Result<Vec<u8>, FolderFault> {
         let alloc = self.rt.alloc();
-        let HostOpen::Reading(file) = &mut self.file else {
+        let HostOpen::Reading(file, path) = &mut self.file else {
             unreachable!()
         };
         let mut piece = vec![in alloc; 0u8; max]?;
-        match read_once(file, &mut piece) {
-            Ok(count) => {
-                piece.truncate(count);
-                Ok(piece)
-            }
-            Err(error) => Err(fault(error)),
-        }
+        let count = answer(&self.rt, "read from", path, read_once(file, &mut piece))?;
+        piece.truncate(count);
+        Ok(piece)
     }
 
     fn list(&mut self, dir: &str) -> Result<Vec<Listed>, FolderFault> {
@@ -308,10 +326,7 @@ where
         if dir.is_empty() {
             return Err(FolderFault::NotFound);
         }
-        let (names, unreadable) = match self.names(dir) {
-            Ok(names) => names,
-            Err(error) => return Err(fault(error)),
-        };
+        let (names, unreadable) = answer(&self.rt, "list", dir, self.names(dir))?;
         let mut listed = Vec::new(self.rt.alloc());
         for name in names {
             listed.push(Listed::Name(name))?;
@@ -324,6 +339,6 @@ where
 
     fn remove(&mut self, path: &str) -> Result<(), FolderFault> {
         self.file = HostOpen::Closed;
-        self.remove_unclaimed(path).map_err(fault)
+        answer(&self.rt, "remove", path, self.remove_unclaimed(path))
     }
 }

@@ -2,7 +2,7 @@
 ghost use Rattle.std.specs.Prelude.{◌≡◌, false};
 ghost use Rattle.pingora_lru_files.specs.Names.{has_slash};
 
-use log::sink;
+use log::{Level, Logged, sink};
 use lru_test_folders::odd_names::OddNames;
 use lru_test_folders::told::{are_lines, told_load, told_names, told_save};
 use pingora_lru_files::persistence::{Folder, FolderFault, HostFolder, load_shards, save_shards};
@@ -178,6 +178,101 @@ fn a_file_stands_where_the_folder_should_be(rt: HostRuntime) -> Result<(), Fail>
     Ok(())
 }
 
+/// How many shards of one are errored where a file stands in the folder's place. The folder logs where the load does.
+fn errored_by_one_log(rt: HostRuntime, log: &sink::Memory) -> Result<usize, AllocError> {
+    let mut folder = HostFolder::new(Logged::new(rt, Level::Info, log));
+    let mut deserialize = |_shard: usize, _bytes: &[u8]| -> Result<(), &str> { Ok(()) };
+    let report = load_shards(
+        rt.alloc(),
+        &mut folder,
+        log,
+        "causes_here",
+        "c",
+        1,
+        &mut deserialize,
+    )?;
+    Ok(report.error_shards)
+}
+
+// What the system says stands before the failure that it brought about.
+#[test]
+fn the_cause_is_logged_before(rt: HostRuntime) -> Result<(), Fail> {
+    fs::write(&rt, "causes_here", "abc")?;
+    let log = sink::Memory::new(rt.alloc());
+    let errored = errored_by_one_log(rt, &log)?;
+    let lines = log.into_lines().into_vec();
+    let is_told = are_lines(
+        &lines,
+        &[
+            (
+                "[WARN",
+                "] failed to open causes_here/c.0: Not a directory (os error 20)",
+            ),
+            (
+                "[WARN",
+                "] failed to load shard 0: failed to open causes_here/c.0: input or output failed. Skipping shard.",
+            ),
+            (
+                "[WARN",
+                "] failed to list causes_here: Not a directory (os error 20)",
+            ),
+            (
+                "[WARN",
+                "] failed to read directory causes_here: input or output failed",
+            ),
+            (
+                "[INFO",
+                "] Temp file cleanup completed. Removed: 0, Errors: 1",
+            ),
+            (
+                "[WARN",
+                "] Loaded 0/1 shards (missing: 0, errored: 1). LRU state may be incomplete.",
+            ),
+        ],
+    );
+    assert!(rt; (errored, is_told) == (1, true));
+    fs::remove_file(&rt, "causes_here")?;
+    Ok(())
+}
+
+/// What each of these calls is answered.
+fn refused_calls(rt: HostRuntime, log: &sink::Memory) -> [Result<(), FolderFault>; 4] {
+    let mut folder = HostFolder::new(Logged::new(rt, Level::Warn, log));
+    [
+        folder.make("quoted_here/file"),
+        folder.rename("quoted_here/file", "quoted_here/d"),
+        folder.rename("quoted_here/none", "quoted_here/d"),
+        folder.remove("quoted_here/none"),
+    ]
+}
+
+// A path that is not there is not a cause, and not logged.
+#[test]
+fn the_system_is_quoted(rt: HostRuntime) -> Result<(), Fail> {
+    fs::create_dir_all(&rt, "quoted_here/d")?;
+    fs::write(&rt, "quoted_here/file", "abc")?;
+    let log = sink::Memory::new(rt.alloc());
+    let answers = refused_calls(rt, &log);
+    let lines = log.into_lines().into_vec();
+    let (refused, missing) = (Err(FolderFault::Io), Err(FolderFault::NotFound));
+    let is_told = are_lines(
+        &lines,
+        &[
+            (
+                "[WARN",
+                "] failed to create quoted_here/file: File exists (os error 17)",
+            ),
+            (
+                "[WARN",
+                "] failed to give a file the name quoted_here/d: Is a directory (os error 21)",
+            ),
+        ],
+    );
+    assert!(rt; (answers, is_told) == ([refused, refused, missing, missing], true));
+    fs::remove_dir_all(&rt, "quoted_here")?;
+    Ok(())
+}
+
 #[test]
 fn a_folder_stands_where_the_file_should_be(rt: HostRuntime) -> Result<(), Fail> {
     fs::create_dir_all(&rt, "no_file/c.0")?;
@@ -208,7 +303,7 @@ fn a_name_is_not_utf8(rt: HostRuntime) -> Result<(), Fail> {
     fs::create_dir(&rt, "odd_names")?;
     fs::write(&rt, "odd_names/c.0", "abc")?;
     fs::write(&rt, "odd_names/c.0.0000002a.tmp", "ab")?;
-    let mut folder = HostFolder::new(OddNames::new(rt));
+    let mut folder = HostFolder::new(Logged::new(OddNames::new(rt), Level::Warn, sink::Discard));
     let names = told_names(rt.alloc(), &mut folder, "odd_names")?;
     let is_loaded = loads_so(
         rt.alloc(),
@@ -390,7 +485,11 @@ fn a_name_is_too_long(rt: HostRuntime) -> Result<(), Fail> {
 fn a_file_vanishes_while_the_folder_is_listed(rt: HostRuntime) -> Result<(), Fail> {
     fs::create_dir(&rt, "vanished")?;
     fs::write(&rt, "vanished/c.0.0000002a.tmp", "ab")?;
-    let mut folder = HostFolder::new(OddNames::vanished(rt));
+    let mut folder = HostFolder::new(Logged::new(
+        OddNames::vanished(rt),
+        Level::Warn,
+        sink::Discard,
+    ));
     let names = told_names(rt.alloc(), &mut folder, "vanished")?;
     assert!(rt; names.as_str() == "c.0.0000002a.tmp ");
     fs::remove_dir_all(&rt, "vanished")?;
