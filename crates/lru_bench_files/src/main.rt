@@ -24,17 +24,17 @@ const FEW: u64 = 10_000;
 
 /// What the arguments ask for.
 #[derive(Drop)]
-struct Asked {
+struct Task {
     rows: u64,
     what: String,
     folder: String,
 }
 
-fn asked(rt: &(impl Env + AllocGlobal)) -> io::Result<Option<Asked>> {
+fn asked(rt: &(impl Env + AllocGlobal)) -> io::Result<Option<Task>> {
     let mut words = env::args(rt)?.skip(1);
     let rows = words.next().and_then(|word| word.parse().ok());
     match (rows, words.next(), words.next()) {
-        (Some(rows), Some(what), Some(folder)) => Ok(Some(Asked { rows, what, folder })),
+        (Some(rows), Some(what), Some(folder)) => Ok(Some(Task { rows, what, folder })),
         _ => Ok(None),
     }
 }
@@ -101,25 +101,25 @@ fn in_memory(rt: HostRuntime, is_timed: bool, rows: u64) -> io::Result<()> {
 }
 
 fn main(rt: HostRuntime) -> io::Result<()> {
-    let Some(asked) = asked(&rt)? else {
+    let Some(task) = asked(&rt)? else {
         return in_memory(rt, false, FEW);
     };
-    let dir = asked.folder.as_str();
-    match asked.what.as_str() {
-        "memory" => in_memory(rt, true, asked.rows),
+    let dir = task.folder.as_str();
+    match task.what.as_str() {
+        "memory" => in_memory(rt, true, task.rows),
         "save" => save(
             rt,
             true,
             &mut HostFolder::new(rt),
             dir,
-            &filled(rt.alloc(), asked.rows)?,
+            &filled(rt.alloc(), task.rows)?,
         ),
         "load" => load(rt, true, &mut HostFolder::new(rt), dir),
         _ => tell(
             &rt,
             true,
             "rows",
-            filled(rt.alloc(), asked.rows)?.len(),
+            filled(rt.alloc(), task.rows)?.len(),
             Instant::now(&rt)?,
         ),
     }
