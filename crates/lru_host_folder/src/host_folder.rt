@@ -24,7 +24,9 @@ use std::{fs, io};
 ///
 /// From `create` until it has its name, or the next call that closes it, a file is locked: another such folder, in this
 /// process or not, neither creates nor removes it, and answers `Io`. `rename` syncs the folder of the new name, and answers
-/// `Io` where that fails, though the name is given. What is a link or a pipe is not opened.
+/// `Io` where that fails, though the name is given. What is a link or a pipe is not opened. `create` of a path that is there
+/// removes it first, so a stop between leaves no file there, where a folder's meaning leaves the old one or the empty one;
+/// saves create temp files alone.
 ///
 /// Before it answers `Io` it logs a warning by its runtime: the call, the path and what the system said, as no space, no
 /// permission or too long a name. A plain runtime logs to the standard error; a `log::Logged` to a log of one's own.

@@ -56,7 +56,7 @@ abbrev pub IsKept : {E : Type 0} → List ℕ → List ℕ → Files → ℕ →
 IsKept dir file_name files shard turn =
     IfNone turn.failed (IfOk turn.given (λ bytes. get files (shard_path dir file_name shard) ≡ Some bytes.items))
 
--- and a loss of power keeps them
+-- and no loss of power changes them
 abbrev pub IsFirm : {E : Type 0} → List ℕ → List ℕ → (List ℕ → Type 0) → ℕ → SaveTurn E → Type 0
 IsFirm dir file_name loose shard turn = IfNone turn.failed (¬ loose (shard_path dir file_name shard))
 
@@ -110,7 +110,7 @@ pub record SavesOne {F E : Type 0} (m : Meaning F) (dir file_name : List ℕ) (s
   pub any_moment : LeavesOnly m.clock m.stopped_since m.files (IsOldOrGiven dir file_name shard turn (m.files old)) old new
   -- and a loss of power leaves it as a loss at the start could have left it, or whole new
   pub any_loss : LosesOnly m.clock m.lost_since (IsOldOrGivenWhole dir file_name shard turn) old new
-  -- where the shard was saved, its file has the bytes given, which a loss of power keeps, and its temp file is gone
+  -- where the shard was saved, its file has the bytes given, which no loss of power changes, and its temp file is gone
   pub kept : IsKept dir file_name (m.files new) shard turn
   pub firm : IsFirm dir file_name (m.loose new) shard turn
   pub gone : IfNone turn.failed (get (m.files new) (temp_path dir file_name shard turn.word) ≡ None)

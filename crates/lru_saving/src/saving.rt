@@ -18,7 +18,8 @@ use std::fmt::Display;
 /// For each shard the closure is called for its bytes, and a random word is drawn for the name of its temp file. A shard
 /// fails where its names find no memory, where the closure gives an error, and where the folder fails; the others are
 /// saved none the less. A stop at any moment leaves each shard's file as it was, or with the bytes that were given. So does
-/// a loss of power, where *as it was* is as a loss at the start could have left it; it keeps each shard that is saved.
+/// a loss of power, where *as it was* is as a loss at the start could have left it. Of a shard that is saved no loss of
+/// power changes the bytes; its file's name is safe from the next sync on.
 ///
 /// `Setup(Memory)`: no room for the failures to come, and the folder was not asked. `Setup(CreateDir)`: `dir_path` was
 /// not made. After both the closure was not called. `AllShardsFailed`: as many shards failed as there are.

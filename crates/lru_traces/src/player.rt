@@ -27,7 +27,7 @@ pub struct Tally {
     pub bytes: u64,
     /// The sizes of those that found their object.
     pub hit_bytes: u64,
-    /// How many objects were evicted.
+    /// How many objects were evicted. One that a request makes larger than the limit leaves, and is none of these.
     pub evictions: u64,
 }
 
@@ -93,7 +93,7 @@ fn ask(unit: &mut LruUnit<()>, limit: usize, request: Request) -> Result<(bool, 
 }
 
 /// The tally of a trace by a cache that is empty at first, and keeps what was used last, as much of it as weighs no more
-/// than the limit.
+/// than the limit. An object that alone weighs more is not kept, and leaves the others as they are.
 ///
 /// It is refused for Memory, and for Length or Weight where a shard could not hold what the limit allows.
 pub fn play(alloc: Global, limit: usize, requests: &[Request]) -> Result<Tally, Cause>

@@ -1,9 +1,9 @@
 //! Saving the shards of an LRU to files, and loading them again.
 //!
 //! [`save_shards`] and [`ShardSaver`] write each shard into a file of its own: first to a temporary file, which is synced
-//! and then takes the place of the shard's file, so that a stop or a loss of power in between leaves the old shard or the
-//! new one. [`load_shards`] reads them again. All go through a [`Folder`]: [`HostFolder`] is the host's file system, and
-//! [`MemoryFolder`] keeps its files in memory.
+//! and then takes the place of the shard's file, so that a stop in between leaves the old shard or the new one, and a loss of
+//! power the one that a loss at the save's start could have left, or the new one. [`load_shards`] reads them again. All go
+//! through a [`Folder`]: [`HostFolder`] is the host's file system, and [`MemoryFolder`] keeps its files in memory.
 
 /// Why a shard was not saved or loaded: which file's call failed, and at which shard.
 pub use lru_folder::errors::{
