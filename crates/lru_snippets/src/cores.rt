@@ -5,7 +5,7 @@ use pingora_lru::unit::Cause;
 use rand_core::Rng;
 use std::alloc::Global;
 
-/// The files that have to go, oldest first, for the others to fit the budget.
+/// The files that have to go for the others to fit the budget.
 pub fn over_budget<R: Rng>(
     alloc: Global,
     rng: &mut R,
