@@ -22,28 +22,38 @@ fn made(alloc: Global) -> Result<(LedgerState<u8>, Vec<PutShare>, Vec<TakeShare>
     }
 }
 
-pub fn script<W: Write>(alloc: Global, out: &mut W) -> io::Result<()> {
-    let (mut ledger, mut puts, mut takes) = made(alloc)?;
-    let (Some(mut putter), Some(mut taker)) = (puts.pop(), takes.pop()) else {
-        return Ok(());
-    };
+// Puts six pairs.
+fn puts<W: Write>(
+    ledger: &mut LedgerState<u8>,
+    putter: &mut PutShare,
+    taker: &TakeShare,
+    out: &mut W,
+) -> io::Result<()> {
     for key in 0..6u8 {
-        let before = shown(&ledger, &putter, &taker);
+        let before = shown(ledger, putter, taker);
         let hash = key as u64;
-        let answer = match ledger.put(&mut putter, hash, key, 1) {
-            Err(MailError::Memory(held))
-                if held == key && before == shown(&ledger, &putter, &taker) => {
-                ledger.put(&mut putter, hash, key, 1)
-            }
+        let answer = match ledger.put(putter, hash, key, 1) {
+            Err(MailError::Memory(held)) if held == key && before == shown(ledger, putter, taker) =>
+                { ledger.put(putter, hash, key, 1) }
             answer => answer,
         };
         let put = answer.is_ok();
         writeln!(out, "put {key} {put}")?;
     }
+    Ok(())
+}
+
+// Takes four.
+fn takes<W: Write>(
+    ledger: &mut LedgerState<u8>,
+    putter: &PutShare,
+    taker: &mut TakeShare,
+    out: &mut W,
+) -> io::Result<()> {
     for _ in 0..4 {
-        let before = shown(&ledger, &putter, &taker);
-        let answer = match ledger.take(&mut taker) {
-            Err(_) if before == shown(&ledger, &putter, &taker) => ledger.take(&mut taker),
+        let before = shown(ledger, putter, taker);
+        let answer = match ledger.take(taker) {
+            Err(_) if before == shown(ledger, putter, taker) => ledger.take(taker),
             answer => answer,
         };
         let Ok(Some((slip, key))) = answer else {
@@ -53,7 +63,26 @@ pub fn script<W: Write>(alloc: Global, out: &mut W) -> io::Result<()> {
         let number = slip.number;
         writeln!(out, "took {number} {key}")?;
     }
+    Ok(())
+}
+
+fn calls<W: Write>(
+    ledger: &mut LedgerState<u8>,
+    putter: &mut PutShare,
+    taker: &mut TakeShare,
+    out: &mut W,
+) -> io::Result<()> {
+    puts(ledger, putter, taker, out)?;
+    takes(ledger, putter, taker, out)?;
     ledger.leave();
-    let all = shown(&ledger, &putter, &taker);
+    let all = shown(ledger, putter, taker);
     writeln!(out, "left {all:?}")
+}
+
+pub fn script<W: Write>(alloc: Global, out: &mut W) -> io::Result<()> {
+    let (mut ledger, mut puts, mut takes) = made(alloc)?;
+    let (Some(mut putter), Some(mut taker)) = (puts.pop(), takes.pop()) else {
+        return Ok(());
+    };
+    calls(&mut ledger, &mut putter, &mut taker, out)
 }

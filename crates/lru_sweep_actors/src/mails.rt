@@ -19,13 +19,17 @@ fn push(mail: &mut MailState<u8>, message: u8) -> Result<(), MailError<u8>> {
     }
 }
 
-pub fn script<W: Write>(alloc: Global, out: &mut W) -> io::Result<()> {
-    let mut mail = MailState::new(alloc);
+fn calls<W: Write>(mail: &mut MailState<u8>, out: &mut W) -> io::Result<()> {
     for message in 0..20u8 {
-        let put = push(&mut mail, message).is_ok();
+        let put = push(mail, message).is_ok();
         writeln!(out, "pushed {message} {put}")?;
     }
     let first = mail.pop();
-    let all = shown(&mail);
+    let all = shown(mail);
     writeln!(out, "first {first:?}, then {all:?}")
+}
+
+pub fn script<W: Write>(alloc: Global, out: &mut W) -> io::Result<()> {
+    let mut mail = MailState::new(alloc);
+    calls(&mut mail, out)
 }

@@ -4,7 +4,7 @@ use lru_actors::message::LruMsg;
 use lru_actors::process::process_msg;
 use lru_actors::state::ShardState;
 use lru_mailbox::MailState;
-use std::alloc::Global;
+use std::alloc::{AllocError, Global};
 use std::collections::HashMap;
 use std::io;
 use std::io::Write;
@@ -95,20 +95,24 @@ fn process(
     effect
 }
 
-pub fn script<W: Write>(alloc: Global, out: &mut W) -> io::Result<()> {
-    let mut state = match ShardState::with_capacity(alloc, 0, 10) {
-        Ok(state) => state,
-        Err(_) => ShardState::with_capacity(alloc, 0, 10)?,
-    };
-    let mut map = HashMap::new(alloc);
-    let mut queue = MailState::new(alloc);
+// Processes each message in turn, and shows what it left.
+fn steps<W: Write>(
+    state: &mut ShardState<u8>,
+    map: &mut HashMap<u64, usize>,
+    queue: &mut MailState<(u8, usize)>,
+    out: &mut W,
+) -> io::Result<()> {
     for step in 0..STEPS {
-        let effect = process(&mut state, &mut map, &mut queue, step);
+        let effect = process(state, map, queue, step);
         let (refused, reply) = (effect.refused, effect.reply);
         writeln!(out, "message {step} refused {refused} reply {reply:?}")?;
-        let all = shown(&state, &map, &queue);
+        let all = shown(state, map, queue);
         writeln!(out, "left {all:?}")?;
     }
+    Ok(())
+}
+
+fn write_evicted<W: Write>(queue: &mut MailState<(u8, usize)>, out: &mut W) -> io::Result<()> {
     for _ in 0..STEPS {
         let Some((key, weight)) = queue.pop() else {
             break;
@@ -116,4 +120,19 @@ pub fn script<W: Write>(alloc: Global, out: &mut W) -> io::Result<()> {
         writeln!(out, "evicted {key} {weight}")?;
     }
     Ok(())
+}
+
+fn made(alloc: Global) -> Result<ShardState<u8>, AllocError> {
+    match ShardState::with_capacity(alloc, 0, 10) {
+        Ok(state) => Ok(state),
+        Err(_) => ShardState::with_capacity(alloc, 0, 10),
+    }
+}
+
+pub fn script<W: Write>(alloc: Global, out: &mut W) -> io::Result<()> {
+    let mut state = made(alloc)?;
+    let mut map = HashMap::new(alloc);
+    let mut queue = MailState::new(alloc);
+    steps(&mut state, &mut map, &mut queue, out)?;
+    write_evicted(&mut queue, out)
 }
