@@ -1,10 +1,11 @@
 // Evictions of one shard and of two, and the two cores of which one keeps a beginning of the other's rows.
-use crate::made;
+ghost use Rattle.std.specs.Prelude.{◌<◌};
+
 use lru_cores::lru_core::LruCore;
 use lru_shard::unit::{Cause, Refused};
 use rand::rngs::StdRng;
 use rand_core::{Rng, SeedableRng};
-use std::alloc::Global;
+use std::alloc::{AllocError, Global};
 use std::io;
 use std::io::Write;
 
@@ -30,6 +31,20 @@ fn shown<const N: usize>(core: &LruCore<u64, N>) -> Shown {
             core.evicted_weight(),
         ],
     )
+}
+
+// A core, at the second try where the first one found no memory.
+fn made<const N: usize>(
+    alloc: Global,
+    limit: usize,
+    watermark: Option<usize>,
+) -> Result<LruCore<u64, N>, AllocError>
+    requires { 0 < N }
+{
+    match LruCore::with_capacity_and_watermark(alloc, limit, 0, watermark) {
+        Ok(core) => Ok(core),
+        Err(_) => LruCore::with_capacity_and_watermark(alloc, limit, 0, watermark),
+    }
 }
 
 // Admits a key as its own data, at the second try where the first was refused for memory and changed nothing.
@@ -63,14 +78,28 @@ fn evict<R: Rng, W: Write, const N: usize>(
     writer: &mut W,
 ) -> io::Result<()> {
     match core.evict_to_limit(alloc, rng) {
+        Ok(pairs) => return write_pairs(&pairs, writer),
+        Err(stopped) => write_pairs(&stopped.evicted, writer)?,
+    }
+    match core.evict_to_limit(alloc, rng) {
         Ok(pairs) => write_pairs(&pairs, writer),
-        Err(stopped) => {
-            write_pairs(&stopped.evicted, writer)?;
-            match core.evict_to_limit(alloc, rng) {
-                Ok(pairs) => write_pairs(&pairs, writer),
-                Err(_) => writeln!(writer, "refused twice"),
-            }
-        }
+        Err(_) => writeln!(writer, "refused twice"),
+    }
+}
+
+// Evicts to the limit, and where memory cuts it short evicts the rest; how many rows left.
+fn evicted_len<R: Rng, const N: usize>(
+    core: &mut LruCore<u64, N>,
+    alloc: Global,
+    rng: &mut R,
+) -> usize {
+    let first = match core.evict_to_limit(alloc, rng) {
+        Ok(pairs) => return pairs.len(),
+        Err(stopped) => stopped.evicted.len(),
+    };
+    match core.evict_to_limit(alloc, rng) {
+        Ok(pairs) => first.saturating_add(pairs.len()),
+        Err(_) => 0,
     }
 }
 
@@ -80,17 +109,24 @@ fn write_shown<W: Write, const N: usize>(core: &LruCore<u64, N>, writer: &mut W)
     writeln!(writer, "{counters:?} {rows:?}")
 }
 
+fn admissions<W: Write, const N: usize>(
+    core: &mut LruCore<u64, N>,
+    keys: u64,
+    weight: usize,
+    writer: &mut W,
+) -> io::Result<()> {
+    for key in 0..keys {
+        let answer = admit(core, key, weight);
+        writeln!(writer, "admit {key} {answer:?}")?;
+    }
+    Ok(())
+}
+
 // Five rows of weight 2 under a limit of 10, which falls to 4.
 fn one_shard<W: Write>(alloc: Global, writer: &mut W) -> io::Result<()> {
     let mut rng = StdRng::seed_from_u64(7);
-    let mut core = made(
-        alloc,
-        |alloc| LruCore::<u64, 1>::with_capacity(alloc, 10, 0),
-    )?;
-    for key in 0..5u64 {
-        let answer = admit(&mut core, key, 2);
-        writeln!(writer, "admit {key} {answer:?}")?;
-    }
+    let mut core = made::<1>(alloc, 10, None)?;
+    admissions(&mut core, 5, 2, writer)?;
     core.set_weight_limit(4);
     evict(&mut core, alloc, &mut rng, writer)?;
     write_shown(&core, writer)
@@ -99,39 +135,37 @@ fn one_shard<W: Write>(alloc: Global, writer: &mut W) -> io::Result<()> {
 // Six rows above a watermark of 2.
 fn two_shards<W: Write>(alloc: Global, writer: &mut W) -> io::Result<()> {
     let mut rng = StdRng::seed_from_u64(1);
-    let mut core = made(
-        alloc,
-        |alloc| LruCore::<u64, 2>::with_capacity_and_watermark(alloc, 100, 0, Some(2)),
-    )?;
-    for key in 0..6u64 {
-        let answer = admit(&mut core, key, 1);
-        writeln!(writer, "admit {key} {answer:?}")?;
-    }
+    let mut core = made::<2>(alloc, 100, Some(2))?;
+    admissions(&mut core, 6, 1, writer)?;
     // Which rows leave hangs on the draws: how many leave does not.
-    let evicted = match core.evict_to_limit(alloc, &mut rng) {
-        Ok(pairs) => pairs.len(),
-        Err(stopped) => match core.evict_to_limit(alloc, &mut rng) {
-            Ok(pairs) => stopped.evicted.len().saturating_add(pairs.len()),
-            Err(_) => 0,
-        },
-    };
+    let evicted = evicted_len(&mut core, alloc, &mut rng);
     let len = core.len();
     writeln!(writer, "{evicted} rows left, and {len} are left")
 }
 
-// The limits 3 and 5, and the keys 1, 2, 3, 1, 4 of weight 2.
-fn two_limits<W: Write>(alloc: Global, writer: &mut W) -> io::Result<()> {
+// The keys 1, 2, 3, 1, 4 of weight 2 in both cores.
+fn same_keys<W: Write>(
+    small: &mut LruCore<u64, 1>,
+    large: &mut LruCore<u64, 1>,
+    alloc: Global,
+    writer: &mut W,
+) -> io::Result<()> {
     let mut rng = StdRng::seed_from_u64(7);
-    let mut small = made(alloc, |alloc| LruCore::<u64, 1>::with_capacity(alloc, 3, 0))?;
-    let mut large = made(alloc, |alloc| LruCore::<u64, 1>::with_capacity(alloc, 5, 0))?;
     for key in [1, 2, 3, 1, 4u64] {
-        let answers = (admit(&mut small, key, 2), admit(&mut large, key, 2));
+        let answers = (admit(small, key, 2), admit(large, key, 2));
         writeln!(writer, "admit {key} {answers:?}")?;
-        evict(&mut small, alloc, &mut rng, writer)?;
-        evict(&mut large, alloc, &mut rng, writer)?;
+        evict(small, alloc, &mut rng, writer)?;
+        evict(large, alloc, &mut rng, writer)?;
     }
-    write_shown(&small, writer)?;
-    write_shown(&large, writer)
+    write_shown(small, writer)?;
+    write_shown(large, writer)
+}
+
+// The limits 3 and 5.
+fn two_limits<W: Write>(alloc: Global, writer: &mut W) -> io::Result<()> {
+    let mut small = made(alloc, 3, None)?;
+    let mut large = made(alloc, 5, None)?;
+    same_keys(&mut small, &mut large, alloc, writer)
 }
 
 pub fn script<W: Write>(alloc: Global, writer: &mut W) -> io::Result<()> {

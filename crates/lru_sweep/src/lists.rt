@@ -1,7 +1,6 @@
 // Pushes and removals of the linked list.
-use crate::made;
 use lru_list::linked_list::{Index, LinkedListU64, PushError};
-use std::alloc::Global;
+use std::alloc::{AllocError, Global};
 use std::io;
 use std::io::Write;
 
@@ -50,19 +49,41 @@ fn reserved<W: Write>(list: &mut LinkedListU64, writer: &mut W) -> io::Result<()
     writeln!(writer, "of a thousand pushes with room {refused} refused")
 }
 
-pub fn script<W: Write>(alloc: Global, writer: &mut W) -> io::Result<()> {
-    let mut list = made(alloc, |alloc| LinkedListU64::with_capacity(alloc, 0))?;
+// A list, at the second try where the first one found no memory.
+fn made(alloc: Global, capacity: usize) -> Result<LinkedListU64, AllocError> {
+    match LinkedListU64::with_capacity(alloc, capacity) {
+        Ok(list) => Ok(list),
+        Err(_) => LinkedListU64::with_capacity(alloc, capacity),
+    }
+}
+
+// Pushes into a list that grows with them, and then into room that is made for a thousand.
+fn grown<W: Write>(list: &mut LinkedListU64, writer: &mut W) -> io::Result<()> {
     for item in 1..=6u64 {
-        let answer = push(&mut list, item);
+        let answer = push(list, item);
         writeln!(writer, "pushed {answer:?}")?;
     }
-    reuse(&mut list, writer)?;
-    let items = shown(&list);
+    reuse(list, writer)?;
+    let items = shown(list);
     writeln!(writer, "items {items:?}")?;
     if list.reserve(1000).is_err() {
         list.reserve(1000)?;
     }
-    reserved(&mut list, writer)?;
-    let mut roomy = made(alloc, |alloc| LinkedListU64::with_capacity(alloc, 1000))?;
-    reserved(&mut roomy, writer)
+    reserved(list, writer)
+}
+
+// (each list has a function of its own, which has the proof of its drop)
+fn empty_list<W: Write>(alloc: Global, writer: &mut W) -> io::Result<()> {
+    let mut list = made(alloc, 0)?;
+    grown(&mut list, writer)
+}
+
+fn roomy_list<W: Write>(alloc: Global, writer: &mut W) -> io::Result<()> {
+    let mut list = made(alloc, 1000)?;
+    reserved(&mut list, writer)
+}
+
+pub fn script<W: Write>(alloc: Global, writer: &mut W) -> io::Result<()> {
+    empty_list(alloc, writer)?;
+    roomy_list(alloc, writer)
 }

@@ -7,18 +7,7 @@ mod cores;
 mod lists;
 mod shards;
 
-use std::alloc::{AllocError, Global};
 use std::process::ExitCode;
-
-// What a constructor makes, at the second try where the first one found no memory.
-fn made<A, F: Fn(Global) -> Result<A, AllocError>>(alloc: Global, make: F) -> Result<A, AllocError>
-    requires { F.IsAlwaysCallable make }
-{
-    match make(alloc) {
-        Ok(made) => Ok(made),
-        Err(_) => make(alloc),
-    }
-}
 
 fn main(rt: HostRuntime) -> ExitCode {
     let alloc = rt.alloc();

@@ -1,7 +1,6 @@
 // Calls of one shard under a cap of 10, refusals among them.
-use crate::made;
 use lru_shard::unit::{Cause, LruUnit, Refused};
-use std::alloc::Global;
+use std::alloc::{AllocError, Global};
 use std::io;
 use std::io::Write;
 
@@ -14,6 +13,14 @@ fn shown(unit: &LruUnit<u64>) -> Shown {
         *slot = (*data, weight);
     }
     (rows, unit.len(), unit.used_weight())
+}
+
+// A shard, at the second try where the first one found no memory.
+fn made(alloc: Global, capacity: usize, cap: usize) -> Result<LruUnit<u64>, AllocError> {
+    match LruUnit::with_capacity(alloc, capacity, cap) {
+        Ok(unit) => Ok(unit),
+        Err(_) => LruUnit::with_capacity(alloc, capacity, cap),
+    }
 }
 
 fn admit(
@@ -129,6 +136,10 @@ fn admissions<W: Write>(unit: &mut LruUnit<u64>, writer: &mut W) -> io::Result<(
         let answer = admit(unit, key, data, weight);
         writeln!(writer, "admit {key} {answer:?}")?;
     }
+    Ok(())
+}
+
+fn tails<W: Write>(unit: &mut LruUnit<u64>, writer: &mut W) -> io::Result<()> {
     for (key, weight) in [(3, 0), (4, 6), (1, 9)] {
         let answer = insert_tail(unit, key, weight);
         writeln!(writer, "tail {key} {answer:?}")?;
@@ -136,7 +147,7 @@ fn admissions<W: Write>(unit: &mut LruUnit<u64>, writer: &mut W) -> io::Result<(
     write_shown(unit, writer)
 }
 
-fn changes<W: Write>(unit: &mut LruUnit<u64>, writer: &mut W) -> io::Result<()> {
+fn increments<W: Write>(unit: &mut LruUnit<u64>, writer: &mut W) -> io::Result<()> {
     for (key, delta, most) in [
         (1, 1, None),
         (5, 4, Some(0)),
@@ -147,6 +158,10 @@ fn changes<W: Write>(unit: &mut LruUnit<u64>, writer: &mut W) -> io::Result<()> 
         let answer = increment(unit, key, delta, most);
         writeln!(writer, "increment {key} {answer:?}")?;
     }
+    Ok(())
+}
+
+fn updates<W: Write>(unit: &mut LruUnit<u64>, writer: &mut W) -> io::Result<()> {
     for (key, data, weight) in [(2, 23, 0), (7, 77, 0), (8, 88, 11), (7, 78, 11)] {
         let answer = update(unit, key, data, weight);
         writeln!(writer, "update {key} {answer:?}")?;
@@ -155,15 +170,14 @@ fn changes<W: Write>(unit: &mut LruUnit<u64>, writer: &mut W) -> io::Result<()> 
 }
 
 // A shard with no room for a row more refuses before any data are made.
-fn full<W: Write>(alloc: Global, writer: &mut W) -> io::Result<()> {
-    let mut unit = made(alloc, |alloc| LruUnit::with_capacity(alloc, 0, 1))?;
+fn refusals<W: Write>(unit: &mut LruUnit<u64>, writer: &mut W) -> io::Result<()> {
     for key in [1, 2, 1u64] {
-        let answer = insert_tail(&mut unit, key, 0);
+        let answer = insert_tail(unit, key, 0);
         writeln!(writer, "tail {key} {answer:?}")?;
     }
-    let answer = increment(&mut unit, 2, 1, None);
+    let answer = increment(unit, 2, 1, None);
     writeln!(writer, "increment 2 {answer:?}")?;
-    let answer = update(&mut unit, 2, 2, 1);
+    let answer = update(unit, 2, 2, 1);
     writeln!(writer, "update 2 {answer:?}")
 }
 
@@ -178,16 +192,36 @@ fn reserved<W: Write>(unit: &mut LruUnit<u64>, writer: &mut W) -> io::Result<()>
     writeln!(writer, "of a hundred rows with room {refused} refused")
 }
 
-pub fn script<W: Write>(alloc: Global, writer: &mut W) -> io::Result<()> {
-    let mut unit = made(alloc, |alloc| LruUnit::with_capacity(alloc, 0, 10))?;
+// (each shard has a function of its own, which has the proof of its drop)
+fn worked<W: Write>(alloc: Global, writer: &mut W) -> io::Result<()> {
+    let mut unit = made(alloc, 0, 10)?;
     admissions(&mut unit, writer)?;
-    changes(&mut unit, writer)?;
-    full(alloc, writer)?;
-    let mut roomy = made(alloc, |alloc| LruUnit::with_capacity(alloc, 100, 1000))?;
-    reserved(&mut roomy, writer)?;
-    let mut late = made(alloc, |alloc| LruUnit::with_capacity(alloc, 0, 1000))?;
-    if late.reserve(100).is_err() {
-        late.reserve(100)?;
+    tails(&mut unit, writer)?;
+    increments(&mut unit, writer)?;
+    updates(&mut unit, writer)
+}
+
+fn full<W: Write>(alloc: Global, writer: &mut W) -> io::Result<()> {
+    let mut unit = made(alloc, 0, 1)?;
+    refusals(&mut unit, writer)
+}
+
+fn roomy<W: Write>(alloc: Global, writer: &mut W) -> io::Result<()> {
+    let mut unit = made(alloc, 100, 1000)?;
+    reserved(&mut unit, writer)
+}
+
+fn late<W: Write>(alloc: Global, writer: &mut W) -> io::Result<()> {
+    let mut unit = made(alloc, 0, 1000)?;
+    if unit.reserve(100).is_err() {
+        unit.reserve(100)?;
     }
-    reserved(&mut late, writer)
+    reserved(&mut unit, writer)
+}
+
+pub fn script<W: Write>(alloc: Global, writer: &mut W) -> io::Result<()> {
+    worked(alloc, writer)?;
+    full(alloc, writer)?;
+    roomy(alloc, writer)?;
+    late(alloc, writer)
 }
