@@ -3,12 +3,15 @@ ghost use Rattle.std.specs.Prelude.{◌<◌};
 
 use crate::rows::{empty, filled, is_part, write_rows};
 use log::sink;
-use lru_test_folders::refusals::{Ending, Loaded, end_of_save, is_unloaded_for_memory, source_of};
+use lru_test_folders::refusals::{
+    Ending, Loaded, Saved, end_of_save, is_unloaded_for_memory, source_of,
+};
 use lru_test_folders::two_shards::{
     EVEN_BYTES, folder_to_load, folder_to_save, has_temp, is_saved,
 };
+use pingora_lru::lru_core::LruCore;
 use pingora_lru_files::persistence::{FolderFault, MemoryFolder};
-use pingora_lru_files::snapshot::{load_core, save_and_load};
+use pingora_lru_files::snapshot::{Keyed, load_core, save_and_load};
 use rand::rngs::StdRng;
 use rand_core::SeedableRng;
 use std::alloc::{AllocError, Global};
@@ -52,6 +55,41 @@ fn write_loaded<W: Write>(loaded: &Loaded, writer: &mut W) -> io::Result<()> {
     }
 }
 
+fn write_load<W: Write, const N: usize>(
+    loaded: &Loaded,
+    core: &LruCore<Keyed, N>,
+    writer: &mut W,
+) -> io::Result<()> {
+    write_loaded(loaded, writer)?;
+    write_rows(core, writer)
+}
+
+fn load<const N: usize>(
+    alloc: Global,
+    folder: &mut MemoryFolder,
+    core: &mut LruCore<Keyed, N>,
+) -> Loaded {
+    let log = sink::Memory::new(alloc);
+    load_core(alloc, folder, &log, "d", "c", core)
+}
+
+// Loads another core after the one whose load was refused memory.
+fn load_again<W: Write, const N: usize>(
+    alloc: Global,
+    folder: &mut MemoryFolder,
+    refused: &LruCore<Keyed, N>,
+    writer: &mut W,
+) -> io::Result<()>
+    requires { 0 < N }
+{
+    let mut core = empty::<N>(alloc)?;
+    let loaded = load(alloc, folder, &mut core);
+    if !is_part(refused, &core) {
+        writeln!(writer, "a refused load left other rows")?;
+    }
+    write_load(&loaded, &core, writer)
+}
+
 /// Loads a core without rows, and another one where the first was refused memory: each shard of the first has its rows
 /// or none.
 fn load_at_last<W: Write, const N: usize>(
@@ -61,28 +99,24 @@ fn load_at_last<W: Write, const N: usize>(
 ) -> io::Result<()>
     requires { 0 < N }
 {
-    let log = sink::Memory::new(alloc);
     let mut core = empty::<N>(alloc)?;
-    let loaded = load_core(alloc, folder, &log, "d", "c", &mut core);
+    let loaded = load(alloc, folder, &mut core);
     if is_refused(&loaded) {
-        let mut again = empty::<N>(alloc)?;
-        let loaded = load_core(alloc, folder, &log, "d", "c", &mut again);
-        if !is_part(&core, &again) {
-            writeln!(writer, "a refused load left other rows")?;
-        }
-        write_loaded(&loaded, writer)?;
-        return write_rows(&again, writer);
+        return load_again(alloc, folder, &core, writer);
     }
-    write_loaded(&loaded, writer)?;
-    write_rows(&core, writer)
+    write_load(&loaded, &core, writer)
+}
+
+fn write_files<W: Write>(folder: &MemoryFolder, writer: &mut W) -> io::Result<()> {
+    let (files, temp) = (is_saved(folder), has_temp(folder));
+    writeln!(writer, "files {files}, temp file {temp}")
 }
 
 // Two whole files and a temp file.
 fn two_shards<W: Write>(alloc: Global, writer: &mut W) -> io::Result<()> {
     let mut folder = folder_to_load(alloc)?;
     load_at_last::<W, 2>(alloc, &mut folder, writer)?;
-    let (files, temp) = (is_saved(&folder), has_temp(&folder));
-    writeln!(writer, "files {files}, temp file {temp}")
+    write_files(&folder, writer)
 }
 
 fn folder_of_three(alloc: Global) -> Result<MemoryFolder, AllocError> {
@@ -100,30 +134,45 @@ fn three_shards<W: Write>(alloc: Global, writer: &mut W) -> io::Result<()> {
     load_at_last::<W, 3>(alloc, &mut folder, writer)
 }
 
+// What was saved and loaded again; whether neither was refused memory.
+fn write_back<W: Write>(
+    core: &LruCore<Keyed, 2>,
+    back: &LruCore<Keyed, 2>,
+    saved: &Saved,
+    loaded: &Loaded,
+    writer: &mut W,
+) -> io::Result<bool> {
+    if end_of_save(saved) == Ending::Whole && !is_refused(loaded) {
+        write_load(loaded, back, writer)?;
+        return Ok(true);
+    }
+    if !is_part(back, core) {
+        writeln!(writer, "a refused load left other rows")?;
+    }
+    Ok(false)
+}
+
+// Saves a core over older files, and loads another one from there; whether neither was refused memory.
+fn save_and_load_once<W: Write>(
+    alloc: Global,
+    core: &LruCore<Keyed, 2>,
+    rng: &mut StdRng,
+    writer: &mut W,
+) -> io::Result<bool> {
+    let log = sink::Memory::new(alloc);
+    let mut folder = folder_to_save(alloc)?;
+    let mut back = empty::<2>(alloc)?;
+    let (saved, loaded) = save_and_load(alloc, &mut folder, rng, &log, "d", "c", core, &mut back);
+    write_back(core, &back, &saved, &loaded, writer)
+}
+
 // Saved over older files, and loaded into a core without rows; made again, with other files, where memory was refused.
 fn there_and_back<W: Write>(alloc: Global, writer: &mut W) -> io::Result<()> {
     let core = filled(alloc)?;
-    let log = sink::Memory::new(alloc);
     let mut rng = StdRng::seed_from_u64(7);
     for _ in 0..2u8 {
-        let mut folder = folder_to_save(alloc)?;
-        let mut back = empty::<2>(alloc)?;
-        let (saved, loaded) = save_and_load(
-            alloc,
-            &mut folder,
-            &mut rng,
-            &log,
-            "d",
-            "c",
-            &core,
-            &mut back,
-        );
-        if end_of_save(&saved) == Ending::Whole && !is_refused(&loaded) {
-            write_loaded(&loaded, writer)?;
-            return write_rows(&back, writer);
-        }
-        if !is_part(&back, &core) {
-            writeln!(writer, "a refused load left other rows")?;
+        if save_and_load_once(alloc, &core, &mut rng, writer)? {
+            return Ok(());
         }
     }
     writeln!(writer, "refused twice")

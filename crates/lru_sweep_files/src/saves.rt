@@ -65,31 +65,49 @@ fn is_new_or_none(folder: &MemoryFolder, path: &str) -> bool {
     }
 }
 
-// Three shards, of which one is refused.
-fn three_shards<W: Write>(alloc: Global, writer: &mut W) -> io::Result<()> {
-    let mut folder = MemoryFolder::new(alloc);
-    let mut saved = save_three(alloc, &mut folder);
-    if !is_whole(&saved) {
-        if !is_new_or_none(&folder, "d/c.0") || !is_new_or_none(&folder, "d/c.2") {
-            writeln!(writer, "a refused save left other bytes")?;
-        }
-        saved = save_three(alloc, &mut folder);
-    }
-    match &saved {
+fn write_saved<W: Write>(saved: &Refusable, writer: &mut W) -> io::Result<()> {
+    match saved {
         Ok(report) => {
             let (saved, failed) = (report.saved_shards, report.failed_shards);
             writeln!(writer, "saved {saved} failed {failed}")?;
             for failure in &report.failures {
                 writeln!(writer, "{failure}")?;
             }
+            Ok(())
         }
-        Err(error) => writeln!(writer, "{error}")?,
+        Err(error) => writeln!(writer, "{error}"),
     }
+}
+
+// Saves three shards, at the second try where the first one was refused memory.
+fn save_three_at_last<W: Write>(
+    alloc: Global,
+    folder: &mut MemoryFolder,
+    writer: &mut W,
+) -> io::Result<()> {
+    let saved = save_three(alloc, folder);
+    if is_whole(&saved) {
+        return write_saved(&saved, writer);
+    }
+    if !is_new_or_none(folder, "d/c.0") || !is_new_or_none(folder, "d/c.2") {
+        writeln!(writer, "a refused save left other bytes")?;
+    }
+    write_saved(&save_three(alloc, folder), writer)
+}
+
+fn write_files<W: Write>(folder: &MemoryFolder, writer: &mut W) -> io::Result<()> {
     for path in ["d/c.0", "d/c.1", "d/c.2"] {
         let bytes = folder.get(path);
         writeln!(writer, "{path} {bytes:?}")?;
     }
     Ok(())
+}
+
+// Three shards, of which one is refused.
+fn three_shards<W: Write>(alloc: Global, writer: &mut W) -> io::Result<()> {
+    let mut folder = MemoryFolder::new(alloc);
+    save_three_at_last(alloc, &mut folder, writer)?;
+    write_files(&folder, writer)
 }
 
 fn save(alloc: Global, folder: &mut MemoryFolder, core: &LruCore<Keyed, 2>) -> Saved {
@@ -98,22 +116,43 @@ fn save(alloc: Global, folder: &mut MemoryFolder, core: &LruCore<Keyed, 2>) -> S
     save_core(alloc, folder, &mut rng, &log, "d", "c", core)
 }
 
+// How a save ended, at the second try where the first one was refused memory, and whether that one left the bytes that
+// were there or are to be.
+fn end_at_last(
+    alloc: Global,
+    folder: &mut MemoryFolder,
+    core: &LruCore<Keyed, 2>,
+) -> (Ending, bool) {
+    let saved = save(alloc, folder, core);
+    let ending = end_of_save(&saved);
+    if ending != Ending::Refused {
+        return (ending, true);
+    }
+    let is_kept = is_old_or_new(folder) && (saved.is_ok() || is_old(folder));
+    (end_of_save(&save(alloc, folder, core)), is_kept)
+}
+
+fn save_at_last<W: Write>(
+    alloc: Global,
+    folder: &mut MemoryFolder,
+    core: &LruCore<Keyed, 2>,
+    writer: &mut W,
+) -> io::Result<()> {
+    let before = (rows_of(core, 0), rows_of(core, 1));
+    let (ending, is_kept) = end_at_last(alloc, folder, core);
+    if !is_kept {
+        writeln!(writer, "a refused save left other bytes")?;
+    }
+    let files = is_saved(folder);
+    let same = before == (rows_of(core, 0), rows_of(core, 1));
+    writeln!(writer, "{ending:?}, files {files}, rows {same}")
+}
+
 // A core of two shards over older files.
 fn core_of_two<W: Write>(alloc: Global, writer: &mut W) -> io::Result<()> {
     let core = filled(alloc)?;
-    let before = (rows_of(&core, 0), rows_of(&core, 1));
     let mut folder = folder_to_save(alloc)?;
-    let mut saved = save(alloc, &mut folder, &core);
-    if end_of_save(&saved) == Ending::Refused {
-        if !is_old_or_new(&folder) || (saved.is_err() && !is_old(&folder)) {
-            writeln!(writer, "a refused save left other bytes")?;
-        }
-        saved = save(alloc, &mut folder, &core);
-    }
-    let ending = end_of_save(&saved);
-    let files = is_saved(&folder);
-    let same = before == (rows_of(&core, 0), rows_of(&core, 1));
-    writeln!(writer, "{ending:?}, files {files}, rows {same}")
+    save_at_last(alloc, &mut folder, &core, writer)
 }
 
 pub fn script<W: Write>(alloc: Global, writer: &mut W) -> io::Result<()> {
