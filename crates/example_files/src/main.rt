@@ -48,13 +48,18 @@ fn names_of<R: Files + AllocGlobal + Clone + Drop>(
     Ok(names)
 }
 
+/// The bytes of a file.
+fn size_of(rt: HostRuntime, folder: &str, name: &str) -> io::Result<u64> {
+    let path = format!(in rt.alloc(); "{folder}/{name}")?;
+    Ok(fs::metadata(&rt, &path)?.len())
+}
+
 /// The order of a folder's files, each with its size.
 fn order_of(rt: HostRuntime, folder: &str, names: &[String], budget: usize) -> io::Result<Order> {
     let mut order = Order::with_capacity(rt.alloc(), budget, names.len())?;
     let mut place = 0u64;
     for name in names {
-        let path = format!(in rt.alloc(); "{folder}/{name}")?;
-        let bytes = fs::metadata(&rt, &path)?.len();
+        let bytes = size_of(rt, folder, name)?;
         if let Err(refused) = order.admit(place, place, bytes as usize) {
             println!(rt; "{name} is refused: {:?}", refused.cause)?;
         }
@@ -91,6 +96,11 @@ fn read_uses(rt: HostRuntime, names: &[String], order: &mut Order) -> io::Result
     Ok(is_good)
 }
 
+fn remove_file(rt: HostRuntime, folder: &str, name: &str) -> io::Result<()> {
+    let path = format!(in rt.alloc(); "{folder}/{name}")?;
+    fs::remove_file(&rt, &path)
+}
+
 /// Removes the files of these pairs.
 fn remove_files(
     rt: HostRuntime,
@@ -100,12 +110,23 @@ fn remove_files(
 ) -> io::Result<()> {
     for (place, bytes) in pairs {
         if let Some(name) = names.get(*place as usize) {
-            let path = format!(in rt.alloc(); "{folder}/{name}")?;
-            fs::remove_file(&rt, &path)?;
+            remove_file(rt, folder, name)?;
             println!(rt; "removed {name}, {bytes} bytes")?;
         }
     }
     Ok(())
+}
+
+/// Removes the files used longest ago, until those that are left keep the budget.
+fn shrink(rt: HostRuntime, folder: &str, names: &[String], order: &mut Order) -> io::Result<()> {
+    let mut rng = StdRng::seed_from_u64(1);
+    match order.evict_to_limit(rt.alloc(), &mut rng) {
+        Ok(pairs) => remove_files(rt, folder, names, &pairs),
+        Err(stopped) => {
+            println!(rt; "no memory to remove all")?;
+            remove_files(rt, folder, names, &stopped.evicted)
+        }
+    }
 }
 
 fn main(rt: HostRuntime) -> io::Result<ExitCode> {
@@ -119,14 +140,7 @@ fn main(rt: HostRuntime) -> io::Result<ExitCode> {
     if !read_uses(rt, &names, &mut order)? {
         return Ok(ExitCode::from(2));
     }
-    let mut rng = StdRng::seed_from_u64(1);
-    match order.evict_to_limit(rt.alloc(), &mut rng) {
-        Ok(pairs) => remove_files(rt, &folder, &names, &pairs)?,
-        Err(stopped) => {
-            println!(rt; "no memory to remove all")?;
-            remove_files(rt, &folder, &names, &stopped.evicted)?;
-        }
-    }
+    shrink(rt, &folder, &names, &mut order)?;
     println!(rt; "{} files, {} bytes", order.len(), order.weight())?;
     Ok(ExitCode::SUCCESS)
 }
