@@ -61,20 +61,28 @@ fn serve(
     Ok(())
 }
 
+/// Serves each line of the input; whether all were good ones.
+fn serve_lines(rt: HostRuntime, table: &mut Table, budget: usize) -> io::Result<bool> {
+    let mut number = 0u64;
+    for line in rt.lines(rt.alloc()) {
+        number = number.saturating_add(1);
+        let Some((id, bytes)) = text_of(line)?.and_then(|line| request(&line)) else {
+            println!(rt; "error line {number}")?;
+            return Ok(false);
+        };
+        serve(&rt, table, id, bytes, budget)?;
+    }
+    Ok(true)
+}
+
 fn main(rt: HostRuntime) -> io::Result<ExitCode> {
     let Some(budget) = budget(&rt)? else {
         println!(rt; "usage: example_sessions BUDGET")?;
         return Ok(ExitCode::from(2));
     };
     let mut table = empty_table(rt.alloc())?;
-    let mut number = 0u64;
-    for line in rt.lines(rt.alloc()) {
-        number = number.saturating_add(1);
-        let Some((id, bytes)) = text_of(line)?.and_then(|line| request(&line)) else {
-            println!(rt; "error line {number}")?;
-            return Ok(ExitCode::from(2));
-        };
-        serve(&rt, &mut table, id, bytes, budget)?;
+    if !serve_lines(rt, &mut table, budget)? {
+        return Ok(ExitCode::from(2));
     }
     println!(rt; "{} sessions, {} bytes", table.len(), table.used_weight())?;
     Ok(ExitCode::SUCCESS)
