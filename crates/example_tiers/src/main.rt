@@ -58,22 +58,30 @@ fn tell(rt: &impl Print, key: u64, answer: &Answer) -> io::Result<()> {
     Ok(())
 }
 
-fn main(rt: HostRuntime) -> io::Result<ExitCode> {
-    let Some((hot, cold)) = budgets(&rt)? else {
-        println!(rt; "usage: example_tiers HOT COLD")?;
-        return Ok(ExitCode::from(2));
-    };
-    let mut cache = Cache::with_limits(rt.alloc(), hot, cold, 0)?;
+/// Asks for the object of each line of the input; whether all were good ones.
+fn ask_all(rt: HostRuntime, cache: &mut Cache) -> io::Result<bool> {
     let mut rng = StdRng::seed_from_u64(1);
     let mut number = 0u64;
     for line in rt.lines(rt.alloc()) {
         number = number.saturating_add(1);
         let Some((key, bytes)) = text_of(line)?.and_then(|line| two_numbers(&line)) else {
             println!(rt; "error line {number}")?;
-            return Ok(ExitCode::from(2));
+            return Ok(false);
         };
-        let answer = ask(rt.alloc(), &mut cache, &mut rng, key, bytes);
+        let answer = ask(rt.alloc(), cache, &mut rng, key, bytes);
         tell(&rt, key, &answer)?;
+    }
+    Ok(true)
+}
+
+fn main(rt: HostRuntime) -> io::Result<ExitCode> {
+    let Some((hot, cold)) = budgets(&rt)? else {
+        println!(rt; "usage: example_tiers HOT COLD")?;
+        return Ok(ExitCode::from(2));
+    };
+    let mut cache = Cache::with_limits(rt.alloc(), hot, cold, 0)?;
+    if !ask_all(rt, &mut cache)? {
+        return Ok(ExitCode::from(2));
     }
     println!(rt;
         "hot {} bytes, cold {} bytes",
