@@ -42,25 +42,33 @@ fn budget(rt: &(impl Env + AllocGlobal)) -> io::Result<Option<usize>> {
     Ok(words.next().and_then(|word| word.parse().ok()))
 }
 
-/// Saves the order and answers the one that is loaded from its files, with the same budget.
-fn restart(rt: HostRuntime, store: &Store, rng: &mut StdRng) -> io::Result<Store> {
-    let mut folder = HostFolder::new(rt);
+/// Saves the order.
+fn save(
+    rt: HostRuntime,
+    folder: &mut HostFolder<HostRuntime>,
+    store: &Store,
+    rng: &mut StdRng,
+) -> io::Result<()> {
     match save_core(
         rt.alloc(),
-        &mut folder,
+        folder,
         rng,
         &Console(rt),
         "store",
         "order",
         store,
     ) {
-        Ok(report) => println!(rt; "saved {} shards", report.saved_shards)?,
-        Err(error) => println!(rt; "not saved: {error}")?,
+        Ok(report) => println!(rt; "saved {} shards", report.saved_shards),
+        Err(error) => println!(rt; "not saved: {error}"),
     }
-    let mut back = empty_store(rt.alloc(), store.weight_limit())?;
+}
+
+/// The order that is loaded from its files.
+fn load(rt: HostRuntime, folder: &mut HostFolder<HostRuntime>, budget: usize) -> io::Result<Store> {
+    let mut back = empty_store(rt.alloc(), budget)?;
     let report = load_core(
         rt.alloc(),
-        &mut folder,
+        folder,
         &Console(rt),
         "store",
         "order",
@@ -72,6 +80,13 @@ fn restart(rt: HostRuntime, store: &Store, rng: &mut StdRng) -> io::Result<Store
         back.len()
     )?;
     Ok(back)
+}
+
+/// Saves the order and answers the one that is loaded from its files, with the same budget.
+fn restart(rt: HostRuntime, store: &Store, rng: &mut StdRng) -> io::Result<Store> {
+    let mut folder = HostFolder::new(rt);
+    save(rt, &mut folder, store, rng)?;
+    load(rt, &mut folder, store.weight_limit())
 }
 
 /// Does what a line asks for; whether it is a good one.
@@ -98,24 +113,32 @@ fn obey(rt: HostRuntime, store: &mut Store, rng: &mut StdRng, line: &str) -> io:
     Ok(true)
 }
 
+/// Obeys each line of the input; whether all were good ones.
+fn obey_lines(rt: HostRuntime, store: &mut Store) -> io::Result<bool> {
+    let mut rng = StdRng::seed_from_u64(1);
+    let mut number = 0u64;
+    for line in rt.lines(rt.alloc()) {
+        number = number.saturating_add(1);
+        let is_good = match text_of(line)? {
+            Some(line) => obey(rt, store, &mut rng, &line)?,
+            None => false,
+        };
+        if !is_good {
+            println!(rt; "error line {number}")?;
+            return Ok(false);
+        }
+    }
+    Ok(true)
+}
+
 fn main(rt: HostRuntime) -> io::Result<ExitCode> {
     let Some(budget) = budget(&rt)? else {
         println!(rt; "usage: example_objects BUDGET")?;
         return Ok(ExitCode::from(2));
     };
     let mut store = empty_store(rt.alloc(), budget)?;
-    let mut rng = StdRng::seed_from_u64(1);
-    let mut number = 0u64;
-    for line in rt.lines(rt.alloc()) {
-        number = number.saturating_add(1);
-        let is_good = match text_of(line)? {
-            Some(line) => obey(rt, &mut store, &mut rng, &line)?,
-            None => false,
-        };
-        if !is_good {
-            println!(rt; "error line {number}")?;
-            return Ok(ExitCode::from(2));
-        }
+    if !obey_lines(rt, &mut store)? {
+        return Ok(ExitCode::from(2));
     }
     println!(rt; "{} objects, {} bytes", store.len(), store.weight())?;
     Ok(ExitCode::SUCCESS)
