@@ -75,33 +75,63 @@ fn send(actor: &mut Actor, keys: &[u64], size: usize, is_new: bool) -> Result<us
     Ok(done.wrapping_add(actor.flush()))
 }
 
-/// Admits so many rows and promotes a million times, by a shard's own calls and by messages.
-pub fn measure<R: Print + Clock>(rt: &R, alloc: Global, watch: Watch, rows: u32) -> io::Result<()>
-    requires { 0 < rows }
-{
-    let trace = trace::uniform_keys(alloc, 7, rows, CALLS)?;
-    let mut all = Vec::with_capacity(alloc, rows as usize)?;
+// The keys of so many rows.
+fn keys_of(alloc: Global, rows: u32) -> Result<Vec<u64>, AllocError> {
+    let mut keys = Vec::with_capacity(alloc, rows as usize)?;
     for key in 0..rows as u64 {
-        all.push(key)?;
+        keys.push(key)?;
     }
-    let mut unit = LruUnit::with_capacity(alloc, rows as usize, usize::MAX)?;
+    Ok(keys)
+}
+
+// A shard's own calls.
+fn measure_unit<R: Print + Clock>(
+    rt: &R,
+    alloc: Global,
+    watch: Watch,
+    all: &[u64],
+    trace: &[u64],
+) -> io::Result<()> {
+    let mut unit = LruUnit::with_capacity(alloc, all.len(), usize::MAX)?;
     let start = Instant::now(rt)?;
     let done = all
         .iter()
         .filter(|key| unit.admit(**key, **key, 1).is_ok())
         .count();
-    watch.tell(rt, "a shard's own calls, admit", done, rows as usize, start)?;
+    watch.tell(rt, "a shard's own calls, admit", done, all.len(), start)?;
     let start = Instant::now(rt)?;
     let done = trace.iter().filter(|key| unit.access(**key)).count();
-    watch.tell(rt, "a shard's own calls, promote", done, CALLS, start)?;
+    watch.tell(rt, "a shard's own calls, promote", done, trace.len(), start)
+}
+
+// The same calls by messages in batches of this size.
+fn measure_messages<R: Print + Clock>(
+    rt: &R,
+    alloc: Global,
+    watch: Watch,
+    all: &[u64],
+    trace: &[u64],
+    size: usize,
+) -> io::Result<()> {
+    let mut actor = Actor::new(alloc, all.len())?;
+    for (keys, name) in [(all, "admit"), (trace, "promote")] {
+        let start = Instant::now(rt)?;
+        let done = send(&mut actor, keys, size, name == "admit")?;
+        print!(rt; "messages in batches of {size}, ")?;
+        watch.tell(rt, name, done, keys.len(), start)?;
+    }
+    Ok(())
+}
+
+/// Admits so many rows and promotes a million times, by a shard's own calls and by messages.
+pub fn measure<R: Print + Clock>(rt: &R, alloc: Global, watch: Watch, rows: u32) -> io::Result<()>
+    requires { 0 < rows }
+{
+    let trace = trace::uniform_keys(alloc, 7, rows, CALLS)?;
+    let all = keys_of(alloc, rows)?;
+    measure_unit(rt, alloc, watch, &all, &trace)?;
     for size in [1, MOST] {
-        let mut actor = Actor::new(alloc, rows as usize)?;
-        for (keys, name) in [(&all, "admit"), (&trace, "promote")] {
-            let start = Instant::now(rt)?;
-            let done = send(&mut actor, keys, size, name == "admit")?;
-            let what = format!(in alloc; "messages in batches of {size}, {name}")?;
-            watch.tell(rt, what.as_str(), done, keys.len(), start)?;
-        }
+        measure_messages(rt, alloc, watch, &all, &trace, size)?;
     }
     Ok(())
 }

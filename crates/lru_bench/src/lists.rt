@@ -24,6 +24,6 @@ pub fn measure<R: Print + Clock>(rt: &R, alloc: Global, watch: Watch, rows: u32)
     }
     let start = Instant::now(rt)?;
     let done = trace.iter().filter(|key| unit.access(**key)).count();
-    let what = format!(in alloc; "a list of {rows} rows, promote")?;
-    watch.tell(rt, what.as_str(), done, CALLS, start)
+    print!(rt; "a list of {rows} rows, ")?;
+    watch.tell(rt, "promote", done, CALLS, start)
 }

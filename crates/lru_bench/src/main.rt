@@ -16,6 +16,7 @@ mod tiers;
 mod trace;
 mod watch;
 
+use std::env::Env;
 use std::{env, io};
 use watch::Watch;
 
@@ -23,12 +24,24 @@ const FEW: u32 = 50_000;
 
 const MANY: u32 = 1_000_000;
 
+/// Whether one of the arguments is this word.
+fn is_asked(rt: &(impl Env + AllocGlobal), wanted: &str) -> io::Result<bool> {
+    let mut words = env::args(rt)?;
+    // (the first is the program's name)
+    words.next();
+    for word in words {
+        if word.as_str() == wanted {
+            return Ok(true);
+        }
+    }
+    Ok(false)
+}
+
 fn main(rt: HostRuntime) -> io::Result<()> {
-    let is_timed = env::args(&rt)?.skip(1).any(|word| word.as_str() == "time");
-    let is_beside_peers = env::args(&rt)?
-        .skip(1)
-        .any(|word| word.as_str() == "threads");
-    let watch = Watch { is_timed };
+    let watch = Watch {
+        is_timed: is_asked(&rt, "time")?,
+    };
+    let is_beside_peers = is_asked(&rt, "threads")?;
     threads::measure(&rt, rt.alloc(), watch, FEW as usize)?;
     threads::measure(&rt, rt.alloc(), watch, MANY as usize)?;
     if is_beside_peers {

@@ -52,6 +52,25 @@ fn record<B: Registry, R: Print + Clock + Wait>(
     Ok(())
 }
 
+// The same calls, which leave nothing.
+fn promote<R: Print + Clock + Wait>(
+    rt: &R,
+    alloc: Global,
+    watch: Watch,
+    rows: u32,
+    trace: &[u64],
+) -> io::Result<()> {
+    let lru = Lru::<u64, 8>::with_capacity(alloc, usize::MAX, rows as usize)?;
+    for key in 0..rows as u64 {
+        if lru.admit(rt, key, key, 1).is_err() {
+            return Err(io::Error::from(io::ErrorKind::OutOfMemory));
+        }
+    }
+    let start = Instant::now(rt)?;
+    let done = trace.iter().filter(|key| lru.promote(rt, **key)).count();
+    watch.tell(rt, "not recorded, N = 8, promote", done, CALLS, start)
+}
+
 /// Promotes a million times among so many rows, recorded and not.
 pub fn measure<R: Print + Clock + Wait>(
     rt: &R,
@@ -62,15 +81,7 @@ pub fn measure<R: Print + Clock + Wait>(
     requires { 0 < rows }
 {
     let trace = trace::uniform_keys(alloc, 7, rows, CALLS)?;
-    let lru = Lru::<u64, 8>::with_capacity(alloc, usize::MAX, rows as usize)?;
-    for key in 0..rows as u64 {
-        if lru.admit(rt, key, key, 1).is_err() {
-            return Err(io::Error::from(io::ErrorKind::OutOfMemory));
-        }
-    }
-    let start = Instant::now(rt)?;
-    let done = trace.iter().filter(|key| lru.promote(rt, **key)).count();
-    watch.tell(rt, "not recorded, N = 8, promote", done, CALLS, start)?;
+    promote(rt, alloc, watch, rows, &trace)?;
     let names = Names {
         shards: 8,
         seats: 1,

@@ -105,39 +105,61 @@ fn work_on<O: Order, R: Wait>(rt: &R, order: &O, work: Work, keys: &[u64]) -> us
         .count()
 }
 
-// Fills an order with all rows, and times the work of so many senders until all of it is done.
-fn time<O: Order, R: Print + Clock + Threads + Wait + Sync>(
-    rt: &R,
-    alloc: Global,
-    watch: Watch,
-    order: &O,
-    name: &str,
-    work: Work,
-    senders: usize,
-) -> io::Result<()> {
-    let all = calls_of(watch);
-    let trace = trace::uniform_keys(alloc, 13, ROWS, all)?;
-    let calls = (all / senders.max(1)).max(1);
+// Fills an order with all rows.
+fn fill<O: Order, R: Wait>(rt: &R, order: &O) -> io::Result<()> {
     for key in 0..ROWS as u64 {
         if !order.admit(rt, key) {
             return Err(io::Error::from(io::ErrorKind::OutOfMemory));
         }
     }
     order.finish(rt);
-    let start = Instant::now(rt)?;
+    Ok(())
+}
+
+// The work of senders that make so many calls each, and how often it was taken.
+fn send<O: Order, R: Threads + Wait + Sync>(
+    rt: &R,
+    alloc: Global,
+    order: &O,
+    work: Work,
+    keys: &[u64],
+    calls: usize,
+) -> io::Result<usize>
+    requires { 0 < calls }
+{
     let counts = thread::map_chunks(
         rt,
         alloc,
-        &trace,
+        keys,
         calls,
         &|_, keys| work_on(rt, order, work, keys),
     )?;
     order.finish(rt);
-    let count = counts
-        .iter()
-        .fold(0usize, |sum, count| sum.wrapping_add(*count));
-    let what = format!(in alloc; "{name}, senders = {senders}, {}", work.name())?;
-    watch.tell(rt, what.as_str(), count, all, start)
+    Ok(
+        counts
+            .iter()
+            .fold(0usize, |sum, count| sum.wrapping_add(*count)),
+    )
+}
+
+// Fills an order with all rows, and times the work of so many senders until all of it is done.
+fn time<O: Order, R: Print + Clock + Threads + Wait + Sync, const N: usize>(
+    rt: &R,
+    alloc: Global,
+    watch: Watch,
+    order: &O,
+    who: &str,
+    work: Work,
+    senders: usize,
+) -> io::Result<()> {
+    let all = calls_of(watch);
+    let trace = trace::uniform_keys(alloc, 13, ROWS, all)?;
+    let calls = (all / senders.max(1)).max(1);
+    fill(rt, order)?;
+    let start = Instant::now(rt)?;
+    let count = send(rt, alloc, order, work, &trace, calls)?;
+    print!(rt; "{who}, N = {N}, senders = {senders}, ")?;
+    watch.tell(rt, work.name(), count, all, start)
 }
 
 // An order whose actors evict beyond so many rows.
@@ -161,7 +183,6 @@ fn actors<R: Threads + Wait + Copy + Send + 'static, const N: usize>(
 // Times how long an admission takes from its sending to its effect.
 fn answer<R: Print + Clock + Wait, const N: usize>(
     rt: &R,
-    alloc: Global,
     watch: Watch,
     lru: &AsyncLru<u64, N>,
 ) -> io::Result<()> {
@@ -175,8 +196,64 @@ fn answer<R: Print + Clock + Wait, const N: usize>(
             count = count.wrapping_add(1);
         }
     }
-    let what = format!(in alloc; "by actors, N = {N}, an admission and its effect")?;
-    watch.tell(rt, what.as_str(), count, ROWS as usize, start)
+    print!(rt; "by actors, N = {N}, ")?;
+    watch.tell(
+        rt,
+        "an admission and its effect",
+        count,
+        ROWS as usize,
+        start,
+    )
+}
+
+// Times senders to an order behind locks.
+fn time_locks<R: Print + Clock + Threads + Wait + Sync, const N: usize>(
+    rt: &R,
+    alloc: Global,
+    watch: Watch,
+    work: Work,
+    senders: usize,
+) -> io::Result<()>
+    requires { 0 < N }
+{
+    let lru = Lru::<u64, N>::with_capacity(alloc, usize::MAX, ROWS as usize / N)?;
+    time::<_, R, N>(rt, alloc, watch, &lru, "behind locks", work, senders)
+}
+
+// Times senders to actors, with a limit that is not passed or with one that is.
+fn time_actors<R: Print + Clock + Threads + Wait + Copy + Send + Sync + 'static, const N: usize>(
+    rt: R,
+    alloc: Global,
+    watch: Watch,
+    is_evicting: bool,
+    work: Work,
+    senders: usize,
+) -> io::Result<()>
+    requires { 0 < N }
+{
+    let (limit, who) = if is_evicting {
+        (ROWS as usize / 2, "by actors that evict")
+    } else {
+        (usize::MAX, "by actors")
+    };
+    let lru = actors::<R, N>(rt, alloc, limit)?;
+    time::<_, R, N>(&rt, alloc, watch, &lru, who, work, senders)?;
+    lru.close(&rt);
+    Ok(())
+}
+
+// Times how long N actors take to answer.
+fn time_answers<R: Print + Clock + Threads + Wait + Copy + Send + 'static, const N: usize>(
+    rt: R,
+    alloc: Global,
+    watch: Watch,
+) -> io::Result<()>
+    requires { 0 < N }
+{
+    let lru = actors::<R, N>(rt, alloc, usize::MAX)?;
+    answer(&rt, watch, &lru)?;
+    lru.close(&rt);
+    Ok(())
 }
 
 /// Times 1 and 4 senders to N actors, with a limit that is passed and one that is not, and to an order behind locks.
@@ -189,22 +266,11 @@ pub fn measure<R: Print + Clock + Threads + Wait + Copy + Send + Sync + 'static,
 {
     for senders in [1usize, 4] {
         for work in [Work::Admit, Work::Promote, Work::Mix] {
-            let lru = Lru::<u64, N>::with_capacity(alloc, usize::MAX, ROWS as usize / N)?;
-            let name = format!(in alloc; "behind locks, N = {N}")?;
-            time(&rt, alloc, watch, &lru, name.as_str(), work, senders)?;
-            for (limit, who) in [
-                (usize::MAX, "actors"),
-                (ROWS as usize / 2, "actors that evict"),
-            ] {
-                let lru = actors::<R, N>(rt, alloc, limit)?;
-                let name = format!(in alloc; "by {who}, N = {N}")?;
-                time(&rt, alloc, watch, &lru, name.as_str(), work, senders)?;
-                lru.close(&rt);
+            time_locks::<R, N>(&rt, alloc, watch, work, senders)?;
+            for is_evicting in [false, true] {
+                time_actors::<R, N>(rt, alloc, watch, is_evicting, work, senders)?;
             }
         }
     }
-    let lru = actors::<R, N>(rt, alloc, usize::MAX)?;
-    answer(&rt, alloc, watch, &lru)?;
-    lru.close(&rt);
-    Ok(())
+    time_answers::<R, N>(rt, alloc, watch)
 }

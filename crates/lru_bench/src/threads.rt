@@ -142,6 +142,23 @@ fn no_room() -> io::Error {
     io::Error::from(io::ErrorKind::OutOfMemory)
 }
 
+// The owner of a core with a row of weight 1 for each key, at its limit.
+fn owner_of<const N: usize>(alloc: Global, keys: &[u64]) -> io::Result<Owner<N>>
+    requires { 0 < N }
+{
+    let mut core = LruCore::with_capacity(alloc, keys.len(), keys.len() / N)?;
+    for key in keys {
+        if core.admit(*key, *key, 1).is_err() {
+            return Err(no_room());
+        }
+    }
+    Ok(Owner {
+        alloc,
+        core,
+        rng: SmallRng::seed_from_u64(7),
+    })
+}
+
 // The calls of a core's owner.
 fn measure_core<R: Print + Clock, const N: usize>(
     rt: &R,
@@ -152,26 +169,16 @@ fn measure_core<R: Print + Clock, const N: usize>(
     requires { 0 < N }
 {
     let rows = keys.rows.len();
-    let mut core = LruCore::<u64, N>::with_capacity(alloc, rows, rows / N)?;
-    for key in &keys.rows {
-        if core.admit(*key, *key, 1).is_err() {
-            return Err(no_room());
-        }
-    }
-    let mut owner = Owner {
-        alloc,
-        core,
-        rng: SmallRng::seed_from_u64(7),
-    };
+    let mut owner = owner_of::<N>(alloc, &keys.rows)?;
     for work in ALL {
         let trace = work.keys_of(keys);
         let start = Instant::now(rt)?;
         let done = work_on(&mut owner, work, trace);
-        let what = format!(in alloc;
+        print!(rt;
             "{rows} rows, {}, threads = 1, LruCore<_, {N}>",
             work.name()
         )?;
-        watch.tell(rt, what.as_str(), done, trace.len(), start)?;
+        watch.tell(rt, "", done, trace.len(), start)?;
     }
     Ok(())
 }
@@ -187,6 +194,39 @@ fn full<R: Wait, const N: usize>(rt: &R, alloc: Global, keys: &[u64]) -> io::Res
         }
     }
     Ok(lru)
+}
+
+// Does the work with parts of so many keys, each in a thread of its own, and answers for how many the row is there.
+fn share<R: Threads + Wait + Sync, const N: usize>(
+    rt: &R,
+    alloc: Global,
+    lru: &Lru<u64, N>,
+    work: Work,
+    keys: &[u64],
+    calls: usize,
+) -> io::Result<usize>
+    requires { 0 < calls }
+{
+    let counts = thread::map_chunks(
+        rt,
+        alloc,
+        keys,
+        calls,
+        &|first, part| {
+            let mut sharer = Sharer {
+                rt,
+                alloc,
+                lru,
+                rng: SmallRng::seed_from_u64(first as u64),
+            };
+            work_on(&mut sharer, work, part)
+        },
+    )?;
+    Ok(
+        counts
+            .iter()
+            .fold(0usize, |sum, count| sum.wrapping_add(*count)),
+    )
 }
 
 // The calls of so many threads.
@@ -205,29 +245,12 @@ fn measure_shared<R: Print + Clock + Threads + Wait + Sync, const N: usize>(
         let trace = work.keys_of(keys);
         let calls = (trace.len() / threads.max(1)).max(1);
         let start = Instant::now(rt)?;
-        let counts = thread::map_chunks(
-            rt,
-            alloc,
-            trace,
-            calls,
-            &|first, part| {
-                let mut sharer = Sharer {
-                    rt,
-                    alloc,
-                    lru: &lru,
-                    rng: SmallRng::seed_from_u64(first as u64),
-                };
-                work_on(&mut sharer, work, part)
-            },
-        )?;
-        let done = counts
-            .iter()
-            .fold(0usize, |sum, count| sum.wrapping_add(*count));
-        let what = format!(in alloc;
+        let done = share(rt, alloc, &lru, work, trace, calls)?;
+        print!(rt;
             "{rows} rows, {}, threads = {threads}, Lru<_, {N}>",
             work.name()
         )?;
-        watch.tell(rt, what.as_str(), done, trace.len(), start)?;
+        watch.tell(rt, "", done, trace.len(), start)?;
     }
     Ok(())
 }

@@ -22,6 +22,25 @@ fn no_room() -> io::Error {
     io::Error::from(io::ErrorKind::OutOfMemory)
 }
 
+// Evicts a row and admits another one, as often as there are rows.
+fn evict_and_admit<R: Print + Clock>(
+    rt: &R,
+    watch: Watch,
+    rows: u64,
+    core: &mut LruCore<u64, 8>,
+) -> io::Result<()> {
+    let start = Instant::now(rt)?;
+    let mut done = 0usize;
+    for turn in 0..rows {
+        let (a, b) = draws(turn);
+        let left = core.evict_step(a, b);
+        if left.is_some() && core.admit(turn.wrapping_add(rows), turn, 1).is_ok() {
+            done = done.wrapping_add(1);
+        }
+    }
+    watch.tell(rt, "a core, evict and admit", done, rows as usize, start)
+}
+
 // A core under a limit of 0, so that each step evicts, with room for twice its rows.
 fn measure_core<R: Print + Clock>(
     rt: &R,
@@ -40,16 +59,7 @@ fn measure_core<R: Print + Clock>(
     let start = Instant::now(rt)?;
     let done = trace.iter().filter(|key| core.promote(**key)).count();
     watch.tell(rt, "a core, promote", done, trace.len(), start)?;
-    let start = Instant::now(rt)?;
-    let mut done = 0usize;
-    for turn in 0..rows {
-        let (a, b) = draws(turn);
-        let left = core.evict_step(a, b);
-        if left.is_some() && core.admit(turn.wrapping_add(rows), turn, 1).is_ok() {
-            done = done.wrapping_add(1);
-        }
-    }
-    watch.tell(rt, "a core, evict and admit", done, rows as usize, start)
+    evict_and_admit(rt, watch, rows, &mut core)
 }
 
 // Spills each row, and touches each again, so that all rows are hot as before.
@@ -78,6 +88,23 @@ fn spill_and_touch<R: Print + Clock>(
     watch.tell(rt, "tiers, touch of a cold row", done, rows as usize, start)
 }
 
+// Touches rows that are hot.
+fn touch_hot<R: Print + Clock>(
+    rt: &R,
+    watch: Watch,
+    trace: &[u64],
+    tiered: &mut TieredCore<u64, 8>,
+) -> io::Result<()> {
+    let start = Instant::now(rt)?;
+    let mut done = 0usize;
+    for key in trace {
+        if tiered.touch(*key) == Ok(Some(Tier::Hot)) {
+            done = done.wrapping_add(1);
+        }
+    }
+    watch.tell(rt, "tiers, touch of a hot row", done, trace.len(), start)
+}
+
 // Tiers under limits of 0, so that each step spills, with room for twice as many rows each. The second spills write
 // to memory that the first ones have used.
 fn measure_tiers<R: Print + Clock>(
@@ -94,14 +121,7 @@ fn measure_tiers<R: Print + Clock>(
             return Err(no_room());
         }
     }
-    let start = Instant::now(rt)?;
-    let mut done = 0usize;
-    for key in trace {
-        if tiered.touch(*key) == Ok(Some(Tier::Hot)) {
-            done = done.wrapping_add(1);
-        }
-    }
-    watch.tell(rt, "tiers, touch of a hot row", done, trace.len(), start)?;
+    touch_hot(rt, watch, trace, &mut tiered)?;
     spill_and_touch(rt, watch, rows, &mut tiered)?;
     spill_and_touch(rt, watch, rows, &mut tiered)
 }
