@@ -5,14 +5,14 @@ use Rattle.std.proofs.lemmas.Bool.{cond-true, cond-false, eq-eqb, ne_eqb, cases_
 use Rattle.std.proofs.lemmas.List.{get_or-set_same, get_or-set_other, length-set}
 use Rattle.std.proofs.lemmas.List.Elements.{filter_map-append}
 use Rattle.std.specs.List.{cons_option}
-use Rattle.lru_shard.specs.Row.{pair_of, is_held}
+use Rattle.lru_shard.specs.Row.{row, pair_of, is_held, with_first, with_last}
 use Rattle.lru_shard.specs.declared.slots.Held.{Held}
 use Rattle.lru_shard.specs.Representation.Slots.{held, held_at, pairs_at, HoldsAll}
 use Rattle.lru_shard.specs.Representation.Table.{Node, node_of, node_in, look_in, rows_of, Knows, KnowsAll, IsFitted, IsKept}
 use Rattle.lru_shard.specs.Shard.{size_of, and_row, refusal, is_full, most_rows}
 use Rattle.lru_shard.proofs.Refusals.{allowed_short}
 use Rattle.lru_shard.proofs.Tables.{rows-cons, long, unit_moved, IsHere, item_here, here, live-without, live-promoted}
-use Rattle.lru_shard.proofs.UnitCalls.{no_row_there, found_row, Puts, Takes, unit_same, unit_new, unit_tail}
+use Rattle.lru_shard.proofs.UnitCalls.{no_row_there, found_row, Puts, Takes, unit_same, rows_same, unit_new, unit_tail, shows_new, shows_tail}
 use Rattle.lru_list.specs.Linked as list
 use Rattle.lru_list.specs.Linked.{Linked, linked, indices_of, item_of, promoted, pushed_head, pushed_tail, removed, next_slot, made, IsNumbered}
 use Rattle.lru_list.proofs.Chains.{times_here}
@@ -358,6 +358,14 @@ module _ {T : Type 0} where
       pub same_room : (k : ℕ) → look_in place1 slots1 k ≡ look_in place slots k
       same_room = look_same place place1 slots slots1 p1 s1
 
+      -- a call that is refused once room was made leaves the rows
+      module _ (order' : Linked ℕ) (left : order' ≡ order) where
+        pub kept_left : IsKept place1 slots1 order' used cap
+        kept_left = subst (λ o. IsKept place1 slots1 o used cap) (sym left) kept_room
+
+        pub rows_left : rows_of (look_in place1 slots1) order'.live ≡ rows_of (look_in place slots) order.live
+        rows_left = ap (λ (o : Linked ℕ). rows_of (look_in place1 slots1) o.live) left ∙ rows_same (look_in place slots) order used cap kept.unit (look_in place1 slots1) same_room
+
       module _ (room : length order.live + 2 < length slots1) where
         pub slot_there : (i : ℕ) → i ≡ next_slot order → i < length slots1
         slot_there i is = omega (arith, is, next_there place1 slots1 order used cap kept_room room)
@@ -377,6 +385,12 @@ module _ {T : Type 0} where
               fitted = fitted_put place1 slots1 order used cap kept_room k i absent1 next (slot_there i next) h place2 slots2 p2 is order'
                   (wide_head place1 slots1 order used cap kept_room (next_there place1 slots1 order used cap kept_room room) k order' pushed);
             }
+
+            pub rows_head : order' ≡ pushed_head order k → rows_of (look_in place2 slots2) order'.live ≡ with_first (rows_of (look_in place slots) order.live) (row k h.«data» h.weight)
+            rows_head pushed = (shows_new (look_in place slots) order used cap kept.unit k none (look_in place1 slots1) (look_in place2 slots2) same_room (node_of i h) fresh_puts order' next pushed).rows_are
+
+            pub rows_tail : order' ≡ pushed_tail order k → rows_of (look_in place2 slots2) order'.live ≡ with_last (rows_of (look_in place slots) order.live) (row k h.«data» h.weight)
+            rows_tail pushed = (shows_tail (look_in place slots) order used cap kept.unit k none (look_in place1 slots1) (look_in place2 slots2) same_room (node_of i h) fresh_puts order' next pushed).rows_are
 
             pub kept_tail : order' ≡ pushed_tail order k → IsKept place2 slots2 order' (used + h.weight) cap
             kept_tail pushed = record {

@@ -1,4 +1,6 @@
 mod Kept
+mod NewRows
+mod PresentRows
 pub mod Rows
 pub mod Refusals
 pub mod Edits

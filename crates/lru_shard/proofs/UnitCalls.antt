@@ -10,12 +10,12 @@ use Rattle.lru_list.specs.declared.linked_list.PushError.TheVariants.{Memory as 
 use Rattle.lru_shard.specs.Row.{Row, row, row_of, pair_of, last_row, without_last, times, with_first, with_last, without, with_weight, with_value, weight_of}
 use Rattle.lru_shard.specs.Shard.{Shard, shard, IsShard, Size, size_of, and_row, most_rows, is_full, refusal, MayRefuse, Accepts}
 use Rattle.lru_shard.specs.Representation.Table.{row_at, rows_of, IsUnit}
-use Rattle.lru_shard.proofs.Refusals.{IsShard-front, refusal_none, refusal_weight, allowed_light, IsShard-allowed, IsShard-first}
+use Rattle.lru_shard.proofs.Refusals.{IsShard-front, refusal_none, refusal_weight, refusal_length, allowed_light, IsShard-allowed, IsShard-first}
 use Rattle.lru_shard.proofs.Edits.{last_row_push, without_last_push, with_weight-absent, IsAt, row_at_key, no_row, tailed-new, weight_at-absent, weight-without, length-without, weight-first, length-first, weight-with_weight, weight-with_value, with_weight-at, with_value-at, distinct-with_weight, distinct-with_value, distinct-without, distinct-last, size-first_new, size-last, first-new}
 use Rattle.lru_shard.proofs.Rows.{times_no, weight-append}
 use Rattle.lru_shard.specs.declared.unit.Refused.{Refused}
 use Rattle.lru_shard.specs.Unit.{tailed, weight_at, raised, started, AdmitsMade, IncrementsRow, IncrementsWeight, AdmitsGiven, RefusesNew, UpdatesRow, UpdatesOrAdmits}
-use Rattle.lru_shard.proofs.Tables.{Off, Shows, IsUnit-shown, at_here, here, promotes, stays, gone, live-without, absent, new_first, new_last, last_rows, last_gone}
+use Rattle.lru_shard.proofs.Tables.{Off, long, Shows, IsUnit-shown, at_here, here, promotes, stays, gone, live-without, absent, new_first, new_last, last_rows, last_gone}
 use Rattle.std.proofs.lemmas.List.{length-map}
 use Rattle.std.proofs.Math.Path.{fun_ext}
 use Rattle.lru_list.specs.Linked as list
@@ -215,6 +215,20 @@ module _ {T : Type 0} where
             (IsShard-front cap (rows_of look rest) (row_at k n ∷ []) (subst (λ (rs : List (Row T)). IsShard (shard rs cap)) rows_end u.valid))
             (omega (arith, one, u.used_is, ap weight_of rows_end, weight-append (rows_of look rest) (row_at k n ∷ [])))
 
+    -- why a row more is refused, and when it is not, by what the code knows: the length and the most
+    module _ (len least w : ℕ) (len_is : len ≡ length order.live) (least_is : least ≡ most_rows cap) where
+      long_here : length (rows_of look order.live) ≡ len
+      long_here = long look order used cap u ∙ sym len_is
+
+      pub full_here : least ≤ len → refusal cap (size_of (rows_of look order.live)) (and_row (size_of (rows_of look order.live)) w) ≡ Some Length
+      full_here h = refusal_length cap (size_of (rows_of look order.live)) (and_row (size_of (rows_of look order.live)) w) (omega arith) (omega (arith, long_here))
+
+      pub heavy_here : len < least → cap - used < w → refusal cap (size_of (rows_of look order.live)) (and_row (size_of (rows_of look order.live)) w) ≡ Some Weight
+      heavy_here h heavy = refusal_weight cap (size_of (rows_of look order.live)) (and_row (size_of (rows_of look order.live)) w) (inr (omega (arith, long_here))) (omega (arith, u.used_is))
+
+      pub light_here : len < least → w ≤ cap - used → refusal cap (size_of (rows_of look order.live)) (and_row (size_of (rows_of look order.live)) w) ≡ None
+      light_here h light = refusal_none cap (size_of (rows_of look order.live)) (and_row (size_of (rows_of look order.live)) w) (inr (omega (arith, long_here))) (omega (arith, u.used_is, u.valid.light))
+
     -- a table that finds the same
     pub unit_same : (new : ℕ → Option (Node T)) → ((q : ℕ) → new q ≡ look q) → IsUnit new order used cap
     unit_same new same = subst (λ l. IsUnit l order used cap) (sym (fun_ext same)) u
@@ -292,10 +306,10 @@ module _ {T : Type 0} where
       ]
 
   module _ (rows : List (Row T)) (k : ℕ) (none : row_of rows k ≡ None) (cap : ℕ) (d : T) (w : ℕ) where
-    to_first : (cause : Cause) → MayRefuse cap (size_of rows) (and_row (size_of rows) w) cause → MayRefuse cap (size_of rows) (size_of (with_first rows (row k d w))) cause
+    pub to_first : (cause : Cause) → MayRefuse cap (size_of rows) (and_row (size_of rows) w) cause → MayRefuse cap (size_of rows) (size_of (with_first rows (row k d w))) cause
     to_first cause = subst (λ s. MayRefuse cap (size_of rows) s cause) (sym (size-first_new rows k (times_none rows k none) d w))
 
-    to_last : (cause : Cause) → MayRefuse cap (size_of rows) (and_row (size_of rows) w) cause → MayRefuse cap (size_of rows) (size_of (tailed rows k d w)) cause
+    pub to_last : (cause : Cause) → MayRefuse cap (size_of rows) (and_row (size_of rows) w) cause → MayRefuse cap (size_of rows) (size_of (tailed rows k d w)) cause
     to_last cause = subst (λ s. MayRefuse cap (size_of rows) s cause)
         (sym (ap size_of (tailed-new rows k (times_none rows k none) d w) ∙ size-last rows k (times_none rows k none) d w))
 

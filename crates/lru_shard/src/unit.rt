@@ -1,10 +1,14 @@
 //! One shard: rows in the order of their last use, under a cap on their weight.
-ghost use Rattle.std.specs.Prelude.{◌≡◌, ◌+◌, length, Some, None};
-ghost use Rattle.lru_shard.specs.Shard.{number_of};
+ghost use Rattle.std.specs.Prelude.{◌≡◌, ℕ, ◌+◌, ◌-◌, ◌<◌, ◌≤◌, length, nat_eq, Some, None, if◌then◌else◌, IfOk, IfErr, IfSome};
+ghost use Rattle.std.specs.HashMap as hash;
+ghost use Rattle.lru_list.specs.Linked.{next_slot, pushed_head, pushed_tail, IsNumbered};
+ghost use Rattle.lru_shard.specs.Representation.Slots.{held_at};
+ghost use Rattle.lru_shard.specs.Representation.Table.{place_in, look_of, rows_of, IsKept};
+ghost use Rattle.lru_shard.specs.Shard.{number_of, refusal, size_of, and_row, MayRefuse};
 ghost use Rattle.lru_shard.specs.Unit.{raised, started};
 
 use crate::slots::{Held, Rows};
-use lru_list::linked_list::{LinkedList, LinkedListIndices, LinkedListIter, MOST_ITEMS};
+use lru_list::linked_list::{Index, LinkedList, LinkedListIndices, LinkedListIter, MOST_ITEMS};
 use std::alloc::{AllocError, Global};
 use std::iter::FusedIterator;
 use std::marker::Model;
@@ -68,6 +72,69 @@ fn started(delta: usize, max_weight: Option<usize>) -> usize
     }
 }
 
+// What the rows weigh once one that weighed `old` has another weight; `None` where that is above the cap.
+#[inline(always)]
+fn reweighed(used_weight: usize, old: usize, weight: usize, cap: usize) -> Option<usize>
+    requires part { old ≤ used_weight }
+    requires light { used_weight ≤ cap }
+    ensures fits { IfSome result (λ sum. (sum ≡ used_weight - old + weight) × (weight ≤ cap - (used_weight - old))) }
+    ensures heavy { result ≡ None → cap - (used_weight - old) < weight }
+{
+    let rest = used_weight - old;
+    if weight > cap - rest {
+        return None;
+    }
+    Some(rest + weight)
+}
+
+// Takes a place in the order, first or last, for a row more of this weight, and makes room for the row. The
+// causes are tried in the order Length, Weight, Memory. A refusal leaves the order and the rows.
+//
+// It is one function for all calls that make a row, since each of its ways out is proved once here.
+#[inline(always)]
+fn take_place<T: Drop>(
+    rows: &mut Rows<T>,
+    order: &mut LinkedList<u64>,
+    used_weight: usize,
+    most: usize,
+    key: u64,
+    weight: usize,
+    last: bool,
+) -> Result<Index, Cause>
+    requires { IsKept (place_in rows.old) rows.old.slots.items order.old used_weight most }
+    ensures places { (k : ℕ) → hash.get nat_eq rows.new.places k ≡ hash.get nat_eq rows.old.places k }
+    ensures held { (i : ℕ) → held_at rows.new.slots.items i ≡ held_at rows.old.slots.items i }
+    ensures wide { length rows.old.slots.items ≤ length rows.new.slots.items }
+    ensures few { length rows.new.slots.items ≤ 4294967295 }
+    ensures numbered { IsNumbered order.new }
+    ensures allowed { IfOk result (λ _. refusal most (size_of (rows_of (look_of rows.old) order.old.live)) (and_row (size_of (rows_of (look_of rows.old) order.old.live)) weight) ≡ None) }
+    ensures room { IfOk result (λ _. (0 < hash.spare rows.new.places) × (length order.old.live + 2 < length rows.new.slots.items)) }
+    ensures place { IfOk result (λ place. place ≡ next_slot order.old) }
+    ensures pushed { IfOk result (λ _. order.new ≡ (if last then pushed_tail order.old key else pushed_head order.old key)) }
+    ensures refused { IfErr result (λ cause. MayRefuse most (size_of (rows_of (look_of rows.old) order.old.live)) (and_row (size_of (rows_of (look_of rows.old) order.old.live)) weight) cause) }
+    ensures left { IfErr result (λ _. order.new ≡ order.old) }
+{
+    let len = order.len();
+    if len >= most.min(MOST_ITEMS) {
+        return Err(Cause::Length);
+    }
+    if weight > most - used_weight {
+        return Err(Cause::Weight);
+    }
+    if !rows.make_room(len) {
+        return Err(Cause::Memory);
+    }
+    let pushed = if last {
+        order.push_tail(key)
+    } else {
+        order.push_head(key)
+    };
+    match pushed {
+        Ok(place) => Ok(place),
+        Err(_) => Err(Cause::Memory),
+    }
+}
+
 /// Rows with distinct keys, most recent first, under a cap on the sum of their weights.
 /// It has at most as many rows as its cap, and never more than 4294967293.
 ///
@@ -98,7 +165,7 @@ impl<T> LruUnit<T> {
     ghost use Rattle.std.specs.Prelude.{[], IfOk, map, option_map, is_some};
     ghost use Rattle.std.specs.Option.{option_copied};
     ghost use Rattle.lru_shard.specs.Row.{weight_of, row_of, pair_of, is_held, without, last_row, without_last};
-    ghost use Rattle.lru_shard.specs.Shard.{shard, IsShard, refusal, size_of, and_row, is_full};
+    ghost use Rattle.lru_shard.specs.Shard.{shard, IsShard};
     ghost use Rattle.lru_shard.specs.Unit.{accessed, needs_promote};
     ghost use Rattle.lru_shard.specs.Unit.{shown};
 
@@ -215,25 +282,6 @@ impl<T> LruUnit<T> {
         self.order.promote(place);
         true
     }
-
-    // Why one more row of this weight is refused, whatever memory there is.
-    fn refusal_of_new(&self, weight: usize) -> Option<Cause>
-        ensures { result ≡ refusal self.now.cap (size_of self.now.rows) (and_row (size_of self.now.rows) weight) }
-    {
-        if self.is_full() {
-            Some(Cause::Length)
-        } else if weight > self.cap - self.used_weight {
-            Some(Cause::Weight)
-        } else {
-            None
-        }
-    }
-
-    fn is_full(&self) -> bool
-        ensures { result ≡ is_full self.now.cap (size_of self.now.rows) }
-    {
-        self.order.len() >= self.cap.min(MOST_ITEMS)
-    }
 }
 
 impl<T: Drop> LruUnit<T> {
@@ -253,12 +301,12 @@ impl<T: Drop> LruUnit<T> {
             return self.admit_new(key, data, weight);
         };
         let old = self.rows.held(place).weight;
-        if weight > self.cap - (self.used_weight - old) {
+        let Some(used_weight) = reweighed(self.used_weight, old, weight, self.cap) else {
             return Err(Refused::new(Cause::Weight, data));
-        }
+        };
         self.rows.write(place, Held { data, weight });
         self.order.promote(place);
-        self.used_weight = self.used_weight - old + weight;
+        self.used_weight = used_weight;
         Ok(old)
     }
 
@@ -267,15 +315,17 @@ impl<T: Drop> LruUnit<T> {
         requires { row_of self.old.rows key ≡ None }
         ensures { Admits self.old key «data» weight result self.new }
     {
-        if let Some(cause) = self.refusal_of_new(weight) {
-            return Err(Refused::new(cause, data));
-        }
-        let len = self.order.len();
-        if !self.rows.make_room(len) {
-            return Err(Refused::new(Cause::Memory, data));
-        }
-        let Ok(place) = self.order.push_head(key) else {
-            return Err(Refused::new(Cause::Memory, data));
+        let place = match take_place(
+            &mut self.rows,
+            &mut self.order,
+            self.used_weight,
+            self.cap,
+            key,
+            weight,
+            false,
+        ) {
+            Ok(place) => place,
+            Err(cause) => return Err(Refused::new(cause, data)),
         };
         self.rows.put(key, place, Held { data, weight });
         self.used_weight += weight;
@@ -293,15 +343,17 @@ impl<T: Drop> LruUnit<T> {
         if self.rows.place_of(key).is_some() {
             return Ok(false);
         }
-        if let Some(cause) = self.refusal_of_new(weight) {
-            return Err(Refused::new(cause, data));
-        }
-        let len = self.order.len();
-        if !self.rows.make_room(len) {
-            return Err(Refused::new(Cause::Memory, data));
-        }
-        let Ok(place) = self.order.push_tail(key) else {
-            return Err(Refused::new(Cause::Memory, data));
+        let place = match take_place(
+            &mut self.rows,
+            &mut self.order,
+            self.used_weight,
+            self.cap,
+            key,
+            weight,
+            true,
+        ) {
+            Ok(place) => place,
+            Err(cause) => return Err(Refused::new(cause, data)),
         };
         self.rows.put(key, place, Held { data, weight });
         self.used_weight += weight;
@@ -334,12 +386,12 @@ impl<T: Drop> LruUnit<T> {
         };
         let old = self.rows.held(place).weight;
         let weight = raised(old, delta, max_weight);
-        if weight > self.cap - (self.used_weight - old) {
+        let Some(used_weight) = reweighed(self.used_weight, old, weight, self.cap) else {
             return Err(Cause::Weight);
-        }
+        };
         self.rows.set_weight(place, weight);
         self.order.promote(place);
-        self.used_weight = self.used_weight - old + weight;
+        self.used_weight = used_weight;
         Ok((old, weight, false))
     }
 
@@ -354,15 +406,17 @@ impl<T: Drop> LruUnit<T> {
         requires callable { F.IsAlwaysCallable admit_data }
         ensures { AdmitsMade (F.post admit_data) self.old key weight result self.new }
     {
-        if let Some(cause) = self.refusal_of_new(weight) {
-            return Err(cause);
-        }
-        let len = self.order.len();
-        if !self.rows.make_room(len) {
-            return Err(Cause::Memory);
-        }
-        let Ok(place) = self.order.push_head(key) else {
-            return Err(Cause::Memory);
+        let place = match take_place(
+            &mut self.rows,
+            &mut self.order,
+            self.used_weight,
+            self.cap,
+            key,
+            weight,
+            false,
+        ) {
+            Ok(place) => place,
+            Err(cause) => return Err(cause),
         };
         let data = admit_data();
         self.rows.put(key, place, Held { data, weight });
@@ -396,12 +450,12 @@ impl<T: Drop> LruUnit<T> {
         };
         let old = self.rows.held(place).weight;
         let weight = self.rows.update(place, update).max(1);
-        if weight > self.cap - (self.used_weight - old) {
+        let Some(used_weight) = reweighed(self.used_weight, old, weight, self.cap) else {
             return Err(Refused::new(Cause::Weight, None));
-        }
+        };
         self.rows.set_weight(place, weight);
         self.order.promote(place);
-        self.used_weight = self.used_weight - old + weight;
+        self.used_weight = used_weight;
         Ok((Some(old), weight))
     }
 
@@ -416,15 +470,17 @@ impl<T: Drop> LruUnit<T> {
         requires callable { A.IsAlwaysCallable admit_data }
         ensures { AdmitsGiven (A.post admit_data) self.old key result self.new }
     {
-        if self.is_full() {
-            return Err(Refused::new(Cause::Length, None));
-        }
-        let len = self.order.len();
-        if !self.rows.make_room(len) {
-            return Err(Refused::new(Cause::Memory, None));
-        }
-        let Ok(place) = self.order.push_head(key) else {
-            return Err(Refused::new(Cause::Memory, None));
+        let place = match take_place(
+            &mut self.rows,
+            &mut self.order,
+            self.used_weight,
+            self.cap,
+            key,
+            0,
+            false,
+        ) {
+            Ok(place) => place,
+            Err(cause) => return Err(Refused::new(cause, None)),
         };
         let (data, given) = admit_data();
         let weight = given.max(1);
@@ -448,11 +504,11 @@ impl<T: Drop> LruUnit<T> {
             return Ok(None);
         };
         let old = self.rows.held(place).weight;
-        if weight > self.cap - (self.used_weight - old) {
+        let Some(used_weight) = reweighed(self.used_weight, old, weight, self.cap) else {
             return Err(Cause::Weight);
-        }
+        };
         self.rows.set_weight(place, weight);
-        self.used_weight = self.used_weight - old + weight;
+        self.used_weight = used_weight;
         Ok(Some(old))
     }
 
@@ -480,15 +536,17 @@ impl<T: Drop> LruUnit<T> {
         let Some(weight) = from.peek_weight(key) else {
             return Ok(None);
         };
-        if let Some(cause) = self.refusal_of_new(weight) {
-            return Err(cause);
-        }
-        let len = self.order.len();
-        if !self.rows.make_room(len) {
-            return Err(Cause::Memory);
-        }
-        let Ok(place) = self.order.push_head(key) else {
-            return Err(Cause::Memory);
+        let place = match take_place(
+            &mut self.rows,
+            &mut self.order,
+            self.used_weight,
+            self.cap,
+            key,
+            weight,
+            false,
+        ) {
+            Ok(place) => place,
+            Err(cause) => return Err(cause),
         };
         let Some((data, _)) = from.remove(key) else {
             unreachable!()

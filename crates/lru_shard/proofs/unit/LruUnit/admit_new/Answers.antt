@@ -1,103 +1,33 @@
-use Rattle.std.proofs.Common.{length, ◌+◌, ◌<◌, ℕ, refl, sym, ap, ◌∙◌, subst, arith}
-use Rattle.lru_shard.specs.Row.{row, row_of, with_first}
-use Rattle.lru_shard.specs.Shard.{shard, size_of, and_row, refusal, MayRefuse}
 use Rattle.lru_shard.specs.Representation.Slots.{held}
-use Rattle.lru_shard.specs.Representation.Table.{place_in, look_of, node_of, rows_of, IsKept}
-use Rattle.lru_list.specs.Linked.{Linked, pushed_head}
-use Rattle.lru_shard.proofs.Kept.{short_new, kept_room, same_room, slot_there, fresh_puts, kept_head}
-use Rattle.lru_shard.proofs.Tables.{lookup_none}
-use Rattle.lru_shard.proofs.UnitCalls.{refused_push, rows_same, no_row_there, allowed_first, shows_new, refused_first, wants_first, no_weight}
+use Rattle.lru_shard.specs.Representation.Table.{place_in}
+use Rattle.lru_shard.proofs.Kept.{kept_left, slot_there}
+use Rattle.lru_shard.proofs.NewRows.{refuses_first, kept_first, accepts_first}
+use Rattle.lru_shard.proofs.UnitCalls.{no_weight}
 use Rattle.lru_shard.proofs.unit.LruUnit.admit_new.Goals as goal
-
-pub returns-in-Some : goal.returns-in-Some
-returns-in-Some g c =
-    record {
-      declines = record {
-        may = subst (MayRefuse c.args.self.now.cap (size_of c.args.self.now.rows) (size_of (with_first c.args.self.now.rows (row c.args.key c.args.«data» c.args.weight)))) (sym c.new.ensures.cause)
-            (refused_first c.args.self.now.rows c.args.key c.requires c.args.self.now.cap c.args.«data» c.args.weight c.in-Some.cause (sym c.in-Some.ensures));
-        left = refl;
-      };
-      held = c.new.ensures.held;
-    }
-
-pub returns-then-not-make_room : goal.returns-then-not-make_room
-returns-then-not-make_room g c =
-    let i = c.self.inside in
-    let look = look_of i.rows in
-    let none = lookup_none look i.order i.used_weight i.cap c.self.invariant.unit c.args.key (ap (λ s. row_of s.rows c.args.key) c.self.view_is ∙ c.requires) in
-    let allowed = ap (λ s. refusal s.cap (size_of s.rows) (and_row (size_of s.rows) c.args.weight)) c.self.view_is ∙ sym c.refusal_of_new.ensures ∙ c.in_default.is in
-    rw (← c.self.view_is) (record {
-      declines = record {
-        may = subst (MayRefuse i.cap (size_of (rows_of look i.order.live)) (size_of (with_first (rows_of look i.order.live) (row c.args.key c.args.«data» c.args.weight)))) (sym c.new-then-not-make_room.ensures.cause)
-            (wants_first (rows_of look i.order.live) c.args.key (no_row_there look i.order i.used_weight i.cap c.self.invariant.unit c.args.key none) i.cap c.args.«data» c.args.weight allowed);
-        left = ap (λ rows. shard rows i.cap) (rows_same look i.order i.used_weight i.cap c.self.invariant.unit (look_of c.make_room.new.self) (same_room (place_in i.rows) i.rows.slots.items i.order i.used_weight i.cap c.self.invariant (place_in c.make_room.new.self) c.make_room.new.self.slots.items c.if-not-make_room.ensures.places c.if-not-make_room.ensures.held c.if-not-make_room.ensures.wide c.if-not-make_room.ensures.few));
-      };
-      held = c.new-then-not-make_room.ensures.held;
-    })
-
-pub returns-in_default-push_head : goal.returns-in_default-push_head
-returns-in_default-push_head g c =
-    let i = c.self.inside in
-    let look = look_of i.rows in
-    let none = lookup_none look i.order i.used_weight i.cap c.self.invariant.unit c.args.key (ap (λ s. row_of s.rows c.args.key) c.self.view_is ∙ c.requires) in
-    let allowed = ap (λ s. refusal s.cap (size_of s.rows) (and_row (size_of s.rows) c.args.weight)) c.self.view_is ∙ sym c.refusal_of_new.ensures ∙ c.in_default.is in
-    let is = refused_push i.order (pushed_head i.order c.args.key) c.args.key c.in_default-push_head.field-0 c.push_head.new.self c.in_default-push_head.ensures.pushes in
-    rw (← c.self.view_is) (record {
-      declines = record {
-        may = subst (MayRefuse i.cap (size_of (rows_of look i.order.live)) (size_of (with_first (rows_of look i.order.live) (row c.args.key c.args.«data» c.args.weight)))) (sym c.new-in_default-push_head.ensures.cause)
-            (wants_first (rows_of look i.order.live) c.args.key (no_row_there look i.order i.used_weight i.cap c.self.invariant.unit c.args.key none) i.cap c.args.«data» c.args.weight allowed);
-        left = ap (λ rows. shard rows i.cap) (ap (λ (o : Linked ℕ). rows_of (look_of c.make_room.new.self) o.live) is ∙ rows_same look i.order i.used_weight i.cap c.self.invariant.unit (look_of c.make_room.new.self) (same_room (place_in i.rows) i.rows.slots.items i.order i.used_weight i.cap c.self.invariant (place_in c.make_room.new.self) c.make_room.new.self.slots.items c.if-not-make_room.ensures.places c.if-not-make_room.ensures.held c.if-not-make_room.ensures.wide c.if-not-make_room.ensures.few));
-      };
-      held = c.new-in_default-push_head.ensures.held;
-    })
-
-pub make_room-requires-clause-short : goal.make_room-requires-clause-short
-make_room-requires-clause-short g c =
-    let i = c.self.inside in
-    let look = look_of i.rows in
-    omega (arith, c.len-len.ensures.len, short_new (place_in i.rows) i.rows.slots.items i.order i.used_weight i.cap c.self.invariant c.args.weight (ap (λ s. refusal s.cap (size_of s.rows) (and_row (size_of s.rows) c.args.weight)) c.self.view_is ∙ sym c.refusal_of_new.ensures ∙ c.in_default.is))
 
 pub invariant_of-self : goal.invariant_of-self
 invariant_of-self g c =
     let i = c.self.inside in
-    kept_room (place_in i.rows) i.rows.slots.items i.order i.used_weight i.cap c.self.invariant (place_in c.make_room.new.self) c.make_room.new.self.slots.items c.if-not-make_room.ensures.places c.if-not-make_room.ensures.held c.if-not-make_room.ensures.wide c.if-not-make_room.ensures.few
-
-pub invariant_of-self-in_default-push_head : goal.invariant_of-self-in_default-push_head
-invariant_of-self-in_default-push_head g c =
-    let i = c.self.inside in
-    let is = refused_push i.order (pushed_head i.order c.args.key) c.args.key c.in_default-push_head.field-0 c.push_head.new.self c.in_default-push_head.ensures.pushes in
-    subst (λ o. IsKept (place_in c.make_room.new.self) c.make_room.new.self.slots.items o i.used_weight i.cap) (sym is) (kept_room (place_in i.rows) i.rows.slots.items i.order i.used_weight i.cap c.self.invariant (place_in c.make_room.new.self) c.make_room.new.self.slots.items c.if-not-make_room.ensures.places c.if-not-make_room.ensures.held c.if-not-make_room.ensures.wide c.if-not-make_room.ensures.few)
+    kept_left (place_in i.rows) i.rows.slots.items i.order i.used_weight i.cap c.self.invariant (place_in c.take_place.new.rows) c.take_place.new.rows.slots.items c.in-Err.ensures.places c.in-Err.ensures.held c.in-Err.ensures.wide c.in-Err.ensures.few c.take_place.new.order c.in-Err.ensures.left
 
 pub put-requires-clause-slot : goal.put-requires-clause-slot
 put-requires-clause-slot g c =
     let i = c.self.inside in
-    slot_there (place_in i.rows) i.rows.slots.items i.order i.used_weight i.cap c.self.invariant (place_in c.make_room.new.self) c.make_room.new.self.slots.items c.if-not-make_room.ensures.places c.if-not-make_room.ensures.held c.if-not-make_room.ensures.wide c.if-not-make_room.ensures.few (omega (arith, (c.if-not-make_room.ensures.room refl).1, c.len-len.ensures.len)) c.in-Ok.place c.in-Ok.ensures.pushes.1
+    slot_there (place_in i.rows) i.rows.slots.items i.order i.used_weight i.cap c.self.invariant (place_in c.take_place.new.rows) c.take_place.new.rows.slots.items c.in-Ok.ensures.places c.in-Ok.ensures.held c.in-Ok.ensures.wide c.in-Ok.ensures.few c.in-Ok.ensures.room.1 c.in-Ok.place c.in-Ok.ensures.place
+
+pub returns-in-Err : goal.returns-in-Err
+returns-in-Err g c =
+    let i = c.self.inside in
+    refuses_first (place_in i.rows) i.rows.slots.items i.order i.used_weight i.cap c.self.invariant c.args.self.now c.self.view_is (place_in c.take_place.new.rows) c.take_place.new.rows.slots.items c.in-Err.ensures.places c.in-Err.ensures.held c.in-Err.ensures.wide c.in-Err.ensures.few c.args.key c.requires c.take_place.new.order c.in-Err.ensures.left c.args.weight c.in-Err.cause c.in-Err.ensures.refused c.args.«data» c.new.result c.new.ensures.cause c.new.ensures.held
 
 pub invariant_of-self-2 : goal.invariant_of-self-2
 invariant_of-self-2 g c =
     let i = c.self.inside in
-    let look = look_of i.rows in
-    let none = lookup_none look i.order i.used_weight i.cap c.self.invariant.unit c.args.key (ap (λ s. row_of s.rows c.args.key) c.self.view_is ∙ c.requires) in
-    let allowed = ap (λ s. refusal s.cap (size_of s.rows) (and_row (size_of s.rows) c.args.weight)) c.self.view_is ∙ sym c.refusal_of_new.ensures ∙ c.in_default.is in
-    let room : length i.order.live + 2 < length c.make_room.new.self.slots.items = omega (arith, (c.if-not-make_room.ensures.room refl).1, c.len-len.ensures.len) in
-    let row = held c.args.«data» c.args.weight in
-    let puts = fresh_puts (place_in i.rows) i.rows.slots.items i.order i.used_weight i.cap c.self.invariant (place_in c.make_room.new.self) c.make_room.new.self.slots.items c.if-not-make_room.ensures.places c.if-not-make_room.ensures.held c.if-not-make_room.ensures.wide c.if-not-make_room.ensures.few room c.args.key c.in-Ok.place none c.in-Ok.ensures.pushes.1 row (place_in c.put.new.self) c.put.new.self.slots.items c.put.ensures.places c.put.ensures.slots in
-    kept_head (place_in i.rows) i.rows.slots.items i.order i.used_weight i.cap c.self.invariant (place_in c.make_room.new.self) c.make_room.new.self.slots.items c.if-not-make_room.ensures.places c.if-not-make_room.ensures.held c.if-not-make_room.ensures.wide c.if-not-make_room.ensures.few room c.args.key c.in-Ok.place none c.in-Ok.ensures.pushes.1 row (place_in c.put.new.self) c.put.new.self.slots.items c.put.ensures.places c.put.ensures.slots
-    c.push_head.new.self c.push_head.ensures.numbered allowed c.in-Ok.ensures.pushes.2
+    kept_first (place_in i.rows) i.rows.slots.items i.order i.used_weight i.cap c.self.invariant c.args.self.now c.self.view_is (place_in c.take_place.new.rows) c.take_place.new.rows.slots.items c.in-Ok.ensures.places c.in-Ok.ensures.held c.in-Ok.ensures.wide c.in-Ok.ensures.few c.args.key c.requires c.in-Ok.ensures.room.1 c.in-Ok.place c.in-Ok.ensures.place (held c.args.«data» c.args.weight) (place_in c.put.new.self) c.put.new.self.slots.items c.put.ensures.places c.put.ensures.slots c.take_place.new.order c.in-Ok.ensures.numbered c.in-Ok.ensures.allowed c.in-Ok.ensures.pushed
 
 pub returns : goal.returns
 returns g c =
-    let i = c.self.inside in
-    let look = look_of i.rows in
-    let none = lookup_none look i.order i.used_weight i.cap c.self.invariant.unit c.args.key (ap (λ s. row_of s.rows c.args.key) c.self.view_is ∙ c.requires) in
-    let allowed = ap (λ s. refusal s.cap (size_of s.rows) (and_row (size_of s.rows) c.args.weight)) c.self.view_is ∙ sym c.refusal_of_new.ensures ∙ c.in_default.is in
-    let room : length i.order.live + 2 < length c.make_room.new.self.slots.items = omega (arith, (c.if-not-make_room.ensures.room refl).1, c.len-len.ensures.len) in
-    let row = held c.args.«data» c.args.weight in
-    let puts = fresh_puts (place_in i.rows) i.rows.slots.items i.order i.used_weight i.cap c.self.invariant (place_in c.make_room.new.self) c.make_room.new.self.slots.items c.if-not-make_room.ensures.places c.if-not-make_room.ensures.held c.if-not-make_room.ensures.wide c.if-not-make_room.ensures.few room c.args.key c.in-Ok.place none c.in-Ok.ensures.pushes.1 row (place_in c.put.new.self) c.put.new.self.slots.items c.put.ensures.places c.put.ensures.slots in
-    rw (← c.self.view_is) (
-      no_weight (rows_of look i.order.live) c.args.key (no_row_there look i.order i.used_weight i.cap c.self.invariant.unit c.args.key none) i.cap c.args.«data» c.args.weight,
-      record {
-        allowed = allowed_first look i.order i.used_weight i.cap c.self.invariant.unit c.args.key none c.args.«data» c.args.weight allowed;
-        left = ap (λ rows. shard rows i.cap) (shows_new look i.order i.used_weight i.cap c.self.invariant.unit c.args.key none (look_of c.make_room.new.self) (look_of c.put.new.self) (same_room (place_in i.rows) i.rows.slots.items i.order i.used_weight i.cap c.self.invariant (place_in c.make_room.new.self) c.make_room.new.self.slots.items c.if-not-make_room.ensures.places c.if-not-make_room.ensures.held c.if-not-make_room.ensures.wide c.if-not-make_room.ensures.few) (node_of c.in-Ok.place row) puts c.push_head.new.self c.in-Ok.ensures.pushes.1 c.in-Ok.ensures.pushes.2).rows_are;
-      },
+    let i = c.self.inside in (
+      no_weight c.args.self.now.rows c.args.key c.requires i.cap c.args.«data» c.args.weight,
+      accepts_first (place_in i.rows) i.rows.slots.items i.order i.used_weight i.cap c.self.invariant c.args.self.now c.self.view_is (place_in c.take_place.new.rows) c.take_place.new.rows.slots.items c.in-Ok.ensures.places c.in-Ok.ensures.held c.in-Ok.ensures.wide c.in-Ok.ensures.few c.args.key c.requires c.in-Ok.ensures.room.1 c.in-Ok.place c.in-Ok.ensures.place (held c.args.«data» c.args.weight) (place_in c.put.new.self) c.put.new.self.slots.items c.put.ensures.places c.put.ensures.slots c.take_place.new.order c.in-Ok.ensures.numbered c.in-Ok.ensures.allowed c.in-Ok.ensures.pushed,
     )
