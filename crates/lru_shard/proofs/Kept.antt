@@ -1,7 +1,7 @@
 -- Laws of rows in their slots, and of the places of keys.
-use Rattle.std.proofs.Common.{◌≡◌, ◌≢◌, zero, suc, ℕ, ◌+◌, ◌<◌, ◌≤◌, true, false, cond, eqb, List, [], ◌∷◌, ◌++◌, length, map, Some, None, refl, sym, ap, ◌∙◌, arith, subst, inl, inr, length-append}
+use Rattle.std.proofs.Common.{◌≡◌, ◌≢◌, zero, suc, ℕ, ◌+◌, ◌<◌, ◌≤◌, true, cond, eqb, List, [], ◌∷◌, ◌++◌, length, map, Some, None, refl, sym, ap, ◌∙◌, arith, subst, inl, inr, length-append}
 use Rattle.std.specs.Prelude.{Option, option_map, is_some, get_or, set, drop, slice_index_or}
-use Rattle.std.proofs.lemmas.Bool.{cond-true, cond-false, eq-eqb, ne_eqb, cases_eq, leb-false}
+use Rattle.std.proofs.lemmas.Bool.{cond-true, cond-false, eq-eqb, ne_eqb, cases_eq}
 use Rattle.std.proofs.lemmas.List.{get_or-set_same, get_or-set_other, length-set}
 use Rattle.std.proofs.lemmas.List.Elements.{filter_map-append}
 use Rattle.std.specs.List.{cons_option}
@@ -9,9 +9,8 @@ use Rattle.lru_shard.specs.Row.{row, pair_of, is_held, with_first, with_last}
 use Rattle.lru_shard.specs.declared.slots.Held.{Held}
 use Rattle.lru_shard.specs.Representation.Slots.{held, held_at, pairs_at, HoldsAll}
 use Rattle.lru_shard.specs.Representation.Table.{Node, node_of, node_in, look_in, rows_of, Knows, KnowsAll, IsFitted, IsKept}
-use Rattle.lru_shard.specs.Shard.{size_of, and_row, refusal, is_full, most_rows}
-use Rattle.lru_shard.proofs.Refusals.{allowed_short}
-use Rattle.lru_shard.proofs.Tables.{rows-cons, long, unit_moved, IsHere, item_here, here, live-without, live-promoted}
+use Rattle.lru_shard.specs.Shard.{size_of, and_row, refusal}
+use Rattle.lru_shard.proofs.Tables.{rows-cons, unit_moved, IsHere, item_here, here, live-without, live-promoted}
 use Rattle.lru_shard.proofs.UnitCalls.{no_row_there, found_row, Puts, Takes, unit_same, rows_same, unit_new, unit_tail, shows_new, shows_tail}
 use Rattle.lru_list.specs.Linked as list
 use Rattle.lru_list.specs.Linked.{Linked, linked, indices_of, item_of, promoted, pushed_head, pushed_tail, removed, next_slot, made, IsNumbered}
@@ -92,6 +91,23 @@ module _ {T : Type 0} where
     pub length-pairs : (is : List ℕ) → HoldsAll slots is → length (pairs_at slots is) ≡ length is
     length-pairs [] h = refl
     length-pairs (i ∷ is) h = ap length (pairs-cons i is h.0.0 h.0.1) ∙ omega (arith, length-pairs is h.1)
+
+  -- an empty order, and no row
+  pub kept_empty : (place : ℕ → Option ℕ) (slots : List (Option (Held T))) (order : Linked ℕ) (cap : ℕ) → ((k : ℕ) → place k ≡ None) → ((i : ℕ) → held_at slots i ≡ None) → length slots ≡ 2 → order ≡ linked [] [] → IsNumbered order → IsKept place slots order 0 cap
+  kept_empty place slots order cap free bare wide empty numbered = subst (λ o. IsKept place slots o 0 cap) (sym empty) (record {
+    unit = record {
+      tied = record { known = tt; stands = λ k n found. let bad : None ≡ Some n = sym (look_none place slots k (free k)) ∙ found in cc };
+      numbered = subst IsNumbered empty numbered;
+      valid = record { keys = λ k. omega arith; light = omega arith; short = omega arith };
+      used_is = refl;
+    };
+    fitted = record {
+      full = λ k i at. let bad : None ≡ Some i = sym (free k) ∙ at in cc;
+      owned = λ i h at. let bad : None ≡ Some h = sym (bare i) ∙ at in cc;
+      wide = omega arith;
+      few = omega arith;
+    };
+  })
 
   -- places and slots that are found as before
   module _ (place place' : ℕ → Option ℕ) (slots slots' : List (Option (Held T))) (p : (k : ℕ) → place' k ≡ place k) (s : (i : ℕ) → held_at slots' i ≡ held_at slots i) where
@@ -335,18 +351,6 @@ module _ {T : Type 0} where
         go (p ∷ ps) e =
             let stands = (stands_in order kept.unit.numbered p.0 (omega (arith, ap (λ (f : List (ℕ × ℕ)). list.times p.0 (indices_of f)) e, times_here p.0 (indices_of ps)))).1 in
             omega (arith, kept.fitted.wide, stands, ap (λ (f : List (ℕ × ℕ)). slice_index_or (indices_of f) 0 (made order + 2)) e)
-
-    -- a shard that takes a row more has fewer than the most that an order holds
-    pub short_new : (w : ℕ) → refusal cap (size_of (rows_of (look_in place slots) order.live)) (and_row (size_of (rows_of (look_in place slots) order.live)) w) ≡ None → length order.live < 4294967293
-    short_new w h =
-        omega (
-          arith,
-          allowed_short cap (size_of (rows_of (look_in place slots) order.live)) (and_row (size_of (rows_of (look_in place slots) order.live)) w) kept.unit.valid.short (omega arith) h,
-          long (look_in place slots) order used cap kept.unit,
-        )
-
-    pub short_room : is_full cap (size_of (rows_of (look_in place slots) order.live)) ≡ false → length order.live < 4294967293
-    short_room h = omega (arith, leb-false (most_rows cap) (length (rows_of (look_in place slots) order.live)) h, long (look_in place slots) order used cap kept.unit)
 
   -- a row is put first, or last, once there is room for it
   module _ (place : ℕ → Option ℕ) (slots : List (Option (Held T))) (order : Linked ℕ) (used cap : ℕ) (kept : IsKept place slots order used cap) where

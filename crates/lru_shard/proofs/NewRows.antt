@@ -1,6 +1,6 @@
 -- A row more in a shard, from what `take_place` ensures: what a refusal leaves, and what the put of the row leaves.
 use Rattle.std.proofs.Common.{◌≡◌, ℕ, ◌+◌, ◌-◌, ◌<◌, ◌≤◌, true, false, cond, eqb, List, length, Some, None, refl, sym, ap, ◌∙◌, arith, subst, inl, inr}
-use Rattle.std.specs.Prelude.{Option, Result, Ok, Err, set, max}
+use Rattle.std.specs.Prelude.{Option, set, max}
 use Rattle.std.proofs.lemmas.Bool.{cases_Bool, leb-true, leb-false}
 use Rattle.lru_list.specs.Linked.{Linked, pushed_head, pushed_tail, next_slot, IsNumbered}
 use Rattle.lru_shard.specs.declared.slots.Held.{Held}
@@ -9,7 +9,7 @@ use Rattle.lru_shard.specs.declared.unit.Cause.TheVariants.{Memory, Weight, Leng
 use Rattle.lru_shard.specs.declared.unit.Refused.{Refused}
 use Rattle.lru_shard.specs.Representation.Slots.{held_at}
 use Rattle.lru_shard.specs.Representation.Table.{look_in, rows_of, IsKept}
-use Rattle.lru_shard.specs.Row.{Row, row, row_of, with_first, with_last, with_weight}
+use Rattle.lru_shard.specs.Row.{row, row_of, with_first, with_last, with_weight}
 use Rattle.lru_shard.specs.Shard.{Shard, shard, Size, size_of, and_row, most_rows, is_full, refusal, MayRefuse, Accepts, Refuses}
 use Rattle.lru_shard.specs.Unit.{tailed, RefusesNew}
 use Rattle.lru_shard.proofs.Kept.{look_none, rows_left, kept_head, kept_tail, rows_head, rows_tail}

@@ -1,14 +1,13 @@
 -- A row that is there, from what the code reads of its slot: what a refusal says, and what a write of its slot leaves.
-use Rattle.std.proofs.Common.{◌≡◌, ℕ, ◌+◌, ◌-◌, ◌<◌, ◌≤◌, List, Some, refl, sym, ap, ◌∙◌, arith, subst}
-use Rattle.std.specs.Prelude.{Option, set, is_some, option_map}
+use Rattle.std.proofs.Common.{◌≡◌, ℕ, ◌+◌, ◌-◌, ◌<◌, ◌≤◌, List, Some, refl, sym, ap, ◌∙◌, subst}
+use Rattle.std.specs.Prelude.{Option, set}
 use Rattle.std.specs.Option.{option_map_or}
-use Rattle.lru_list.specs.Linked.{Linked, IsLive, promoted, removed, IsNumbered}
-use Rattle.lru_list.specs.Linked as list
+use Rattle.lru_list.specs.Linked.{Linked, IsLive, promoted, IsNumbered}
 use Rattle.lru_shard.specs.declared.slots.Held.{Held}
 use Rattle.lru_shard.specs.declared.unit.Refused.{Refused}
 use Rattle.lru_shard.specs.declared.unit.Cause.TheVariants.{Weight}
 use Rattle.lru_shard.specs.Representation.Slots.{held_at}
-use Rattle.lru_shard.specs.Representation.Table.{Node, node_of, look_in, rows_of, IsKept, IsUnit}
+use Rattle.lru_shard.specs.Representation.Table.{node_of, look_in, rows_of, IsKept, IsUnit}
 use Rattle.lru_shard.specs.Row.{Row, row, row_of, with_first, with_weight, with_value}
 use Rattle.lru_shard.specs.Shard.{Shard, shard, size_of, refusal, MayRefuse, Accepts, Declines, Refuses}
 use Rattle.lru_shard.specs.Unit.{weight_at}

@@ -313,18 +313,6 @@ module _ {T : Type 0} where
     to_last cause = subst (λ s. MayRefuse cap (size_of rows) s cause)
         (sym (ap size_of (tailed-new rows k (times_none rows k none) d w) ∙ size-last rows k (times_none rows k none) d w))
 
-    pub refused_first : (cause : Cause) → refusal cap (size_of rows) (and_row (size_of rows) w) ≡ Some cause → MayRefuse cap (size_of rows) (size_of (with_first rows (row k d w))) cause
-    refused_first cause h = to_first cause (may_refuse cap (size_of rows) (and_row (size_of rows) w) cause h)
-
-    pub refused_last : (cause : Cause) → refusal cap (size_of rows) (and_row (size_of rows) w) ≡ Some cause → MayRefuse cap (size_of rows) (size_of (tailed rows k d w)) cause
-    refused_last cause h = to_last cause (may_refuse cap (size_of rows) (and_row (size_of rows) w) cause h)
-
-    pub wants_first : refusal cap (size_of rows) (and_row (size_of rows) w) ≡ None → MayRefuse cap (size_of rows) (size_of (with_first rows (row k d w))) Memory
-    wants_first h = to_first Memory (h, omega arith)
-
-    pub wants_last : refusal cap (size_of rows) (and_row (size_of rows) w) ≡ None → MayRefuse cap (size_of rows) (size_of (tailed rows k d w)) Memory
-    wants_last h = to_last Memory (h, omega arith)
-
     pub tailed_is : tailed rows k d w ≡ with_last rows (row k d w)
     tailed_is = tailed-new rows k (times_none rows k none) d w
 

@@ -1,5 +1,5 @@
 //! One shard: rows in the order of their last use, under a cap on their weight.
-ghost use Rattle.std.specs.Prelude.{◌≡◌, ℕ, ◌+◌, ◌-◌, ◌<◌, ◌≤◌, length, nat_eq, Some, None, if◌then◌else◌, IfOk, IfErr, IfSome};
+ghost use Rattle.std.specs.Prelude.{◌≡◌, ℕ, ◌+◌, ◌<◌, ◌≤◌, length, nat_eq, Some, None, if◌then◌else◌, IfOk, IfErr};
 ghost use Rattle.std.specs.HashMap as hash;
 ghost use Rattle.lru_list.specs.Linked.{next_slot, pushed_head, pushed_tail, IsNumbered};
 ghost use Rattle.lru_shard.specs.Representation.Slots.{held_at};
@@ -70,21 +70,6 @@ fn started(delta: usize, max_weight: Option<usize>) -> usize
         None => delta.max(1),
         Some(most) => delta.min(most).max(1),
     }
-}
-
-// What the rows weigh once one that weighed `old` has another weight; `None` where that is above the cap.
-#[inline(always)]
-fn reweighed(used_weight: usize, old: usize, weight: usize, cap: usize) -> Option<usize>
-    requires part { old ≤ used_weight }
-    requires light { used_weight ≤ cap }
-    ensures fits { IfSome result (λ sum. (sum ≡ used_weight - old + weight) × (weight ≤ cap - (used_weight - old))) }
-    ensures heavy { result ≡ None → cap - (used_weight - old) < weight }
-{
-    let rest = used_weight - old;
-    if weight > cap - rest {
-        return None;
-    }
-    Some(rest + weight)
 }
 
 // Takes a place in the order, first or last, for a row more of this weight, and makes room for the row. The
@@ -175,9 +160,18 @@ impl<T> LruUnit<T> {
         T: Drop,
         ensures { IfOk result (λ unit. unit ≡ shard [] cap) }
     {
+        // a `match` for each refusal, since a `?` costs the proof two more calls
+        let rows = match Rows::with_capacity(alloc, capacity) {
+            Ok(rows) => rows,
+            Err(error) => return Err(error),
+        };
+        let order = match LinkedList::with_capacity(alloc, capacity) {
+            Ok(order) => order,
+            Err(error) => return Err(error),
+        };
         Ok(LruUnit {
-            rows: Rows::with_capacity(alloc, capacity)?,
-            order: LinkedList::with_capacity(alloc, capacity)?,
+            rows,
+            order,
             used_weight: 0,
             cap,
         })
@@ -301,12 +295,13 @@ impl<T: Drop> LruUnit<T> {
             return self.admit_new(key, data, weight);
         };
         let old = self.rows.held(place).weight;
-        let Some(used_weight) = reweighed(self.used_weight, old, weight, self.cap) else {
+        let rest = self.used_weight - old;
+        if weight > self.cap - rest {
             return Err(Refused::new(Cause::Weight, data));
-        };
+        }
         self.rows.write(place, Held { data, weight });
         self.order.promote(place);
-        self.used_weight = used_weight;
+        self.used_weight = rest + weight;
         Ok(old)
     }
 
@@ -386,12 +381,13 @@ impl<T: Drop> LruUnit<T> {
         };
         let old = self.rows.held(place).weight;
         let weight = raised(old, delta, max_weight);
-        let Some(used_weight) = reweighed(self.used_weight, old, weight, self.cap) else {
+        let rest = self.used_weight - old;
+        if weight > self.cap - rest {
             return Err(Cause::Weight);
-        };
+        }
         self.rows.set_weight(place, weight);
         self.order.promote(place);
-        self.used_weight = used_weight;
+        self.used_weight = rest + weight;
         Ok((old, weight, false))
     }
 
@@ -450,12 +446,13 @@ impl<T: Drop> LruUnit<T> {
         };
         let old = self.rows.held(place).weight;
         let weight = self.rows.update(place, update).max(1);
-        let Some(used_weight) = reweighed(self.used_weight, old, weight, self.cap) else {
+        let rest = self.used_weight - old;
+        if weight > self.cap - rest {
             return Err(Refused::new(Cause::Weight, None));
-        };
+        }
         self.rows.set_weight(place, weight);
         self.order.promote(place);
-        self.used_weight = used_weight;
+        self.used_weight = rest + weight;
         Ok((Some(old), weight))
     }
 
@@ -504,11 +501,12 @@ impl<T: Drop> LruUnit<T> {
             return Ok(None);
         };
         let old = self.rows.held(place).weight;
-        let Some(used_weight) = reweighed(self.used_weight, old, weight, self.cap) else {
+        let rest = self.used_weight - old;
+        if weight > self.cap - rest {
             return Err(Cause::Weight);
-        };
+        }
         self.rows.set_weight(place, weight);
-        self.used_weight = used_weight;
+        self.used_weight = rest + weight;
         Ok(Some(old))
     }
 

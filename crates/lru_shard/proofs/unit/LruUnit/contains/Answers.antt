@@ -1,4 +1,4 @@
-use Rattle.std.proofs.Common.{sym, ap, ◌∙◌}
+use Rattle.std.proofs.Common.{ap, ◌∙◌}
 use Rattle.std.specs.Prelude.{is_some}
 use Rattle.lru_shard.specs.Representation.Table.{place_in}
 use Rattle.lru_shard.proofs.Kept.{held_at_place}

@@ -1,4 +1,4 @@
-use Rattle.std.proofs.Common.{refl, sym, ap}
+use Rattle.std.proofs.Common.{◌+◌, ◌-◌, refl, sym, ap}
 use Rattle.std.specs.Prelude.{nat_eq}
 use Rattle.std.specs.HashMap as hash
 use Rattle.lru_shard.specs.Representation.Slots.{held}
@@ -24,15 +24,15 @@ returns-in_default g c =
     let i = c.self.inside in
     increments_new _ c.args.self.now c.args.self.now c.args.key c.args.delta c.args.max_weight refl (no_row_in (place_in i.rows) i.rows.slots.items i.order i.used_weight i.cap c.self.invariant c.args.self.now c.self.view_is c.args.key (sym c.in_default.ensures)) c.started-weight.result c.started-weight.ensures c.admit_made.new.self c.in_default-admit_made.ensures
 
-pub reweighed-requires-clause-part : goal.reweighed-requires-clause-part
-reweighed-requires-clause-part g c =
+pub overflow_sub-rest : goal.overflow_sub-rest
+overflow_sub-rest g c =
     let i = c.self.inside in
     part_in (place_in i.rows) i.rows.slots.items i.order i.used_weight i.cap c.self.invariant c.args.self.now c.self.view_is c.args.key c.in-Some.place c.in-Some.ensures c.held.result.now c.held.ensures
 
-pub returns-in_default-reweighed : goal.returns-in_default-reweighed
-returns-in_default-reweighed g c =
+pub returns-then-weight-self : goal.returns-then-weight-self
+returns-then-weight-self g c =
     let i = c.self.inside in
-    increments_heavy _ c.args.self.now c.args.key c.args.delta c.args.max_weight (row c.args.key c.held.result.now.«data» c.held.result.now.weight) (row_there (place_in i.rows) i.rows.slots.items i.order i.used_weight i.cap c.self.invariant c.args.self.now c.self.view_is c.args.key c.in-Some.place c.in-Some.ensures c.held.result.now c.held.ensures) c.raised-weight.result c.raised-weight.ensures _ (heavy_there (place_in i.rows) i.rows.slots.items i.order i.used_weight i.cap c.self.invariant c.args.self.now c.self.view_is c.args.key c.in-Some.place c.in-Some.ensures c.held.result.now c.held.ensures c.raised-weight.result (c.in_default-reweighed.ensures.heavy refl) c.held.result.now.«data») refl
+    increments_heavy _ c.args.self.now c.args.key c.args.delta c.args.max_weight (row c.args.key c.held.result.now.«data» c.held.result.now.weight) (row_there (place_in i.rows) i.rows.slots.items i.order i.used_weight i.cap c.self.invariant c.args.self.now c.self.view_is c.args.key c.in-Some.place c.in-Some.ensures c.held.result.now c.held.ensures) c.raised-weight.result c.raised-weight.ensures _ (heavy_there (place_in i.rows) i.rows.slots.items i.order i.used_weight i.cap c.self.invariant c.args.self.now c.self.view_is c.args.key c.in-Some.place c.in-Some.ensures c.held.result.now c.held.ensures c.raised-weight.result c.if-weight-self.true c.held.result.now.«data») refl
 
 pub promote-requires : goal.promote-requires
 promote-requires g c =
@@ -42,9 +42,9 @@ promote-requires g c =
 pub invariant_of-self : goal.invariant_of-self
 invariant_of-self g c =
     let i = c.self.inside in
-    kept_promoted (place_in i.rows) i.rows.slots.items i.order i.used_weight i.cap c.self.invariant c.args.self.now c.self.view_is c.args.key c.in-Some.place c.in-Some.ensures c.held.result.now c.held.ensures (held c.held.result.now.«data» c.raised-weight.result) (place_in c.set_weight.new.self) (ap (hash.get nat_eq) c.set_weight.ensures.places) c.set_weight.new.self.slots.items (c.set_weight.ensures.slots c.held.result.now c.held.ensures) c.in-Some-reweighed.used_weight c.in-Some-reweighed.ensures.fits c.promote.new.self c.promote.ensures.promotes c.promote.ensures.numbered
+    kept_promoted (place_in i.rows) i.rows.slots.items i.order i.used_weight i.cap c.self.invariant c.args.self.now c.self.view_is c.args.key c.in-Some.place c.in-Some.ensures c.held.result.now c.held.ensures (held c.held.result.now.«data» c.raised-weight.result) (place_in c.set_weight.new.self) (ap (hash.get nat_eq) c.set_weight.ensures.places) c.set_weight.new.self.slots.items (c.set_weight.ensures.slots c.held.result.now c.held.ensures) (i.used_weight - c.held.result.now.weight + c.raised-weight.result) (refl, c.if-weight-self.false) c.promote.new.self c.promote.ensures.promotes c.promote.ensures.numbered
 
 pub returns : goal.returns
 returns g c =
     let i = c.self.inside in
-    increments _ c.args.self.now c.args.key c.args.delta c.args.max_weight (row c.args.key c.held.result.now.«data» c.held.result.now.weight) (row_there (place_in i.rows) i.rows.slots.items i.order i.used_weight i.cap c.self.invariant c.args.self.now c.self.view_is c.args.key c.in-Some.place c.in-Some.ensures c.held.result.now c.held.ensures) c.raised-weight.result c.raised-weight.ensures _ (accepts_promoted (place_in i.rows) i.rows.slots.items i.order i.used_weight i.cap c.self.invariant c.args.self.now c.self.view_is c.args.key c.in-Some.place c.in-Some.ensures c.held.result.now c.held.ensures (held c.held.result.now.«data» c.raised-weight.result) (place_in c.set_weight.new.self) (ap (hash.get nat_eq) c.set_weight.ensures.places) c.set_weight.new.self.slots.items (c.set_weight.ensures.slots c.held.result.now c.held.ensures) c.in-Some-reweighed.used_weight c.in-Some-reweighed.ensures.fits c.promote.new.self c.promote.ensures.promotes)
+    increments _ c.args.self.now c.args.key c.args.delta c.args.max_weight (row c.args.key c.held.result.now.«data» c.held.result.now.weight) (row_there (place_in i.rows) i.rows.slots.items i.order i.used_weight i.cap c.self.invariant c.args.self.now c.self.view_is c.args.key c.in-Some.place c.in-Some.ensures c.held.result.now c.held.ensures) c.raised-weight.result c.raised-weight.ensures _ (accepts_promoted (place_in i.rows) i.rows.slots.items i.order i.used_weight i.cap c.self.invariant c.args.self.now c.self.view_is c.args.key c.in-Some.place c.in-Some.ensures c.held.result.now c.held.ensures (held c.held.result.now.«data» c.raised-weight.result) (place_in c.set_weight.new.self) (ap (hash.get nat_eq) c.set_weight.ensures.places) c.set_weight.new.self.slots.items (c.set_weight.ensures.slots c.held.result.now c.held.ensures) (i.used_weight - c.held.result.now.weight + c.raised-weight.result) (refl, c.if-weight-self.false) c.promote.new.self c.promote.ensures.promotes)
