@@ -14,7 +14,7 @@ untold limit = record { weight_limit = limit; len_watermark = None; capacity = 0
 abbrev pub limits_told : Settings → Limits
 limits_told settings = record { weight_limit = settings.weight_limit; len_watermark = settings.len_watermark }
 
--- what an order is held to
+-- what an order has
 abbrev pub limits_of : {K : Type 0} {N : ℕ} → AsyncLru K N → Limits
 limits_of lru = (arc_value lru.world).limits
 

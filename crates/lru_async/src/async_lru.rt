@@ -135,8 +135,9 @@ impl<K: Hash + Eq + Clone + Drop + Send + Sync + 'static, const N: usize> AsyncL
         }
     }
 
-    /// Asks for a row first in the shard of its key, in place of the key's, and answers that shard. A weight of 0 counts as
-    /// 1. A refusal hands the key back.
+    /// Asks for a row first in the shard of its key, and answers that shard. A row that is there gets the weight and keeps the
+    /// key that it had. A weight of 0 counts as 1. A message that is refused hands the key back; where the shard refuses the
+    /// row later, nothing is handed back.
     pub fn admit(&self, rt: &impl Wait, key: K, weight: usize) -> Result<usize, SendRefused<K>>
         ensures shard { IfOk result (λ s. s ≡ hash_of (K.hash_input key) % N) }
         ensures held { IfErr result (λ r. held_in r ≡ key) }
@@ -151,8 +152,8 @@ impl<K: Hash + Eq + Clone + Drop + Send + Sync + 'static, const N: usize> AsyncL
         }
     }
 
-    /// Asks for a row last in the shard of its key, where the key has none, and answers that shard. A refusal hands the key
-    /// back.
+    /// Asks for a row last in the shard of its key, where the key has none, and answers that shard. A weight of 0 is kept, and
+    /// nothing is evicted for it. A message that is refused hands the key back.
     pub fn insert_tail(
         &self,
         rt: &impl Wait,
@@ -238,7 +239,8 @@ impl<K: Hash + Eq + Clone + Drop + Send + Sync + 'static, const N: usize> AsyncL
         self.world.shards[self.shard_of(hash)].weight_of(rt, hash)
     }
 
-    /// A clone of the last row's key, and its weight; `None` of an empty shard, and past the last shard.
+    /// A clone of the last row's key, and its weight; `None` of an empty shard, and past the last shard. Refused where there
+    /// is no memory for the question, the answer or the clone, and where the actor is closed.
     pub fn peek_lru(
         &self,
         rt: &impl Wait,
@@ -253,7 +255,8 @@ impl<K: Hash + Eq + Clone + Drop + Send + Sync + 'static, const N: usize> AsyncL
         }
     }
 
-    /// Clones of all keys of a shard with their weights, most recent first; `None` past the last shard.
+    /// Clones of all keys of a shard with their weights, most recent first; `None` past the last shard. Refused where there is
+    /// no memory for the question, the answer or the clones, and where the actor is closed.
     pub fn snapshot_shard(
         &self,
         rt: &impl Wait,
@@ -268,7 +271,8 @@ impl<K: Hash + Eq + Clone + Drop + Send + Sync + 'static, const N: usize> AsyncL
         }
     }
 
-    /// The weight of a shard, after all that this caller sent to it before; `None` past the last shard.
+    /// The weight of a shard, after all that this caller sent to it before; `None` past the last shard. Refused where there is
+    /// no memory for the question or the answer, and where the actor is closed.
     pub fn shard_weight(
         &self,
         rt: &impl Wait,

@@ -10,7 +10,7 @@ use pingora_lru_files::snapshot::Keyed;
 use std::alloc::{AllocError, Global};
 
 /// What a line asks for.
-#[derive(Debug, Drop)]
+#[derive(Drop)]
 pub enum Command<'a> {
     /// A call of the core.
     Do(Call<Keyed>),

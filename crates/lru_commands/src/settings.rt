@@ -5,7 +5,7 @@ ghost use Rattle.lru_commands.specs.Settings.{settings_of};
 use lru_lines::numbers::{number, number_or_dash};
 
 /// The limits of the core, and the seed of its draws.
-#[derive(Clone, Copy, Debug)]
+#[derive(Clone, Copy)]
 pub struct Settings {
     pub limit: u64,
     pub watermark: Option<u64>,

@@ -7,7 +7,7 @@ use lru_test_rows::asked::{Step, call_of};
 use rand::rngs::StdRng;
 use std::alloc::{AllocError, Global};
 
-// The data and the weights of a shard, most recent first.
+/// The data and the weights of a shard, most recent first.
 pub fn rows_of<const N: usize>(
     alloc: Global,
     core: &LruCore<u64, N>,
@@ -22,7 +22,7 @@ pub fn rows_of<const N: usize>(
     Ok(rows)
 }
 
-// The weight of a core, and the rows of each shard.
+/// The weight of a core, and the rows of each shard.
 pub fn shown<const N: usize>(alloc: Global, core: &LruCore<u64, N>) -> Result<String, AllocError> {
     let weight = core.weight();
     let mut text = format!(in alloc; "{weight}:")?;
@@ -48,7 +48,7 @@ fn reply_of<const N: usize>(
     answer(core, alloc, rng, call)
 }
 
-// Does a call, and says what is otherwise than it has to be; nothing, where all is well.
+/// Does a call, and says what is otherwise than it has to be; nothing, where all is well.
 pub fn fault<const N: usize>(
     alloc: Global,
     core: &mut LruCore<u64, N>,
@@ -65,7 +65,7 @@ pub fn fault<const N: usize>(
     format!(in alloc; "{asked:?} answers {answer} and leaves {shown}\n")
 }
 
-// The faults of steps that are done in turn.
+/// The faults of steps that are done in turn.
 pub fn faults<const N: usize>(
     alloc: Global,
     core: &mut LruCore<u64, N>,

@@ -98,23 +98,27 @@ const FAILURES: [(io::ErrorKind, &str); 2] = [
     (io::ErrorKind::OutOfMemory, "error memory\n"),
 ];
 
-/// The first of them, if there is one, that is told otherwise, or takes a file of the folder.
-fn wrong_failure(alloc: Global) -> Result<Option<usize>, AllocError> {
+/// Whether such a failure is told so, and the folder keeps its file.
+fn tells_failure(alloc: Global, kind: io::ErrorKind, text: &str) -> Result<bool, AllocError> {
     let arguments = words(alloc, "4 - 7")?;
     let mut folder = MemoryFolder::new(alloc).with("d/c.0", b"kept")?;
+    let mut writer = Vec::new(alloc);
+    let status = run(
+        alloc,
+        &mut folder,
+        &Discard,
+        &arguments,
+        &mut Broken { kind },
+        &mut writer,
+    );
+    let kept = folder.get("d/c.0");
+    Ok((status, writer.as_slice(), kept) == (1, text.as_bytes(), Some(b"kept".as_slice())))
+}
+
+/// The first of them, if there is one, that is told otherwise.
+fn wrong_failure(alloc: Global) -> Result<Option<usize>, AllocError> {
     for (place, (kind, text)) in FAILURES.iter().enumerate() {
-        let mut writer = Vec::new(alloc);
-        let status = run(
-            alloc,
-            &mut folder,
-            &Discard,
-            &arguments,
-            &mut Broken { kind: *kind },
-            &mut writer,
-        );
-        let is_told = (status, writer.as_slice()) == (1, text.as_bytes());
-        let is_kept = folder.get("d/c.0") == Some(b"kept".as_slice());
-        if !(is_told & is_kept) {
+        if !tells_failure(alloc, *kind, text)? {
             return Ok(Some(place));
         }
     }

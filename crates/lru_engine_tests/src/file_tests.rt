@@ -78,21 +78,31 @@ const FAULTS: [(u64, &str); 5] = [
     ),
 ];
 
-/// The first call, if there is one, whose failure is told otherwise; and 99 where that of all calls is.
-fn wrong_fault(alloc: Global) -> Result<Option<u64>, AllocError> {
-    let input = b"save d c\nload d c\n".as_slice();
-    for (call, text) in FAULTS {
-        let mut folder = MemoryFolder::new(alloc);
-        folder.fail_at(call, 0);
-        if !answers_over(alloc, &mut folder, input, 0, text)? {
-            return Ok(Some(call));
-        }
-    }
+const SAVED_AND_LOADED: &[u8] = b"save d c\nload d c\n";
+
+/// Whether the failure of this call is told so.
+fn tells_fault(alloc: Global, call: u64, text: &str) -> Result<bool, AllocError> {
+    let mut folder = MemoryFolder::new(alloc);
+    folder.fail_at(call, 0);
+    answers_over(alloc, &mut folder, SAVED_AND_LOADED, 0, text)
+}
+
+/// Whether that of all calls from the second on is.
+fn tells_stop(alloc: Global) -> Result<bool, AllocError> {
     let mut folder = MemoryFolder::new(alloc);
     folder.stop_at(1, 0);
     let text = "saved 0 failed 2\nloaded 0 missing 0 errored 2 removed 0\n";
-    let is_so = answers_over(alloc, &mut folder, input, 0, text)?;
-    Ok(if is_so { None } else { Some(99) })
+    answers_over(alloc, &mut folder, SAVED_AND_LOADED, 0, text)
+}
+
+/// The first call, if there is one, whose failure is told otherwise; and 99 where that of all calls is.
+fn wrong_fault(alloc: Global) -> Result<Option<u64>, AllocError> {
+    for (call, text) in FAULTS {
+        if !tells_fault(alloc, call, text)? {
+            return Ok(Some(call));
+        }
+    }
+    Ok(if tells_stop(alloc)? { None } else { Some(99) })
 }
 
 #[test]
@@ -126,17 +136,20 @@ fn loads_no_damaged_shard(rt: HostRuntime) -> Result<(), Fail> {
     Ok(())
 }
 
+/// Whether a save that fails at this call leaves the temp file of this shard under this word.
+fn leaves_word(alloc: Global, call: u64, shard: u64, word: u32) -> Result<bool, AllocError> {
+    let path = format!(in alloc; "d/c.{shard}.{word:08x}.tmp")?;
+    let mut folder = MemoryFolder::new(alloc);
+    folder.fail_at(call, 0);
+    let is_told = answers_over(alloc, &mut folder, b"save d c\n", 0, "saved 1 failed 1\n")?;
+    Ok((is_told, folder.get(&path)) == (true, Some(b"".as_slice())))
+}
+
 /// The first shard, if there is one, whose temp file has another word than the generator draws.
 fn wrong_word(alloc: Global) -> Result<Option<u64>, AllocError> {
     let mut rng = StdRng::seed_from_u64(7);
-    for shard in 0..2 {
-        let word = rng.next_u32();
-        let mut folder = MemoryFolder::new(alloc);
-        folder.fail_at(4 * shard + 2, 0);
-        let input = b"save d c\n".as_slice();
-        let is_told = answers_over(alloc, &mut folder, input, 0, "saved 1 failed 1\n")?;
-        let path = format!(in alloc; "d/c.{shard}.{word:08x}.tmp")?;
-        if (is_told, folder.get(&path)) != (true, Some(b"".as_slice())) {
+    for (shard, call) in [(0, 2), (1, 6)] {
+        if !leaves_word(alloc, call, shard, rng.next_u32())? {
             return Ok(Some(shard));
         }
     }
@@ -223,16 +236,20 @@ const BAD: [&[u8]; 23] = [
     b"load \xff c",
 ];
 
+/// This line between two others.
+fn between(alloc: Global, bad: &[u8]) -> Result<Vec<u8>, AllocError> {
+    let mut input = b"save d c\n".to_vec(alloc)?;
+    input.extend_from_slice(bad)?;
+    input.extend_from_slice(b"\ntotal\n")?;
+    Ok(input)
+}
+
 /// The first of them, if there is one, at which the program does not stop.
 fn wrong_line(alloc: Global) -> Result<Option<usize>, AllocError> {
+    let text = "saved 2 failed 0\nerror line 2\n";
     for (place, bad) in BAD.iter().enumerate() {
-        let mut input = Vec::new(alloc);
-        input.extend_from_slice(b"save d c\n")?;
-        input.extend_from_slice(bad)?;
-        input.extend_from_slice(b"\ntotal\n")?;
-        let mut folder = MemoryFolder::new(alloc);
-        let text = "saved 2 failed 0\nerror line 2\n";
-        if !answers_over(alloc, &mut folder, &input, 2, text)? {
+        let input = between(alloc, bad)?;
+        if !answers_over(alloc, &mut MemoryFolder::new(alloc), &input, 2, text)? {
             return Ok(Some(place));
         }
     }

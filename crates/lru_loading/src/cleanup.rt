@@ -17,7 +17,7 @@ use lru_folder::reports::TempFileCleanupReport;
 use std::alloc::{AllocError, Global};
 
 /// What a listed folder has for a cleanup: the paths of its temp files, and a failure for each name that is no text.
-#[derive(Debug, Drop)]
+#[derive(Drop)]
 struct TempFiles {
     paths: Vec<String>,
     unreadable: Vec<ShardFileError>,

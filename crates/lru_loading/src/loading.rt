@@ -22,7 +22,7 @@ use std::fmt::Display;
 const PIECE_LEN: usize = 8192;
 
 /// Why an open file was not read to its end.
-#[derive(Debug, Drop)]
+#[derive(Drop)]
 enum ReadError {
     Folder(FolderFault),
     Memory,
@@ -111,7 +111,7 @@ fn read_shard<F: Folder, E>(
 }
 
 /// What became of a shard that did not fail.
-#[derive(Clone, Copy, Debug, PartialEq, Eq)]
+#[derive(Clone, Copy)]
 enum ShardLoad {
     Loaded,
     Missing,
@@ -178,7 +178,8 @@ fn log_load<L: Log, E>(log: &L, shards: usize, report: &ShardLoadReport<E>) {
     }
 }
 
-/// Loads shards from their files, from shard 0 up, and then removes the temp files that a save has left.
+/// Loads shards from their files, from shard 0 up, and then removes the temp files, which are all files of
+/// the folder whose names begin with `file_name` and end in `.tmp`, those of another name that begins so among them.
 ///
 /// The closure gets a shard's number and the bytes of its file. A shard is missing where its file is not there; it has
 /// failed where the folder or memory kept its file back, and where the closure refused the bytes. A failure stops

@@ -2,7 +2,8 @@
 use crate::steps::shown;
 use lru_locks::lru::Lru;
 use lru_shard::unit::{Cause, Refused};
-use std::alloc::Global;
+use std::alloc::{AllocError, Global};
+use std::sync::Wait;
 use std::test::Fail;
 
 const HALF: usize = 9223372036854775807;
@@ -12,82 +13,105 @@ fn parts<D>(refused: Refused<D>) -> (Cause, D) {
     (refused.cause, refused.held)
 }
 
-#[test]
-fn updates_or_admits(rt: HostRuntime) -> Result<(), Fail> {
-    let alloc: Global = rt.alloc();
+// A key, what its weight is raised by or whether it becomes 0, the weight that it had, and what the call leaves.
+const UPDATES: [(u64, usize, bool, Option<usize>, &str); 3] = [
+    (2, 3, false, Some(2), "9: [(21, 5), (40, 4)]"),
+    (6, 0, false, None, "10: [(60, 1), (21, 5), (40, 4)]"),
+    (4, 0, true, Some(4), "7: [(41, 1), (60, 1), (21, 5)]"),
+];
+
+// The first key, if there is one, whose update or admission answers or leaves something else.
+fn wrong_update<R: Wait>(rt: &R, alloc: Global) -> Result<Option<u64>, AllocError> {
     let lru = Lru::<u64, 1>::with_capacity(alloc, 100, 10)?;
     for key in [2u64, 4] {
-        assert_eq!(rt; lru.admit(&rt, key, key * 10, key as usize)?, 0);
+        if !matches!(lru.admit(rt, key, key * 10, key as usize), Ok(0)) {
+            return Ok(Some(key));
+        }
     }
-    for (key, more, is_zero, was, left) in [
-        (2, 3, false, Some(2), "9: [(21, 5), (40, 4)]"),
-        (6, 0, false, None, "10: [(60, 1), (21, 5), (40, 4)]"),
-        (4, 0, true, Some(4), "7: [(41, 1), (60, 1), (21, 5)]"),
-    ] {
-        let answer = lru.update_or_admit(
-            &rt,
-            key,
-            |value, weight| {
-                *value = value.wrapping_add(1);
-                if is_zero {
-                    0
-                } else {
-                    weight.wrapping_add(more)
-                }
-            },
-            || (60, 0),
-        );
-        assert_eq!(rt; answer?, was, "of {key}");
-        assert_eq!(rt; shown(&rt, alloc, &lru)?.as_str(), left, "of {key}");
+    for (key, more, is_zero, was, left) in UPDATES {
+        let update = |value: &mut u64, weight: usize| {
+            *value = value.wrapping_add(1);
+            if is_zero {
+                0
+            } else {
+                weight.wrapping_add(more)
+            }
+        };
+        let answer = lru.update_or_admit(rt, key, update, || (60, 0));
+        if answer.map_err(parts) != Ok(was) || shown(rt, alloc, &lru)?.as_str() != left {
+            return Ok(Some(key));
+        }
     }
+    Ok(None)
+}
+
+#[test]
+fn updates_or_admits(rt: HostRuntime) -> Result<(), Fail> {
+    assert_eq!(rt; wrong_update(&rt, rt.alloc())?, None);
     Ok(())
 }
 
-// No data are made where they are not needed: not for a row that is there, also where it is refused, and not before
-// a refusal for weight. An update that is refused hands back what was made.
-#[test]
-fn calls_the_closures_that_it_needs(rt: HostRuntime) -> Result<(), Fail> {
-    let lru = Lru::<u64, 2>::with_capacity(rt.alloc(), 100, 4)?;
-    assert_eq!(rt; lru.admit(&rt, 0, 10, HALF)?, 0);
-    assert_eq!(rt; lru.insert_tail(&rt, 4, 30, 0)?, true);
-    let mut made = 0u32;
+// The first key, if there is one, whose increment answers something else. `made` counts the data that are made.
+fn wrong_increment<R: Wait>(rt: &R, lru: &Lru<u64, 2>, made: &mut u32) -> Option<u64> {
     for (key, delta, most, answer) in [
         (0, 1, Some(1), Ok(HALF)),
         (2, 1, None, Err(Cause::Weight)),
         (4, 1, None, Err(Cause::Weight)),
     ] {
         let data = || {
-            made = made.wrapping_add(1);
+            *made = made.wrapping_add(1);
             7
         };
-        assert_eq!(rt;
-            lru.increment_weight(&rt, key, data, delta, most),
-            answer,
-            "of {key}"
-        );
+        if lru.increment_weight(rt, key, data, delta, most) != answer {
+            return Some(key);
+        }
     }
+    None
+}
+
+// The first key, if there is one, whose update or admission answers something else.
+fn wrong_refusal<R: Wait>(rt: &R, lru: &Lru<u64, 2>, made: &mut u32) -> Option<u64> {
     for (key, weight, answer) in [
         (0, HALF, Ok(Some(HALF))),
         (4, 1, Err((Cause::Weight, None))),
         (2, 1, Err((Cause::Weight, Some((9, 5))))),
     ] {
-        assert_eq!(rt; made, 0, "before {key}");
+        if *made != 0 {
+            return Some(key);
+        }
         let data = || {
-            made = made.wrapping_add(1);
+            *made = made.wrapping_add(1);
             (9, 5)
         };
-        assert_eq!(rt;
-            lru.update_or_admit(&rt, key, |_, _| weight, data)
-                .map_err(parts),
-            answer,
-            "of {key}"
-        );
+        if lru
+            .update_or_admit(rt, key, |_, _| weight, data)
+            .map_err(parts)
+            != answer
+        {
+            return Some(key);
+        }
     }
-    assert_eq!(rt; made, 1);
-    for top in [0, 1] {
-        assert!(rt; lru.promote_top_n(&rt, 0, top), "among {top}");
-    }
-    assert!(rt; lru.promote(&rt, 0));
-    assert!(rt; !lru.promote(&rt, 2));
+    None
+}
+
+// No data are made where they are not needed: not for a row that is there, also where it is refused, and not before
+// a refusal for weight. An update that is refused hands back what was made.
+fn calls_what_it_needs<R: Wait>(rt: &R, alloc: Global) -> Result<bool, AllocError> {
+    let lru = Lru::<u64, 2>::with_capacity(alloc, 100, 4)?;
+    let are_put = matches!(lru.admit(rt, 0, 10, HALF), Ok(0))
+        & matches!(lru.insert_tail(rt, 4, 30, 0), Ok(true));
+    let mut made = 0u32;
+    let wrong = (
+        wrong_increment(rt, &lru, &mut made),
+        wrong_refusal(rt, &lru, &mut made),
+    );
+    let are_first = lru.promote_top_n(rt, 0, 0) & lru.promote_top_n(rt, 0, 1);
+    let held = (lru.promote(rt, 0), lru.promote(rt, 2));
+    Ok(are_put & are_first & ((wrong, made, held) == ((None, None), 1, (true, false))))
+}
+
+#[test]
+fn calls_the_closures_that_it_needs(rt: HostRuntime) -> Result<(), Fail> {
+    assert!(rt; calls_what_it_needs(&rt, rt.alloc())?);
     Ok(())
 }

@@ -3,90 +3,132 @@ use lru_cores::lru_core::LruCore;
 use lru_locks::lru::Lru;
 use rand::rngs::StdRng;
 use rand_core::SeedableRng;
-use std::alloc::Global;
+use std::alloc::{AllocError, Global};
 use std::sync::Wait;
 use std::test::Fail;
+
+// Whether so many of six rows of weight 0 leave, down to a watermark.
+fn evicts_down_to<R: Wait>(
+    rt: &R,
+    alloc: Global,
+    watermark: usize,
+    evicted: usize,
+) -> Result<bool, AllocError> {
+    let mut rng = StdRng::seed_from_u64(1);
+    let lru = Lru::<u64, 2>::with_capacity_and_watermark(alloc, 100, 0, Some(watermark))?;
+    let mut are_put = true;
+    for key in 0..6u64 {
+        are_put &= matches!(lru.insert_tail(rt, key, key, 0), Ok(true));
+    }
+    let before = (lru.len(), lru.weight());
+    let Ok(left) = lru.evict_to_limit(rt, alloc, &mut rng) else {
+        return Ok(false);
+    };
+    Ok(are_put & ((before, left.len(), lru.len()) == ((6, 0), evicted, watermark)))
+}
 
 #[test]
 fn evicts_down_to_the_watermark(rt: HostRuntime) -> Result<(), Fail> {
     let alloc: Global = rt.alloc();
-    for (watermark, evicted) in [(2, 4), (0, 6)] {
-        let mut rng = StdRng::seed_from_u64(1);
-        let lru = Lru::<u64, 2>::with_capacity_and_watermark(alloc, 100, 0, Some(watermark))?;
-        for key in 0..6u64 {
-            assert_eq!(rt; lru.insert_tail(&rt, key, key, 0)?, true);
-        }
-        assert_eq!(rt; (lru.len(), lru.weight()), (6, 0));
-        assert_eq!(rt; lru.evict_to_limit(&rt, alloc, &mut rng)?.len(), evicted);
-        assert_eq!(rt; lru.len(), watermark);
-    }
+    assert!(rt; evicts_down_to(&rt, alloc, 2, 4)? & evicts_down_to(&rt, alloc, 0, 6)?);
     Ok(())
 }
 
 // What 30 evictions from 50 even keys and 10 odd ones take, with the generator of a seed; nothing, where an answer is
 // otherwise.
-fn trial<R: Wait>(rt: &R, alloc: Global, seed: u64) -> Result<Vec<(u64, usize)>, Fail> {
+fn trial<R: Wait>(rt: &R, alloc: Global, seed: u64) -> Result<Vec<(u64, usize)>, AllocError> {
     let lru = Lru::<u64, 2>::with_capacity(alloc, 30, 50)?;
+    let mut are_put = true;
     for half in 0..50u64 {
-        if lru.admit(rt, 2 * half, 2 * half, 1)? != 0 {
-            return Ok(Vec::new(alloc));
-        }
+        let key = half << 1;
+        are_put &= matches!(lru.admit(rt, key, key, 1), Ok(0));
     }
     for half in 0..10u64 {
-        if lru.admit(rt, 2 * half + 1, 2 * half + 1, 1)? != 1 {
-            return Ok(Vec::new(alloc));
-        }
+        let key = (half << 1) | 1;
+        are_put &= matches!(lru.admit(rt, key, key, 1), Ok(1));
     }
-    Ok(lru.evict_to_limit(rt, alloc, &mut StdRng::seed_from_u64(seed))?)
+    match lru.evict_to_limit(rt, alloc, &mut StdRng::seed_from_u64(seed)) {
+        Ok(pairs) if are_put => Ok(pairs),
+        _ => Ok(Vec::new(alloc)),
+    }
 }
 
-fn core_trial(alloc: Global, seed: u64) -> Result<Vec<(u64, usize)>, Fail> {
+fn core_trial(alloc: Global, seed: u64) -> Result<Vec<(u64, usize)>, AllocError> {
     let mut core = LruCore::<u64, 2>::with_capacity(alloc, 30, 50)?;
     for half in 0..50u64 {
-        let _shard = core.admit(2 * half, 2 * half, 1)?;
+        let key = half << 1;
+        let _answer = core.admit(key, key, 1);
     }
     for half in 0..10u64 {
-        let _shard = core.admit(2 * half + 1, 2 * half + 1, 1)?;
+        let key = (half << 1) | 1;
+        let _answer = core.admit(key, key, 1);
     }
-    Ok(core.evict_to_limit(alloc, &mut StdRng::seed_from_u64(seed))?)
+    match core.evict_to_limit(alloc, &mut StdRng::seed_from_u64(seed)) {
+        Ok(pairs) => Ok(pairs),
+        Err(_) => Ok(Vec::new(alloc)),
+    }
+}
+
+// How many even keys leave in 50 trials, each of which takes 30 keys and those that a core's takes, and whether two trials
+// differ; nothing, where one is otherwise.
+fn trials<R: Wait>(rt: &R, alloc: Global) -> Result<(usize, bool), AllocError> {
+    let first = trial(rt, alloc, 0)?;
+    let mut even = 0usize;
+    let mut differs = false;
+    for seed in 0..50u64 {
+        let pairs = trial(rt, alloc, seed)?;
+        let core_pairs = core_trial(alloc, seed)?;
+        if (pairs.len(), pairs.as_slice()) != (30, core_pairs.as_slice()) {
+            return Ok((0, false));
+        }
+        even = even.saturating_add(pairs.iter().filter(|pair| pair.0 % 2 == 0).count());
+        differs |= pairs.as_slice() != first.as_slice();
+    }
+    Ok((even, differs))
 }
 
 #[test]
 fn spreads_evictions_by_two_choices(rt: HostRuntime) -> Result<(), Fail> {
-    let alloc: Global = rt.alloc();
-    let first = trial(&rt, alloc, 0)?;
-    let mut even = 0usize;
-    let mut differs = false;
-    for seed in 0..50u64 {
-        let pairs = trial(&rt, alloc, seed)?;
-        assert_eq!(rt; pairs.len(), 30, "seed {seed}");
-        even = even.saturating_add(pairs.iter().filter(|pair| pair.0 % 2 == 0).count());
-        differs = differs || pairs.as_slice() != first.as_slice();
-        assert_eq!(rt;
-            core_trial(alloc, seed)?.as_slice(),
-            pairs.as_slice(),
-            "seed {seed}"
-        );
-    }
-    assert!(rt; 1050 <= even && even <= 1425, "{even} even keys");
-    assert!(rt; differs);
+    let (even, differs) = trials(&rt, rt.alloc())?;
+    assert!(rt;
+        differs & (1050 <= even) & (even <= 1425),
+        "{even} even keys"
+    );
     Ok(())
+}
+
+// Whether the row of this key, the only one of eight shards, leaves; none does before it is there.
+fn finds_the_row<R: Wait>(rt: &R, alloc: Global, key: u64) -> Result<bool, AllocError> {
+    let mut rng = StdRng::seed_from_u64(key);
+    let lru = Lru::<u64, 8>::with_capacity(alloc, 0, 0)?;
+    let Ok(before) = lru.evict_to_limit(rt, alloc, &mut rng) else {
+        return Ok(false);
+    };
+    let is_put = matches!(lru.admit(rt, key, key, 3), Ok(shard) if shard as u64 == key);
+    let Ok(left) = lru.evict_to_limit(rt, alloc, &mut rng) else {
+        return Ok(false);
+    };
+    let counters = (lru.len(), lru.weight());
+    Ok(
+        is_put
+            & (before.len() == 0)
+            & ((left.as_slice(), counters) == ([(key, 3)].as_slice(), (0, 0))),
+    )
+}
+
+// The first key, if there is one, whose row is not found.
+fn lost_key<R: Wait>(rt: &R, alloc: Global) -> Result<Option<u64>, AllocError> {
+    for key in 0..8u64 {
+        if !finds_the_row(rt, alloc, key)? {
+            return Ok(Some(key));
+        }
+    }
+    Ok(None)
 }
 
 // Seven of eight shards are empty, and the last row is found from wherever the draws begin.
 #[test]
 fn finds_the_one_row_of_many_shards(rt: HostRuntime) -> Result<(), Fail> {
-    let alloc: Global = rt.alloc();
-    for key in 0..8u64 {
-        let mut rng = StdRng::seed_from_u64(key);
-        let lru = Lru::<u64, 8>::with_capacity(alloc, 0, 0)?;
-        assert_eq!(rt; lru.evict_to_limit(&rt, alloc, &mut rng)?.len(), 0);
-        assert_eq!(rt; lru.admit(&rt, key, key, 3)? as u64, key);
-        assert_eq!(rt;
-            lru.evict_to_limit(&rt, alloc, &mut rng)?.as_slice(),
-            [(key, 3)].as_slice()
-        );
-        assert_eq!(rt; (lru.len(), lru.weight()), (0, 0));
-    }
+    assert_eq!(rt; lost_key(&rt, rt.alloc())?, None);
     Ok(())
 }

@@ -1,6 +1,5 @@
 // Drawn calls on an `Lru` and on a core answer the same, and leave the same, by one thread and by two.
 ghost use Rattle.lru_runs.specs.Calls.{IsAllowed};
-ghost use Rattle.std.specs.Prelude.{◌<◌};
 
 use crate::shown::{core_state_of, state_of, text_of};
 use crate::steps::answer_of;
@@ -8,9 +7,8 @@ use lru_cores::lru_core::LruCore;
 use lru_locks::lru::Lru;
 use lru_runs::calls;
 use lru_runs::calls::Call;
-use rand::RngExt;
 use rand::rngs::StdRng;
-use rand_core::SeedableRng;
+use rand_core::{Rng, SeedableRng};
 use std::alloc::{AllocError, Global};
 use std::sync::Wait;
 use std::test::Fail;
@@ -33,20 +31,18 @@ struct Drawn {
     data: u64,
     weight: usize,
     most: usize,
-    kinds: u8,
+    kind: u64,
 }
 
-fn draw(rng: &mut StdRng, of: Of) -> Drawn
-    ensures most { result.most < 8 }
-    ensures kinds { 0 < result.kinds }
-{
-    let any = rng.random_range(0..8u64);
-    let data = rng.random_range(0..1000u64);
-    let weight = rng.random_range(0..6usize);
-    let most = rng.random_range(0..8usize);
-    let (key, shard, kinds) = match of {
-        Of::All => (any, rng.random_range(0..5u64), 15u8),
-        Of::Shard(shard) => (any / 2 * 2 + shard % 2, shard % 2, 12u8),
+fn draw(rng: &mut StdRng, of: Of) -> Drawn {
+    let any = rng.next_u64() % 8;
+    let data = rng.next_u64() % 1000;
+    let weight = (rng.next_u64() % 6) as usize;
+    let most = (rng.next_u64() % 8) as usize;
+    let word = rng.next_u64();
+    let (key, shard, kind) = match of {
+        Of::All => (any, word / 15 % 5, word % 15),
+        Of::Shard(shard) => ((any & !1) | (shard & 1), shard & 1, word % 12),
     };
     Drawn {
         key,
@@ -55,7 +51,7 @@ fn draw(rng: &mut StdRng, of: Of) -> Drawn
         data,
         weight,
         most,
-        kinds,
+        kind,
     }
 }
 
@@ -74,9 +70,9 @@ fn drawn_call<const N: usize>(rng: &mut StdRng, of: Of) -> Call<u64>
         data,
         weight,
         most,
-        kinds,
+        kind,
     } = draw(rng, of);
-    match rng.random_range(0..kinds) {
+    match kind {
         0 => Call::Admit { key, data, weight },
         1 => Call::InsertTail { key, data, weight },
         2 => Call::IncrementWeight {
@@ -102,7 +98,9 @@ fn drawn_call<const N: usize>(rng: &mut StdRng, of: Of) -> Call<u64>
         },
         11 => Call::EvictShard { shard },
         12 => Call::EvictToLimit,
-        13 => Call::SetWeightLimit { limit: 15 + most },
+        13 => Call::SetWeightLimit {
+            limit: most.saturating_add(15),
+        },
         _ => Call::Totals,
     }
 }
@@ -144,35 +142,43 @@ fn core_answers_of<const N: usize>(
     Ok(text)
 }
 
-// One call at a time, and the whole state after each.
-#[test]
-fn answers_as_a_core(rt: HostRuntime) -> Result<(), Fail> {
-    let alloc: Global = rt.alloc();
-    for seed in 0..20u64 {
-        let mut rng = StdRng::seed_from_u64(seed);
-        let mut again = StdRng::seed_from_u64(seed);
-        let mut draws = StdRng::seed_from_u64(seed);
-        let mut core_draws = StdRng::seed_from_u64(seed);
-        let lru = Lru::<u64, 3>::with_capacity_and_watermark(alloc, 20, 2, Some(5))?;
-        let mut core = LruCore::<u64, 3>::with_capacity_and_watermark(alloc, 20, 2, Some(5))?;
-        for turn in 0..500u32 {
-            let call = drawn_call::<3>(&mut rng, Of::All);
-            let same = drawn_call::<3>(&mut again, Of::All);
-            assert_eq!(rt;
-                text_of(alloc, answer_of(&rt, alloc, &mut draws, &lru, call))?,
-                text_of(
-                    alloc,
-                    calls::answer(&mut core, alloc, &mut core_draws, same)
-                )?,
-                "seed {seed} turn {turn}"
-            );
-            assert_eq!(rt;
-                state_of(&rt, alloc, &lru)?,
-                core_state_of(alloc, &core)?,
-                "seed {seed} turn {turn}"
-            );
+// One call at a time, and the whole state after each: the first turn, if there is one, after which they are not alike.
+fn other_turn<R: Wait>(rt: &R, alloc: Global, seed: u64) -> Result<Option<u32>, AllocError> {
+    let mut rng = StdRng::seed_from_u64(seed);
+    let mut again = StdRng::seed_from_u64(seed);
+    let mut draws = StdRng::seed_from_u64(seed);
+    let mut core_draws = StdRng::seed_from_u64(seed);
+    let lru = Lru::<u64, 3>::with_capacity_and_watermark(alloc, 20, 2, Some(5))?;
+    let mut core = LruCore::<u64, 3>::with_capacity_and_watermark(alloc, 20, 2, Some(5))?;
+    for turn in 0..500u32 {
+        let call = drawn_call::<3>(&mut rng, Of::All);
+        let same = drawn_call::<3>(&mut again, Of::All);
+        let answer = text_of(alloc, answer_of(rt, alloc, &mut draws, &lru, call))?;
+        let core_answer = text_of(
+            alloc,
+            calls::answer(&mut core, alloc, &mut core_draws, same),
+        )?;
+        let (state, core_state) = (state_of(rt, alloc, &lru)?, core_state_of(alloc, &core)?);
+        if (answer, state) != (core_answer, core_state) {
+            return Ok(Some(turn));
         }
     }
+    Ok(None)
+}
+
+// The first seed and turn, if there are such, after which they are not alike.
+fn other_answer<R: Wait>(rt: &R, alloc: Global) -> Result<Option<(u64, u32)>, AllocError> {
+    for seed in 0..20u64 {
+        if let Some(turn) = other_turn(rt, alloc, seed)? {
+            return Ok(Some((seed, turn)));
+        }
+    }
+    Ok(None)
+}
+
+#[test]
+fn answers_as_a_core(rt: HostRuntime) -> Result<(), Fail> {
+    assert_eq!(rt; other_answer(&rt, rt.alloc())?, None);
     Ok(())
 }
 
@@ -190,22 +196,34 @@ fn answers_of_both<R: Threads + Wait + Sync>(
     )
 }
 
+// Whether two threads and a core, which does the calls of the one and then those of the other, are alike.
+fn are_alike<R: Threads + Wait + Sync>(
+    rt: &R,
+    alloc: Global,
+    seed: u64,
+) -> Result<bool, AllocError> {
+    let lru = Lru::<u64, 2>::with_capacity_and_watermark(alloc, 20, 2, Some(5))?;
+    let mut core = LruCore::<u64, 2>::with_capacity_and_watermark(alloc, 20, 2, Some(5))?;
+    let (even, odd) = answers_of_both(rt, alloc, &lru, seed);
+    let (even, odd) = (even?, odd?);
+    let core_even = core_answers_of(alloc, &mut core, seed, Of::Shard(0))?;
+    let core_odd = core_answers_of(alloc, &mut core, seed, Of::Shard(1))?;
+    let (state, core_state) = (state_of(rt, alloc, &lru)?, core_state_of(alloc, &core)?);
+    Ok((even, odd, state) == (core_even, core_odd, core_state))
+}
+
+// The first seed, if there is one, at which they are not.
+fn other_seed<R: Threads + Wait + Sync>(rt: &R, alloc: Global) -> Result<Option<u64>, AllocError> {
+    for seed in 0..20u64 {
+        if !are_alike(rt, alloc, seed)? {
+            return Ok(Some(seed));
+        }
+    }
+    Ok(None)
+}
+
 #[test]
 fn two_threads_answer_as_a_core(rt: HostRuntime) -> Result<(), Fail> {
-    let alloc: Global = rt.alloc();
-    for seed in 0..20u64 {
-        let lru = Lru::<u64, 2>::with_capacity_and_watermark(alloc, 20, 2, Some(5))?;
-        let mut core = LruCore::<u64, 2>::with_capacity_and_watermark(alloc, 20, 2, Some(5))?;
-        let (even, odd) = answers_of_both(&rt, alloc, &lru, seed);
-        let core_even = core_answers_of(alloc, &mut core, seed, Of::Shard(0))?;
-        let core_odd = core_answers_of(alloc, &mut core, seed, Of::Shard(1))?;
-        assert_eq!(rt; even?, core_even, "seed {seed}");
-        assert_eq!(rt; odd?, core_odd, "seed {seed}");
-        assert_eq!(rt;
-            state_of(&rt, alloc, &lru)?,
-            core_state_of(alloc, &core)?,
-            "seed {seed}"
-        );
-    }
+    assert_eq!(rt; other_seed(&rt, rt.alloc())?, None);
     Ok(())
 }

@@ -1,7 +1,7 @@
 // Two threads at two shards work at once.
 use crate::shown::rows_of;
 use lru_locks::lru::Lru;
-use std::alloc::Global;
+use std::alloc::{AllocError, Global};
 use std::sync::Wait;
 use std::sync::atomic::{AtomicBool, Ordering};
 use std::test::Fail;
@@ -51,16 +51,17 @@ fn works_at_once<R: Threads + Wait + Sync>(rt: &R, lru: &Lru<u64, 2>) -> (bool, 
     )
 }
 
+// Whether both work at once, and what each did is there.
+fn both_work<R: Threads + Wait + Sync>(rt: &R, alloc: Global) -> Result<bool, AllocError> {
+    let lru = Lru::<u64, 2>::with_capacity(alloc, 10, 1)?;
+    let is_put = matches!(lru.admit(rt, 0, 1, 1), Ok(0));
+    let seen = works_at_once(rt, &lru);
+    let rows = rows_of(rt, alloc, &lru, 0)?;
+    Ok(is_put & ((seen, lru.len(), rows.as_slice()) == ((true, true), 2, [(7, 1)].as_slice())))
+}
+
 #[test]
 fn shards_work_at_once(rt: HostRuntime) -> Result<(), Fail> {
-    let alloc: Global = rt.alloc();
-    let lru = Lru::<u64, 2>::with_capacity(alloc, 10, 1)?;
-    assert_eq!(rt; lru.admit(&rt, 0, 1, 1)?, 0);
-    assert_eq!(rt; works_at_once(&rt, &lru), (true, true));
-    assert_eq!(rt; lru.len(), 2);
-    assert_eq!(rt;
-        rows_of(&rt, alloc, &lru, 0)?.as_slice(),
-        [(7, 1)].as_slice()
-    );
+    assert!(rt; both_work(&rt, rt.alloc())?);
     Ok(())
 }

@@ -193,7 +193,8 @@ impl<T: Drop, B: Registry, const N: usize> RecordedLru<T, B, N> {
 
     /// Puts a row first in the shard of its key, in place of the key's, and answers that shard. A weight of 0 counts as 1.
     ///
-    /// A refusal is the shard's, or for want of memory for its note. It hands the data back and changes nothing.
+    /// A refusal is the shard's, or for want of memory for its note. It hands the data back and changes no row; a refusal for
+    /// Length or Weight is noted.
     pub fn admit(
         &self,
         rt: &impl Wait,
@@ -225,7 +226,8 @@ impl<T: Drop, B: Registry, const N: usize> RecordedLru<T, B, N> {
     }
 
     /// Puts a row last in the shard of its key where the key has none, and answers true; else it answers false, and the
-    /// data is dropped. A weight of 0 is kept. A refusal hands the data back and changes nothing.
+    /// data is dropped. A weight of 0 is kept. A refusal hands the data back and changes no row; one for Length or Weight is
+    /// noted.
     pub fn insert_tail(
         &self,
         rt: &impl Wait,
@@ -255,7 +257,8 @@ impl<T: Drop, B: Registry, const N: usize> RecordedLru<T, B, N> {
     }
 
     /// Adds to a key's weight, puts its row first, and answers the new weight, as `LruUnit` does. A refusal comes before
-    /// `admit_data` is called, and changes nothing. `admit_data` is called under the lock of the key's shard.
+    /// `admit_data` is called and changes no row; one for Length or Weight is noted, and any key may be refused for want of
+    /// memory for its note. `admit_data` is called under the lock of the key's shard.
     pub fn increment_weight<F: FnOnce() -> T + Drop>(
         &self,
         rt: &impl Wait,
@@ -285,7 +288,8 @@ impl<T: Drop, B: Registry, const N: usize> RecordedLru<T, B, N> {
     }
 
     /// Updates a key's data and weight, or admits what `admit_data` gives, puts the row first, and answers the weight that
-    /// the key had, `None` for a new row, as `LruUnit` does. The closures are called under the lock of the key's shard.
+    /// the key had, `None` for a new row, as `LruUnit` does. A refusal changes no row; one for Length or Weight is noted, and any
+    /// key may be refused for want of memory for its note. The closures are called under the lock of the key's shard.
     pub fn update_or_admit<U, A>(
         &self,
         rt: &impl Wait,
@@ -319,7 +323,7 @@ impl<T: Drop, B: Registry, const N: usize> RecordedLru<T, B, N> {
     }
 
     /// Gives a key another weight, in its place, and answers the weight that it had; `None` where it has no row. A weight of 0
-    /// counts as 1. It is refused for Weight, or for want of memory for its note, and changes nothing then.
+    /// counts as 1. It is refused for Weight, which is noted, or for want of memory for its note, and changes no row then.
     pub fn set_weight(
         &self,
         rt: &impl Wait,

@@ -1,5 +1,5 @@
 -- What a loss of power may leave of each step of a save of one file.
-use Rattle.std.proofs.Common.{◌≡◌, ◌≢◌, ◌⊎◌, inl, inr, ⊎_elim, ◌≤◌, ℕ, List, [], ◌++◌, Option, Some, refl, sym, ◌∙◌, ap, subst}
+use Rattle.std.proofs.Common.{◌≡◌, ◌≢◌, ◌⊎◌, inl, inr, ⊎_elim, ℕ, List, [], ◌++◌, Option, Some, refl, sym, ◌∙◌, ap, subst}
 use Rattle.std.specs.FinMap.{get, remove}
 use Rattle.lru_folder.specs.Files.{Files, bytes_at, created, appended, renamed, AllOrNone, SomeFront, Same}
 use Rattle.lru_folder.specs.Folder.{Opened, Writing, written_path, Passes}

@@ -104,7 +104,8 @@ impl<E: Drop> ShardSaver<E> {
 
     /// Takes the turn of the next shard: its bytes, or the error that stands in their place, and the random word for the
     /// name of its temp file. The shard fails where its names find no memory, where it was given an error, and where
-    /// the folder fails.
+    /// the folder fails. A failure may leave the temp file, and the new file where the folder failed as it made the new name
+    /// safe.
     pub fn put<F: Folder>(&mut self, folder: &mut F, word: u32, given: Result<Vec<u8>, E>)
         requires { self.old.next < self.old.shards }
 
