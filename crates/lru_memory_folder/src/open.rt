@@ -1,6 +1,6 @@
 // The open file of a folder in memory.
 
-#[derive(Debug, Drop)]
+#[derive(Drop)]
 pub(crate) enum Open {
     Closed,
     Writing(String),
