@@ -1,5 +1,6 @@
 // The files of a folder in memory, with the calls that led to them.
 ghost use Rattle.std.specs.Prelude.{◌≡◌, ◌<◌, ◌++◌, ◌∷◌, [], IfOk, OnErr, OnOk, vec_len, vec_capacity};
+ghost use Rattle.std.specs.FinMap.{insert};
 ghost use Rattle.lru_memory_folder.specs.Calls.{begun, ended, whole};
 ghost use Rattle.lru_memory_folder.specs.DeedInside.{deed_of};
 ghost use Rattle.lru_memory_folder.specs.HeldInside.{files_in};
@@ -72,6 +73,16 @@ impl Journal {
         self.held
     }
 
+    /// A journal that begins with the files now and with one file more.
+    pub(crate) fn with(self, alloc: Global, path: &str, bytes: &[u8]) -> Result<Self, AllocError>
+        ensures files { IfOk result (λ journal. files_left journal ≡ insert (files_left self) path.now bytes.now) }
+        ensures begins { IfOk result (λ journal. journal.calls ≡ []) }
+    {
+        let mut held = self.into_held();
+        put(alloc, &mut held, path, bytes.to_vec(alloc)?)?;
+        Journal::begin(alloc, held)
+    }
+
     /// The files that a loss of power leaves which keeps the first `names` name changes since the last sync, and puts one
     /// byte into each path that was then loose.
     pub(crate) fn after_loss(
@@ -94,8 +105,7 @@ impl Journal {
         ensures ok { OnOk result (self.new ≡ with_call self.old (deed_of call) end) }
         ensures err { OnErr result (self.new ≡ self.old) }
     {
-        self.calls.reserve(1)?;
-        apply(alloc, &mut self.held, &call, end)?;
+        make_ready(alloc, &mut self.calls, &mut self.held, &call, end)?;
         push(&mut self.calls, call, end);
         Ok(())
     }
@@ -116,6 +126,23 @@ impl Journal {
             End::Failed(_) => Err(FolderFault::Io),
         }
     }
+}
+
+/// Does a call, and makes room for it behind the others. Where memory is refused, nothing changes.
+fn make_ready(
+    alloc: Global,
+    calls: &mut Vec<Ended>,
+    held: &mut Held,
+    call: &Call,
+    end: End,
+) -> Result<(), AllocError>
+    ensures calls { calls.new.items ≡ calls.old.items }
+    ensures room { OnOk result (vec_len calls.new < vec_capacity calls.new) }
+    ensures ok { OnOk result (files_in held.new.entries ≡ ended (deed_of call.now) end (files_in held.old.entries)) }
+    ensures err { OnErr result (held.new.entries ≡ held.old.entries) }
+{
+    calls.reserve(1)?;
+    apply(alloc, held, call, end)
 }
 
 /// Puts a call behind the others, for which there is room.
@@ -144,11 +171,7 @@ fn apply_whole(alloc: Global, held: &mut Held, call: &Call) -> Result<(), AllocE
     ensures err { OnErr result (held.new.entries ≡ held.old.entries) }
 {
     match call {
-        Call::Create(path) => put(
-            held,
-            String::from_str(alloc, path.as_str())?,
-            Vec::new(alloc),
-        ),
+        Call::Create(path) => put(alloc, held, path.as_str(), Vec::new(alloc)),
         Call::Write(path, piece) => append(alloc, held, path.as_str(), piece),
         Call::Rename(from, to) => give_name(alloc, held, from.as_str(), to.as_str()),
         Call::Remove(path) => {

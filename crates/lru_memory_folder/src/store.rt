@@ -14,9 +14,9 @@ ghost use Rattle.lru_memory_folder.specs.OpenInside.{opened_in};
 ghost use Rattle.lru_memory_folder.specs.ReplayInside.{loss_in};
 
 use crate::calls::{Call, end_of};
-use crate::held::{Held, holds, len_of, names_of, piece_at, put};
+use crate::held::{Held, holds, len_of, names_of, piece_at};
 use crate::journal::Journal;
-use crate::open::Open;
+use crate::open::{Open, set, shut};
 use crate::places::{folder_of, is_there, make_all};
 use lru_folder::fault::FolderFault;
 use lru_folder::listed::Listed;
@@ -59,16 +59,11 @@ impl Store {
             mut made,
             ..
         } = self;
-        let mut held = journal.into_held();
-        put(
-            &mut held,
-            String::from_str(alloc, path)?,
-            bytes.to_vec(alloc)?,
-        )?;
+        let journal = journal.with(alloc, path, bytes)?;
         make_all(alloc, &mut made, folder_of(path))?;
         Ok(Store {
             alloc,
-            journal: Journal::begin(alloc, held)?,
+            journal,
             made,
             file: Open::Closed,
         })
@@ -81,11 +76,12 @@ impl Store {
         ensures begins { IfOk result (λ store. store.journal.calls ≡ []) }
         ensures shut { IfOk result (λ store. store.file ≡ Open.Closed) }
     {
+        let made = self.made.clone()?;
         let held = self.journal.after_loss(self.alloc, names, byte)?;
         Ok(Store {
             alloc: self.alloc,
             journal: Journal::begin(self.alloc, held)?,
-            made: self.made.clone()?,
+            made,
             file: Open::Closed,
         })
     }
@@ -104,7 +100,7 @@ impl Store {
         ensures some { MakesSome dir.now (folders_in self.old.made.items) (folders_in self.new.made.items) }
         ensures none { IsSome fate → self.new.made.items ≡ self.old.made.items }
     {
-        self.file = Open::Closed;
+        shut(&mut self.file);
         if fate.is_none() {
             make_all(self.alloc, &mut self.made, dir.as_bytes())?;
         }
@@ -117,13 +113,13 @@ impl Store {
         ensures goes { Goes (Creates path.now) (end_of fate (is_there (folders_in self.old.made.items) (folder_of path.now))) self.old.journal self.new.journal result }
         ensures made { self.new.made ≡ self.old.made }
     {
-        self.file = Open::Closed;
-        let call = Call::Create(String::from_str(self.alloc, path)?);
+        shut(&mut self.file);
         let name = String::from_str(self.alloc, path)?;
+        let call = Call::Create(String::from_str(self.alloc, path)?);
         let found = is_there(&self.made, folder_of(path));
         self.journal
             .conclude(self.alloc, call, end_of(fate, found))?;
-        self.file = Open::Writing(name);
+        set(&mut self.file, Open::Writing(name));
         Ok(())
     }
 
@@ -173,7 +169,7 @@ impl Store {
         ensures goes { Goes (Renames from.now to.now) (end_of fate (is_some (get (files_left self.old.journal) from.now))) self.old.journal self.new.journal result }
         ensures made { self.new.made ≡ self.old.made }
     {
-        self.file = Open::Closed;
+        shut(&mut self.file);
         let noted = String::from_str(self.alloc, from)?;
         let call = Call::Rename(noted, String::from_str(self.alloc, to)?);
         let found = holds(self.journal.held(), from);
@@ -186,13 +182,13 @@ impl Store {
         ensures len { IfOk result (λ len. len ≡ length (bytes_at (files_left self.old.journal) path.now)) }
         ensures made { self.new.made ≡ self.old.made }
     {
-        self.file = Open::Closed;
+        shut(&mut self.file);
         let name = String::from_str(self.alloc, path)?;
         let found = holds(self.journal.held(), path);
         let len = len_of(self.journal.held(), path);
         self.journal
             .conclude(self.alloc, Call::Look, end_of(fate, found))?;
-        self.file = Open::Reading(name, 0);
+        set(&mut self.file, Open::Reading(name, 0));
         Ok(len)
     }
 
@@ -225,7 +221,7 @@ impl Store {
         ensures listed { IfOk result (λ listed. map name_of listed.items ≡ listing dir.now (files_left self.old.journal)) }
         ensures made { self.new.made ≡ self.old.made }
     {
-        self.file = Open::Closed;
+        shut(&mut self.file);
         let found = !dir.is_empty() && is_there(&self.made, dir.as_bytes());
         let listed = names_of(self.alloc, self.journal.held(), dir)?;
         self.journal
@@ -238,7 +234,7 @@ impl Store {
         ensures goes { Goes (Removes path.now) (end_of fate (is_some (get (files_left self.old.journal) path.now))) self.old.journal self.new.journal result }
         ensures made { self.new.made ≡ self.old.made }
     {
-        self.file = Open::Closed;
+        shut(&mut self.file);
         let call = Call::Remove(String::from_str(self.alloc, path)?);
         let found = holds(self.journal.held(), path);
         self.journal.conclude(self.alloc, call, end_of(fate, found))
