@@ -55,23 +55,13 @@ pub(crate) fn holds(held: &Held, path: &str) -> bool
     find(held, path).is_some()
 }
 
-/// How many bytes the path has, none where it is not there.
-pub(crate) fn len_of(held: &Held, path: &str) -> u64
-    ensures { result ≡ length (bytes_at (files_in held.now.entries) path.now) }
+/// The bytes of the path, none where it is not there.
+pub(crate) fn bytes_of<'a>(held: &'a Held, path: &str) -> &'a [u8]
+    ensures { result.now ≡ bytes_at (files_in held.now.entries) path.now }
 {
     match find(held, path) {
-        Some(bytes) => bytes.len() as u64,
-        None => 0,
-    }
-}
-
-/// A copy of the bytes of the path, none where it is not there.
-pub(crate) fn copy_of(alloc: Global, held: &Held, path: &str) -> Result<Vec<u8>, AllocError>
-    ensures { IfOk result (λ bytes. bytes.items ≡ bytes_at (files_in held.now.entries) path.now) }
-{
-    match find(held, path) {
-        Some(bytes) => bytes.to_vec(alloc),
-        None => Ok(Vec::new(alloc)),
+        Some(bytes) => bytes,
+        None => &[],
     }
 }
 
@@ -104,7 +94,7 @@ pub(crate) fn append(
     ensures ok { OnOk result (files_in held.new.entries ≡ appended path.now piece.now (files_in held.old.entries)) }
     ensures err { OnErr result (held.new.entries ≡ held.old.entries) }
 {
-    let mut bytes = copy_of(alloc, held, path)?;
+    let mut bytes = bytes_of(held, path).to_vec(alloc)?;
     bytes.extend_from_slice(piece)?;
     put(alloc, held, path, bytes)
 }
@@ -148,15 +138,11 @@ pub(crate) fn piece_at(
     ensures piece { IfOk result (λ piece. piece.items ≡ take max (drop at (bytes_at (files_in held.now.entries) path.now))) }
     ensures fits { IfOk result (λ piece. at + vec_len piece < 2 ^ 64) }
 {
-    match find(held, path) {
-        Some(bytes) => {
-            if at < bytes.len() {
-                front(&bytes[at..], max).to_vec(alloc)
-            } else {
-                Ok(Vec::new(alloc))
-            }
-        }
-        None => Ok(Vec::new(alloc)),
+    let bytes = bytes_of(held, path);
+    if at < bytes.len() {
+        front(&bytes[at..], max).to_vec(alloc)
+    } else {
+        Ok(Vec::new(alloc))
     }
 }
 

@@ -4,10 +4,10 @@ ghost use Rattle.std.specs.FinMap.{insert};
 ghost use Rattle.lru_memory_folder.specs.Calls.{begun, ended, whole};
 ghost use Rattle.lru_memory_folder.specs.DeedInside.{deed_of};
 ghost use Rattle.lru_memory_folder.specs.HeldInside.{files_in};
-ghost use Rattle.lru_memory_folder.specs.History.{files_left, with_call, Goes};
+ghost use Rattle.lru_memory_folder.specs.History.{end_of, files_left, with_call, Goes};
 ghost use Rattle.lru_memory_folder.specs.ReplayInside.{loss_in};
 
-use crate::calls::{Call, End, Ended};
+use crate::calls::{Call, End, Ended, end_of};
 use crate::held::{Held, append, copy_all, front, give_name, put, take_out};
 use crate::replay::Replay;
 use lru_folder::fault::FolderFault;
@@ -110,15 +110,17 @@ impl Journal {
         Ok(())
     }
 
-    /// The same, and answers as a call does that ended so.
+    /// The same of a call that ends by its fate and by whether what it asks for is there, and answers as it does.
     pub(crate) fn conclude(
         &mut self,
         alloc: Global,
         call: Call,
-        end: End,
+        fate: Option<usize>,
+        found: bool,
     ) -> Result<(), FolderFault>
-        ensures { Goes (deed_of call) end self.old self.new result }
+        ensures { Goes (deed_of call) (end_of fate found) self.old self.new result }
     {
+        let end = end_of(fate, found);
         self.note(alloc, call, end)?;
         match end {
             End::Done => Ok(()),

@@ -13,8 +13,8 @@ ghost use Rattle.lru_memory_folder.specs.MadeInside.{folders_in, texts_of};
 ghost use Rattle.lru_memory_folder.specs.OpenInside.{opened_in};
 ghost use Rattle.lru_memory_folder.specs.ReplayInside.{loss_in};
 
-use crate::calls::{Call, end_of};
-use crate::held::{Held, holds, len_of, names_of, piece_at};
+use crate::calls::Call;
+use crate::held::{Held, bytes_of, holds, names_of, piece_at};
 use crate::journal::Journal;
 use crate::open::{Open, set, shut};
 use crate::places::{folder_of, is_there, make_all};
@@ -104,8 +104,7 @@ impl Store {
         if fate.is_none() {
             make_all(self.alloc, &mut self.made, dir.as_bytes())?;
         }
-        self.journal
-            .conclude(self.alloc, Call::Look, end_of(fate, true))
+        self.journal.conclude(self.alloc, Call::Look, fate, true)
     }
 
     pub(crate) fn create(&mut self, path: &str, fate: Option<usize>) -> Result<(), FolderFault>
@@ -117,8 +116,7 @@ impl Store {
         let name = String::from_str(self.alloc, path)?;
         let call = Call::Create(String::from_str(self.alloc, path)?);
         let found = is_there(&self.made, folder_of(path));
-        self.journal
-            .conclude(self.alloc, call, end_of(fate, found))?;
+        self.journal.conclude(self.alloc, call, fate, found)?;
         set(&mut self.file, Open::Writing(name));
         Ok(())
     }
@@ -134,7 +132,7 @@ impl Store {
         };
         let path = String::from_str(self.alloc, path.as_str())?;
         let call = Call::Write(path, piece.to_vec(self.alloc)?);
-        self.journal.conclude(self.alloc, call, end_of(fate, true))
+        self.journal.conclude(self.alloc, call, fate, true)
     }
 
     pub(crate) fn flush(&mut self, fate: Option<usize>) -> Result<(), FolderFault>
@@ -142,8 +140,7 @@ impl Store {
         ensures goes { Goes Looks (end_of fate true) self.old.journal self.new.journal result }
         ensures made { self.new.made ≡ self.old.made }
     {
-        self.journal
-            .conclude(self.alloc, Call::Look, end_of(fate, true))
+        self.journal.conclude(self.alloc, Call::Look, fate, true)
     }
 
     pub(crate) fn sync(&mut self, fate: Option<usize>) -> Result<(), FolderFault>
@@ -156,7 +153,7 @@ impl Store {
             unreachable!()
         };
         let call = Call::Sync(String::from_str(self.alloc, path.as_str())?);
-        self.journal.conclude(self.alloc, call, end_of(fate, true))
+        self.journal.conclude(self.alloc, call, fate, true)
     }
 
     pub(crate) fn rename(
@@ -173,7 +170,7 @@ impl Store {
         let noted = String::from_str(self.alloc, from)?;
         let call = Call::Rename(noted, String::from_str(self.alloc, to)?);
         let found = holds(self.journal.held(), from);
-        self.journal.conclude(self.alloc, call, end_of(fate, found))
+        self.journal.conclude(self.alloc, call, fate, found)
     }
 
     pub(crate) fn open(&mut self, path: &str, fate: Option<usize>) -> Result<u64, FolderFault>
@@ -185,9 +182,8 @@ impl Store {
         shut(&mut self.file);
         let name = String::from_str(self.alloc, path)?;
         let found = holds(self.journal.held(), path);
-        let len = len_of(self.journal.held(), path);
-        self.journal
-            .conclude(self.alloc, Call::Look, end_of(fate, found))?;
+        let len = bytes_of(self.journal.held(), path).len() as u64;
+        self.journal.conclude(self.alloc, Call::Look, fate, found)?;
         set(&mut self.file, Open::Reading(name, 0));
         Ok(len)
     }
@@ -205,8 +201,7 @@ impl Store {
             unreachable!()
         };
         let piece = piece_at(self.alloc, self.journal.held(), path.as_str(), *at, max)?;
-        self.journal
-            .conclude(self.alloc, Call::Look, end_of(fate, true))?;
+        self.journal.conclude(self.alloc, Call::Look, fate, true)?;
         *at += piece.len();
         Ok(piece)
     }
@@ -224,8 +219,7 @@ impl Store {
         shut(&mut self.file);
         let found = !dir.is_empty() && is_there(&self.made, dir.as_bytes());
         let listed = names_of(self.alloc, self.journal.held(), dir)?;
-        self.journal
-            .conclude(self.alloc, Call::Look, end_of(fate, found))?;
+        self.journal.conclude(self.alloc, Call::Look, fate, found)?;
         Ok(listed)
     }
 
@@ -237,6 +231,6 @@ impl Store {
         shut(&mut self.file);
         let call = Call::Remove(String::from_str(self.alloc, path)?);
         let found = holds(self.journal.held(), path);
-        self.journal.conclude(self.alloc, call, end_of(fate, found))
+        self.journal.conclude(self.alloc, call, fate, found)
     }
 }
