@@ -3,12 +3,12 @@ ghost use Rattle.std.specs.Prelude.{◌≡◌};
 ghost use Rattle.lru_folder.specs.Folder as mode;
 
 use crate::claim::Claim;
-use crate::host_open::HostOpen;
+use crate::host_open::{HostOpen, shut};
 use log::{Log, warn};
 use lru_folder::fault::FolderFault;
 use lru_folder::folder::Folder;
 use lru_folder::listed::Listed;
-use std::alloc::Allocator;
+use std::alloc::{AllocError, Allocator, Global};
 use std::fs::{DirEntry, Metadata, OpenFile, OpenOptions};
 use std::io::{ErrorKind, Read, Write};
 use std::marker::Model;
@@ -112,6 +112,22 @@ fn is_file<R: Files, A: Allocator>(entry: &DirEntry<R, A>) -> io::Result<bool> {
         Err(error) if error.kind() == ErrorKind::NotFound => Ok(false),
         Err(error) => Err(error),
     }
+}
+
+/// These names, and behind them as many that cannot be read.
+fn listing(
+    alloc: Global,
+    names: Vec<String>,
+    unreadable: usize,
+) -> Result<Vec<Listed>, AllocError> {
+    let mut listed = Vec::new(alloc);
+    for name in names {
+        listed.push(Listed::Name(name))?;
+    }
+    for _ in 0..unreadable {
+        listed.push(Listed::Unreadable)?;
+    }
+    Ok(listed)
 }
 
 /// One read, made again where a signal interrupts it.
@@ -264,12 +280,12 @@ where
     ghost counts_lost = { λ h t m k le s. absurd k };
 
     fn make(&mut self, dir: &str) -> Result<(), FolderFault> {
-        self.file = HostOpen::Closed;
+        shut(&mut self.file);
         answer(&self.rt, "create", dir, fs::create_dir_all(&self.rt, dir))
     }
 
     fn create(&mut self, path: &str) -> Result<(), FolderFault> {
-        self.file = HostOpen::Closed;
+        shut(&mut self.file);
         let name = String::from_str(self.rt.alloc(), path)?;
         let file = self.create_claimed(path)?;
         self.file = HostOpen::Writing(file, name);
@@ -300,12 +316,12 @@ where
     fn rename(&mut self, from: &str, to: &str) -> Result<(), FolderFault> {
         // The open file stays claimed until it has its name, so that nobody else takes it for a leftover.
         let renamed = self.rename_for_good(from, to);
-        self.file = HostOpen::Closed;
+        shut(&mut self.file);
         renamed
     }
 
     fn open(&mut self, path: &str) -> Result<u64, FolderFault> {
-        self.file = HostOpen::Closed;
+        shut(&mut self.file);
         let name = String::from_str(self.rt.alloc(), path)?;
         let (file, len) = answer(&self.rt, "open", path, self.open_file(path))?;
         self.file = HostOpen::Reading(file, name);
@@ -324,23 +340,16 @@ where
     }
 
     fn list(&mut self, dir: &str) -> Result<Vec<Listed>, FolderFault> {
-        self.file = HostOpen::Closed;
+        shut(&mut self.file);
         if dir.is_empty() {
             return Err(FolderFault::NotFound);
         }
         let (names, unreadable) = answer(&self.rt, "list", dir, self.names(dir))?;
-        let mut listed = Vec::new(self.rt.alloc());
-        for name in names {
-            listed.push(Listed::Name(name))?;
-        }
-        for _ in 0..unreadable {
-            listed.push(Listed::Unreadable)?;
-        }
-        Ok(listed)
+        Ok(listing(self.rt.alloc(), names, unreadable)?)
     }
 
     fn remove(&mut self, path: &str) -> Result<(), FolderFault> {
-        self.file = HostOpen::Closed;
+        shut(&mut self.file);
         answer(&self.rt, "remove", path, self.remove_unclaimed(path))
     }
 }

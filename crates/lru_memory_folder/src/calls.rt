@@ -3,7 +3,7 @@ ghost use Rattle.std.specs.Prelude.{◌≡◌};
 ghost use Rattle.lru_memory_folder.specs.History.{end_of};
 
 /// A call, with what it was given to do to the files.
-#[derive(Debug, Drop)]
+#[derive(Drop)]
 pub(crate) enum Call {
     Create(String),
     Write(String, Vec<u8>),
@@ -16,7 +16,7 @@ pub(crate) enum Call {
 }
 
 /// How a call ended.
-#[derive(Clone, Copy, Debug, PartialEq, Eq)]
+#[derive(Clone, Copy)]
 pub enum End {
     Done,
     NotFound,
@@ -25,14 +25,14 @@ pub enum End {
 }
 
 /// A call with how it ended.
-#[derive(Debug, Drop)]
+#[derive(Drop)]
 pub(crate) struct Ended {
     pub(crate) call: Call,
     pub(crate) end: End,
 }
 
 /// Which calls are made to fail, counted from the next one, and how many bytes of a piece are put before.
-#[derive(Clone, Copy, Debug, PartialEq, Eq)]
+#[derive(Clone, Copy)]
 pub enum Plan {
     Works,
     FailsAt(u64, usize),

@@ -1,10 +1,11 @@
 // The files that a folder in memory holds.
-ghost use Rattle.std.specs.Prelude.{◌≡◌, ◌+◌, ◌<◌, ◌^◌, drop, is_some, length, map, take, None, Some, IfOk, MatchOption, OnErr, OnOk, string_bytes, vec_len};
+ghost use Rattle.std.specs.Prelude.{◌≡◌, ◌∷◌, ◌++◌, [], ◌+◌, ◌<◌, ◌^◌, drop, is_some, length, map, take, None, Some, IfOk, MatchOption, OnErr, OnOk, vec_len};
 ghost use Rattle.std.specs.FinMap.{get, insert, remove};
 ghost use Rattle.lru_folder.specs.Files.{appended, bytes_at, renamed};
 ghost use Rattle.lru_memory_folder.specs.HeldInside.{files_in};
 ghost use Rattle.lru_folder.specs.Listings.{name_of};
-ghost use Rattle.lru_folder.specs.Places.{listing};
+ghost use Rattle.lru_folder.specs.Places.{listing, name_after};
+ghost use Rattle.std.specs.List.{filter_map};
 
 use crate::places::name_after;
 use lru_folder::listed::Listed;
@@ -27,11 +28,16 @@ pub(crate) fn find<'a>(held: &'a Held, path: &str) -> Option<&'a [u8]>
 }
 
 /// Gives the path these bytes. Where a new path finds no memory, nothing changes.
-pub(crate) fn put(held: &mut Held, path: String, bytes: Vec<u8>) -> Result<(), AllocError>
-    ensures ok { OnOk result (files_in held.new.entries ≡ insert (files_in held.old.entries) (string_bytes path) bytes.items) }
+pub(crate) fn put(
+    alloc: Global,
+    held: &mut Held,
+    path: &str,
+    bytes: Vec<u8>,
+) -> Result<(), AllocError>
+    ensures ok { OnOk result (files_in held.new.entries ≡ insert (files_in held.old.entries) path.now bytes.items) }
     ensures err { OnErr result (held.new.entries ≡ held.old.entries) }
 {
-    held.insert(path, bytes)?;
+    held.insert(String::from_str(alloc, path)?, bytes)?;
     Ok(())
 }
 
@@ -49,38 +55,29 @@ pub(crate) fn holds(held: &Held, path: &str) -> bool
     find(held, path).is_some()
 }
 
-/// How many bytes the path has, none where it is not there.
-pub(crate) fn len_of(held: &Held, path: &str) -> u64
-    ensures { result ≡ length (bytes_at (files_in held.now.entries) path.now) }
+/// The bytes of the path, none where it is not there.
+pub(crate) fn bytes_of<'a>(held: &'a Held, path: &str) -> &'a [u8]
+    ensures { result.now ≡ bytes_at (files_in held.now.entries) path.now }
 {
     match find(held, path) {
-        Some(bytes) => bytes.len() as u64,
-        None => 0,
-    }
-}
-
-/// A copy of the bytes of the path, none where it is not there.
-pub(crate) fn copy_of(alloc: Global, held: &Held, path: &str) -> Result<Vec<u8>, AllocError>
-    ensures { IfOk result (λ bytes. bytes.items ≡ bytes_at (files_in held.now.entries) path.now) }
-{
-    match find(held, path) {
-        Some(bytes) => bytes.to_vec(alloc),
-        None => Ok(Vec::new(alloc)),
+        Some(bytes) => bytes,
+        None => &[],
     }
 }
 
 /// Gives the bytes of a path to another, which takes its place. Where that finds no memory, nothing changes.
 pub(crate) fn give(
+    alloc: Global,
     held: &mut Held,
     from: &str,
-    to: String,
+    to: &str,
     bytes: Vec<u8>,
 ) -> Result<(), AllocError>
-    ensures ok { OnOk result (files_in held.new.entries ≡ insert (remove (files_in held.old.entries) from.now) (string_bytes to) bytes.items) }
+    ensures ok { OnOk result (files_in held.new.entries ≡ insert (remove (files_in held.old.entries) from.now) to.now bytes.items) }
     ensures err { OnErr result (held.new.entries ≡ held.old.entries) }
 {
-    let is_other = to.as_str() != from;
-    put(held, to, bytes)?;
+    let is_other = to != from;
+    put(alloc, held, to, bytes)?;
     if is_other {
         take_out(held, from);
     }
@@ -97,9 +94,9 @@ pub(crate) fn append(
     ensures ok { OnOk result (files_in held.new.entries ≡ appended path.now piece.now (files_in held.old.entries)) }
     ensures err { OnErr result (held.new.entries ≡ held.old.entries) }
 {
-    let mut bytes = copy_of(alloc, held, path)?;
+    let mut bytes = bytes_of(held, path).to_vec(alloc)?;
     bytes.extend_from_slice(piece)?;
-    put(held, String::from_str(alloc, path)?, bytes)
+    put(alloc, held, path, bytes)
 }
 
 /// Gives the file of a path, if it is there, another path. Where that finds no memory, nothing changes.
@@ -116,7 +113,7 @@ pub(crate) fn give_name(
         return Ok(());
     };
     let bytes = old.to_vec(alloc)?;
-    give(held, from, String::from_str(alloc, to)?, bytes)
+    give(alloc, held, from, to, bytes)
 }
 
 /// The first bytes of a piece, at most so many.
@@ -141,15 +138,11 @@ pub(crate) fn piece_at(
     ensures piece { IfOk result (λ piece. piece.items ≡ take max (drop at (bytes_at (files_in held.now.entries) path.now))) }
     ensures fits { IfOk result (λ piece. at + vec_len piece < 2 ^ 64) }
 {
-    match find(held, path) {
-        Some(bytes) => {
-            if at < bytes.len() {
-                front(&bytes[at..], max).to_vec(alloc)
-            } else {
-                Ok(Vec::new(alloc))
-            }
-        }
-        None => Ok(Vec::new(alloc)),
+    let bytes = bytes_of(held, path);
+    if at < bytes.len() {
+        front(&bytes[at..], max).to_vec(alloc)
+    } else {
+        Ok(Vec::new(alloc))
     }
 }
 
@@ -160,11 +153,25 @@ pub(crate) fn names_of(alloc: Global, held: &Held, dir: &str) -> Result<Vec<List
     let front = path_of(alloc, dir, "")?;
     let mut listed = Vec::new(alloc);
     for path in held.keys() {
-        if let Some(name) = name_after(front.as_str(), path.as_str()) {
-            listed.push(Listed::Name(String::from_str(alloc, name)?))?;
-        }
+        list_name(alloc, &mut listed, front.as_str(), path.as_str())?;
     }
     Ok(listed)
+}
+
+/// Puts the name behind this front of a path, if it is one, behind the others.
+fn list_name(
+    alloc: Global,
+    listed: &mut Vec<Listed>,
+    front: &str,
+    path: &str,
+) -> Result<(), AllocError>
+    ensures { OnOk result (map name_of listed.new.items
+        ≡ map name_of listed.old.items ++ map Some (filter_map (name_after front.now) (path.now ∷ []))) }
+{
+    if let Some(name) = name_after(front, path) {
+        listed.push(Listed::Name(String::from_str(alloc, name)?))?;
+    }
+    Ok(())
 }
 
 /// A copy of all files.

@@ -1,12 +1,13 @@
 // The files of a folder in memory, with the calls that led to them.
 ghost use Rattle.std.specs.Prelude.{◌≡◌, ◌<◌, ◌++◌, ◌∷◌, [], IfOk, OnErr, OnOk, vec_len, vec_capacity};
+ghost use Rattle.std.specs.FinMap.{insert};
 ghost use Rattle.lru_memory_folder.specs.Calls.{begun, ended, whole};
 ghost use Rattle.lru_memory_folder.specs.DeedInside.{deed_of};
 ghost use Rattle.lru_memory_folder.specs.HeldInside.{files_in};
-ghost use Rattle.lru_memory_folder.specs.History.{files_left, with_call, Goes};
+ghost use Rattle.lru_memory_folder.specs.History.{end_of, files_left, with_call, Goes};
 ghost use Rattle.lru_memory_folder.specs.ReplayInside.{loss_in};
 
-use crate::calls::{Call, End, Ended};
+use crate::calls::{Call, End, Ended, end_of};
 use crate::held::{Held, append, copy_all, front, give_name, put, take_out};
 use crate::replay::Replay;
 use lru_folder::fault::FolderFault;
@@ -72,6 +73,16 @@ impl Journal {
         self.held
     }
 
+    /// A journal that begins with the files now and with one file more.
+    pub(crate) fn with(self, alloc: Global, path: &str, bytes: &[u8]) -> Result<Self, AllocError>
+        ensures files { IfOk result (λ journal. files_left journal ≡ insert (files_left self) path.now bytes.now) }
+        ensures begins { IfOk result (λ journal. journal.calls ≡ []) }
+    {
+        let mut held = self.into_held();
+        put(alloc, &mut held, path, bytes.to_vec(alloc)?)?;
+        Journal::begin(alloc, held)
+    }
+
     /// The files that a loss of power leaves which keeps the first `names` name changes since the last sync, and puts one
     /// byte into each path that was then loose.
     pub(crate) fn after_loss(
@@ -94,21 +105,22 @@ impl Journal {
         ensures ok { OnOk result (self.new ≡ with_call self.old (deed_of call) end) }
         ensures err { OnErr result (self.new ≡ self.old) }
     {
-        self.calls.reserve(1)?;
-        apply(alloc, &mut self.held, &call, end)?;
+        make_ready(alloc, &mut self.calls, &mut self.held, &call, end)?;
         push(&mut self.calls, call, end);
         Ok(())
     }
 
-    /// The same, and answers as a call does that ended so.
+    /// The same of a call that ends by its fate and by whether what it asks for is there, and answers as it does.
     pub(crate) fn conclude(
         &mut self,
         alloc: Global,
         call: Call,
-        end: End,
+        fate: Option<usize>,
+        found: bool,
     ) -> Result<(), FolderFault>
-        ensures { Goes (deed_of call) end self.old self.new result }
+        ensures { Goes (deed_of call) (end_of fate found) self.old self.new result }
     {
+        let end = end_of(fate, found);
         self.note(alloc, call, end)?;
         match end {
             End::Done => Ok(()),
@@ -116,6 +128,23 @@ impl Journal {
             End::Failed(_) => Err(FolderFault::Io),
         }
     }
+}
+
+/// Does a call, and makes room for it behind the others. Where memory is refused, nothing changes.
+fn make_ready(
+    alloc: Global,
+    calls: &mut Vec<Ended>,
+    held: &mut Held,
+    call: &Call,
+    end: End,
+) -> Result<(), AllocError>
+    ensures calls { calls.new.items ≡ calls.old.items }
+    ensures room { OnOk result (vec_len calls.new < vec_capacity calls.new) }
+    ensures ok { OnOk result (files_in held.new.entries ≡ ended (deed_of call.now) end (files_in held.old.entries)) }
+    ensures err { OnErr result (held.new.entries ≡ held.old.entries) }
+{
+    calls.reserve(1)?;
+    apply(alloc, held, call, end)
 }
 
 /// Puts a call behind the others, for which there is room.
@@ -144,11 +173,7 @@ fn apply_whole(alloc: Global, held: &mut Held, call: &Call) -> Result<(), AllocE
     ensures err { OnErr result (held.new.entries ≡ held.old.entries) }
 {
     match call {
-        Call::Create(path) => put(
-            held,
-            String::from_str(alloc, path.as_str())?,
-            Vec::new(alloc),
-        ),
+        Call::Create(path) => put(alloc, held, path.as_str(), Vec::new(alloc)),
         Call::Write(path, piece) => append(alloc, held, path.as_str(), piece),
         Call::Rename(from, to) => give_name(alloc, held, from.as_str(), to.as_str()),
         Call::Remove(path) => {

@@ -29,7 +29,7 @@ fn mark(alloc: Global, lost: &mut Held, held: &Held, path: &str, byte: u8) -> Re
     ensures { OnOk result (files_in lost.new.entries ≡ marked path.now byte (files_in held.now.entries) (files_in lost.old.entries)) }
 {
     match find(held, path) {
-        Some(_) => put(lost, String::from_str(alloc, path)?, vec![in alloc; byte]?),
+        Some(_) => put(alloc, lost, path, vec![in alloc; byte]?),
         None => Ok(()),
     }
 }
@@ -39,7 +39,7 @@ fn restore(alloc: Global, lost: &mut Held, held: &Held, path: &str) -> Result<()
     ensures { OnOk result (files_in lost.new.entries ≡ put_some path.now (get (files_in held.now.entries) path.now) (files_in lost.old.entries)) }
 {
     match find(held, path) {
-        Some(bytes) => put(lost, String::from_str(alloc, path)?, bytes.to_vec(alloc)?),
+        Some(bytes) => put(alloc, lost, path, bytes.to_vec(alloc)?),
         None => Ok(()),
     }
 }
@@ -58,7 +58,7 @@ fn hand_on(
         return restore(alloc, lost, held, to);
     };
     let bytes = bytes.to_vec(alloc)?;
-    give(lost, from, String::from_str(alloc, to)?, bytes)
+    give(alloc, lost, from, to, bytes)
 }
 
 /// Does to what a loss leaves what the whole of a call does, which left these files.

@@ -13,10 +13,10 @@ ghost use Rattle.lru_memory_folder.specs.MadeInside.{folders_in, texts_of};
 ghost use Rattle.lru_memory_folder.specs.OpenInside.{opened_in};
 ghost use Rattle.lru_memory_folder.specs.ReplayInside.{loss_in};
 
-use crate::calls::{Call, end_of};
-use crate::held::{Held, holds, len_of, names_of, piece_at, put};
+use crate::calls::Call;
+use crate::held::{Held, bytes_of, holds, names_of, piece_at};
 use crate::journal::Journal;
-use crate::open::Open;
+use crate::open::{Open, set, shut};
 use crate::places::{folder_of, is_there, make_all};
 use lru_folder::fault::FolderFault;
 use lru_folder::listed::Listed;
@@ -59,16 +59,11 @@ impl Store {
             mut made,
             ..
         } = self;
-        let mut held = journal.into_held();
-        put(
-            &mut held,
-            String::from_str(alloc, path)?,
-            bytes.to_vec(alloc)?,
-        )?;
+        let journal = journal.with(alloc, path, bytes)?;
         make_all(alloc, &mut made, folder_of(path))?;
         Ok(Store {
             alloc,
-            journal: Journal::begin(alloc, held)?,
+            journal,
             made,
             file: Open::Closed,
         })
@@ -81,11 +76,12 @@ impl Store {
         ensures begins { IfOk result (λ store. store.journal.calls ≡ []) }
         ensures shut { IfOk result (λ store. store.file ≡ Open.Closed) }
     {
+        let made = self.made.clone()?;
         let held = self.journal.after_loss(self.alloc, names, byte)?;
         Ok(Store {
             alloc: self.alloc,
             journal: Journal::begin(self.alloc, held)?,
-            made: self.made.clone()?,
+            made,
             file: Open::Closed,
         })
     }
@@ -104,12 +100,11 @@ impl Store {
         ensures some { MakesSome dir.now (folders_in self.old.made.items) (folders_in self.new.made.items) }
         ensures none { IsSome fate → self.new.made.items ≡ self.old.made.items }
     {
-        self.file = Open::Closed;
+        shut(&mut self.file);
         if fate.is_none() {
             make_all(self.alloc, &mut self.made, dir.as_bytes())?;
         }
-        self.journal
-            .conclude(self.alloc, Call::Look, end_of(fate, true))
+        self.journal.conclude(self.alloc, Call::Look, fate, true)
     }
 
     pub(crate) fn create(&mut self, path: &str, fate: Option<usize>) -> Result<(), FolderFault>
@@ -117,13 +112,12 @@ impl Store {
         ensures goes { Goes (Creates path.now) (end_of fate (is_there (folders_in self.old.made.items) (folder_of path.now))) self.old.journal self.new.journal result }
         ensures made { self.new.made ≡ self.old.made }
     {
-        self.file = Open::Closed;
-        let call = Call::Create(String::from_str(self.alloc, path)?);
+        shut(&mut self.file);
         let name = String::from_str(self.alloc, path)?;
+        let call = Call::Create(String::from_str(self.alloc, path)?);
         let found = is_there(&self.made, folder_of(path));
-        self.journal
-            .conclude(self.alloc, call, end_of(fate, found))?;
-        self.file = Open::Writing(name);
+        self.journal.conclude(self.alloc, call, fate, found)?;
+        set(&mut self.file, Open::Writing(name));
         Ok(())
     }
 
@@ -138,7 +132,7 @@ impl Store {
         };
         let path = String::from_str(self.alloc, path.as_str())?;
         let call = Call::Write(path, piece.to_vec(self.alloc)?);
-        self.journal.conclude(self.alloc, call, end_of(fate, true))
+        self.journal.conclude(self.alloc, call, fate, true)
     }
 
     pub(crate) fn flush(&mut self, fate: Option<usize>) -> Result<(), FolderFault>
@@ -146,8 +140,7 @@ impl Store {
         ensures goes { Goes Looks (end_of fate true) self.old.journal self.new.journal result }
         ensures made { self.new.made ≡ self.old.made }
     {
-        self.journal
-            .conclude(self.alloc, Call::Look, end_of(fate, true))
+        self.journal.conclude(self.alloc, Call::Look, fate, true)
     }
 
     pub(crate) fn sync(&mut self, fate: Option<usize>) -> Result<(), FolderFault>
@@ -160,7 +153,7 @@ impl Store {
             unreachable!()
         };
         let call = Call::Sync(String::from_str(self.alloc, path.as_str())?);
-        self.journal.conclude(self.alloc, call, end_of(fate, true))
+        self.journal.conclude(self.alloc, call, fate, true)
     }
 
     pub(crate) fn rename(
@@ -173,11 +166,11 @@ impl Store {
         ensures goes { Goes (Renames from.now to.now) (end_of fate (is_some (get (files_left self.old.journal) from.now))) self.old.journal self.new.journal result }
         ensures made { self.new.made ≡ self.old.made }
     {
-        self.file = Open::Closed;
+        shut(&mut self.file);
         let noted = String::from_str(self.alloc, from)?;
         let call = Call::Rename(noted, String::from_str(self.alloc, to)?);
         let found = holds(self.journal.held(), from);
-        self.journal.conclude(self.alloc, call, end_of(fate, found))
+        self.journal.conclude(self.alloc, call, fate, found)
     }
 
     pub(crate) fn open(&mut self, path: &str, fate: Option<usize>) -> Result<u64, FolderFault>
@@ -186,13 +179,12 @@ impl Store {
         ensures len { IfOk result (λ len. len ≡ length (bytes_at (files_left self.old.journal) path.now)) }
         ensures made { self.new.made ≡ self.old.made }
     {
-        self.file = Open::Closed;
+        shut(&mut self.file);
         let name = String::from_str(self.alloc, path)?;
         let found = holds(self.journal.held(), path);
-        let len = len_of(self.journal.held(), path);
-        self.journal
-            .conclude(self.alloc, Call::Look, end_of(fate, found))?;
-        self.file = Open::Reading(name, 0);
+        let len = bytes_of(self.journal.held(), path).len() as u64;
+        self.journal.conclude(self.alloc, Call::Look, fate, found)?;
+        set(&mut self.file, Open::Reading(name, 0));
         Ok(len)
     }
 
@@ -209,8 +201,7 @@ impl Store {
             unreachable!()
         };
         let piece = piece_at(self.alloc, self.journal.held(), path.as_str(), *at, max)?;
-        self.journal
-            .conclude(self.alloc, Call::Look, end_of(fate, true))?;
+        self.journal.conclude(self.alloc, Call::Look, fate, true)?;
         *at += piece.len();
         Ok(piece)
     }
@@ -225,11 +216,10 @@ impl Store {
         ensures listed { IfOk result (λ listed. map name_of listed.items ≡ listing dir.now (files_left self.old.journal)) }
         ensures made { self.new.made ≡ self.old.made }
     {
-        self.file = Open::Closed;
+        shut(&mut self.file);
         let found = !dir.is_empty() && is_there(&self.made, dir.as_bytes());
         let listed = names_of(self.alloc, self.journal.held(), dir)?;
-        self.journal
-            .conclude(self.alloc, Call::Look, end_of(fate, found))?;
+        self.journal.conclude(self.alloc, Call::Look, fate, found)?;
         Ok(listed)
     }
 
@@ -238,9 +228,9 @@ impl Store {
         ensures goes { Goes (Removes path.now) (end_of fate (is_some (get (files_left self.old.journal) path.now))) self.old.journal self.new.journal result }
         ensures made { self.new.made ≡ self.old.made }
     {
-        self.file = Open::Closed;
+        shut(&mut self.file);
         let call = Call::Remove(String::from_str(self.alloc, path)?);
         let found = holds(self.journal.held(), path);
-        self.journal.conclude(self.alloc, call, end_of(fate, found))
+        self.journal.conclude(self.alloc, call, fate, found)
     }
 }
