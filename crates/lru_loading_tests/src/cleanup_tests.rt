@@ -1,18 +1,21 @@
 // Loads and cleanups over a folder in memory.
-use log::sink;
-use lru_test_folders::told::told_load;
-use pingora_lru_files::persistence::{MemoryFolder, load_shards};
+use lru_test_folders::loads::{Wanted, load_telling};
+use pingora_lru_files::persistence::MemoryFolder;
 use std::alloc::{AllocError, Global};
 use std::test::Fail;
 
 /// Loads so many shards of `c`, whatever their bytes are, and tells that.
 fn load(alloc: Global, folder: &mut MemoryFolder, shards: usize) -> Result<String, AllocError> {
-    let log = sink::Memory::new(alloc);
-    let mut take = |_shard: usize, _bytes: &[u8]| -> Result<(), &str> { Ok(()) };
-    told_load(
-        alloc,
-        &load_shards(alloc, folder, &log, "d", "c", shards, &mut take)?,
-    )
+    let (told, _) = load_telling(alloc, folder, ("d", shards, Wanted::Any))?;
+    Ok(told)
+}
+
+/// Whether no temp file is left, and each other file is.
+fn are_others_left(folder: &MemoryFolder) -> bool {
+    (folder.get("d/c.0") == Some(b"old".as_slice()))
+        & (folder.get("d/x.tmp") == Some(b"x".as_slice()))
+        & folder.get("d/c.0.0000002a.tmp").is_none()
+        & folder.get("d/cd.1.00000000.tmp").is_none()
 }
 
 /// Whether temp files of another name that begins with this one go too, and no other file does.
@@ -23,14 +26,8 @@ fn takes_temp_files(alloc: Global) -> Result<bool, AllocError> {
         .with("d/cd.1.00000000.tmp", b"")?
         .with("d/x.tmp", b"x")?;
     let told = load(alloc, &mut folder, 0)?;
-    let left = [
-        folder.get("d/c.0"),
-        folder.get("d/x.tmp"),
-        folder.get("d/c.0.0000002a.tmp"),
-        folder.get("d/cd.1.00000000.tmp"),
-    ];
-    let wanted: [Option<&[u8]>; 4] = [Some(b"old"), Some(b"x"), None, None];
-    Ok((told.as_str(), left) == ("loaded 0 missing 0 errored 0\nremoved 2\n", wanted))
+    let is_told = told.as_str() == "loaded 0 missing 0 errored 0\nremoved 2\n";
+    Ok(is_told & are_others_left(&folder))
 }
 
 #[test]
@@ -40,21 +37,26 @@ fn cleanup_takes_temp_files(rt: HostRuntime) -> Result<(), Fail> {
 }
 
 /// What is told of each of the first calls of a load of three shards where it fails.
-const FAILURES: [&str; 4] = [
+static FAILURES: [&str; 4] = [
     "loaded 1 missing 1 errored 1\nfailed to load shard 0: failed to open d/c.0: input or output failed\nremoved 0\n",
     "loaded 1 missing 1 errored 1\nfailed to load shard 0: failed to read from d/c.0: input or output failed\nremoved 0\n",
     "loaded 1 missing 1 errored 1\nfailed to load shard 1: failed to open d/c.1: input or output failed\nremoved 0\n",
     "loaded 1 missing 1 errored 1\nfailed to load shard 1: failed to read from d/c.1: input or output failed\nremoved 0\n",
 ];
 
-/// The first call, if there is one, whose failure is told otherwise.
-fn wrong_call(alloc: Global) -> Result<Option<usize>, AllocError> {
+/// Whether a load of three shards, of which two are there, tells so where this call fails.
+fn fails_so(alloc: Global, call: u64, text: &str) -> Result<bool, AllocError> {
     let mut folder = MemoryFolder::new(alloc)
         .with("d/c.0", b"zero")?
         .with("d/c.1", b"one")?;
+    folder.fail_at(call, 0);
+    Ok(load(alloc, &mut folder, 3)?.as_str() == text)
+}
+
+/// The first call, if there is one, whose failure is told otherwise.
+fn wrong_call(alloc: Global) -> Result<Option<usize>, AllocError> {
     for (call, text) in FAILURES.iter().enumerate() {
-        folder.fail_at(call as u64, 0);
-        if load(alloc, &mut folder, 3)?.as_str() != *text {
+        if !fails_so(alloc, call as u64, text)? {
             return Ok(Some(call));
         }
     }
@@ -72,16 +74,8 @@ fn faults_are_no_missing_files(rt: HostRuntime) -> Result<(), Fail> {
 fn reads_it_whole(alloc: Global) -> Result<bool, AllocError> {
     let large = vec![in alloc; 7u8; 100_000]?;
     let mut folder = MemoryFolder::new(alloc).with("d/c.0", &large)?;
-    let log = sink::Memory::new(alloc);
-    let mut deserialize = |_shard: usize, bytes: &[u8]| {
-        if bytes == large.as_slice() {
-            Ok(())
-        } else {
-            Err("other bytes")
-        }
-    };
-    let report = load_shards(alloc, &mut folder, &log, "d", "c", 1, &mut deserialize)?;
-    Ok((report.loaded_shards, report.error_shards) == (1, 0))
+    let (told, _) = load_telling(alloc, &mut folder, ("d", 1, Wanted::Bytes(&large)))?;
+    Ok(told.as_str() == "loaded 1 missing 0 errored 0\nremoved 0\n")
 }
 
 #[test]

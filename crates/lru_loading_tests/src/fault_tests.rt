@@ -1,89 +1,92 @@
 // A load of one shard, of which one call fails.
-use log::sink;
-use lru_test_folders::told::told_load;
-use pingora_lru_files::persistence::{MemoryFolder, load_shards};
+use lru_test_folders::loads::{Wanted, load_telling};
+use pingora_lru_files::persistence::MemoryFolder;
 use std::alloc::{AllocError, Global};
 use std::test::Fail;
 
 /// How many bytes the shard's file has, whether a temp file stands beside it, and which call fails; then what is told.
-const FAULTS: [(usize, bool, u64, &str); 8] = [
-    (
-        24,
-        true,
-        0,
-        "loaded 0 missing 0 errored 1\nfailed to load shard 0: failed to open d/c.0: input or output failed\nremoved 1\n",
-    ),
-    (
-        24,
-        true,
-        1,
-        "loaded 0 missing 0 errored 1\nfailed to load shard 0: failed to read from d/c.0: input or output failed\nremoved 1\n",
-    ),
-    (
-        24,
-        true,
-        2,
-        "loaded 1 missing 0 errored 0\nremoved 0\nfailed to read directory d: input or output failed\n",
-    ),
-    (
-        24,
-        true,
-        3,
-        "loaded 1 missing 0 errored 0\nremoved 0\nfailed to remove temp file d/c.0.0000002a.tmp: input or output failed\n",
-    ),
-    (
-        8193,
-        false,
-        0,
-        "loaded 0 missing 0 errored 1\nfailed to load shard 0: failed to open d/c.0: input or output failed\nremoved 0\n",
-    ),
-    (
-        8193,
-        false,
-        1,
-        "loaded 0 missing 0 errored 1\nfailed to load shard 0: failed to read from d/c.0: input or output failed\nremoved 0\n",
-    ),
-    (
-        8193,
-        false,
-        2,
-        "loaded 0 missing 0 errored 1\nfailed to load shard 0: failed to read from d/c.0: input or output failed\nremoved 0\n",
-    ),
-    (
-        8193,
-        false,
-        3,
-        "loaded 1 missing 0 errored 0\nremoved 0\nfailed to read directory d: input or output failed\n",
-    ),
+struct Fault {
+    len: usize,
+    has_temp: bool,
+    call: u64,
+    text: &'static str,
+}
+
+static FAULTS: [Fault; 8] = [
+    Fault {
+        len: 24,
+        has_temp: true,
+        call: 0,
+        text: "loaded 0 missing 0 errored 1\nfailed to load shard 0: failed to open d/c.0: input or output failed\nremoved 1\n",
+    },
+    Fault {
+        len: 24,
+        has_temp: true,
+        call: 1,
+        text: "loaded 0 missing 0 errored 1\nfailed to load shard 0: failed to read from d/c.0: input or output failed\nremoved 1\n",
+    },
+    Fault {
+        len: 24,
+        has_temp: true,
+        call: 2,
+        text: "loaded 1 missing 0 errored 0\nremoved 0\nfailed to read directory d: input or output failed\n",
+    },
+    Fault {
+        len: 24,
+        has_temp: true,
+        call: 3,
+        text: "loaded 1 missing 0 errored 0\nremoved 0\nfailed to remove temp file d/c.0.0000002a.tmp: input or output failed\n",
+    },
+    Fault {
+        len: 8193,
+        has_temp: false,
+        call: 0,
+        text: "loaded 0 missing 0 errored 1\nfailed to load shard 0: failed to open d/c.0: input or output failed\nremoved 0\n",
+    },
+    Fault {
+        len: 8193,
+        has_temp: false,
+        call: 1,
+        text: "loaded 0 missing 0 errored 1\nfailed to load shard 0: failed to read from d/c.0: input or output failed\nremoved 0\n",
+    },
+    Fault {
+        len: 8193,
+        has_temp: false,
+        call: 2,
+        text: "loaded 0 missing 0 errored 1\nfailed to load shard 0: failed to read from d/c.0: input or output failed\nremoved 0\n",
+    },
+    Fault {
+        len: 8193,
+        has_temp: false,
+        call: 3,
+        text: "loaded 1 missing 0 errored 0\nremoved 0\nfailed to read directory d: input or output failed\n",
+    },
 ];
 
-/// What such a load tells.
-fn load(alloc: Global, len: usize, has_temp: bool, call: u64) -> Result<String, AllocError> {
-    let bytes = vec![in alloc; 7; len]?;
-    let mut folder = MemoryFolder::new(alloc).with("d/c.0", &bytes)?;
+/// A folder with such a file, beside which a temp file may stand.
+fn folder_of(alloc: Global, bytes: &[u8], has_temp: bool) -> Result<MemoryFolder, AllocError> {
+    let folder = MemoryFolder::new(alloc).with("d/c.0", bytes)?;
     if has_temp {
-        folder = folder.with("d/c.0.0000002a.tmp", b"left")?;
+        folder.with("d/c.0.0000002a.tmp", b"left")
+    } else {
+        Ok(folder)
     }
-    folder.fail_at(call, 0);
-    let log = sink::Memory::new(alloc);
-    let mut take = |_shard: usize, given: &[u8]| {
-        if given == bytes.as_slice() {
-            Ok(())
-        } else {
-            Err("other bytes")
-        }
-    };
-    told_load(
-        alloc,
-        &load_shards(alloc, &mut folder, &log, "d", "c", 1, &mut take)?,
-    )
+}
+
+/// Whether such a load tells that.
+fn ends_so(alloc: Global, fault: &Fault) -> Result<bool, AllocError> {
+    let bytes = vec![in alloc; 7; fault.len]?;
+    let mut folder = folder_of(alloc, &bytes, fault.has_temp)?;
+    folder.fail_at(fault.call, 0);
+    let (told, _) = load_telling(alloc, &mut folder, ("d", 1, Wanted::Bytes(&bytes)))?;
+    Ok(told.as_str() == fault.text)
 }
 
 /// The first row, if there is one, that tells otherwise.
 fn wrong_row(alloc: Global) -> Result<Option<(usize, u64)>, AllocError> {
-    for (len, has_temp, call, text) in FAULTS {
-        if load(alloc, len, has_temp, call)?.as_str() != text {
-            return Ok(Some((len, call)));
+    for fault in &FAULTS {
+        if !ends_so(alloc, fault)? {
+            return Ok(Some((fault.len, fault.call)));
         }
     }
     Ok(None)

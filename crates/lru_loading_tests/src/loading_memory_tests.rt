@@ -2,23 +2,23 @@
 // --fail-alloc N` refuses the request number N. The gate's sweep refuses each request of `lru_sweep_files` in turn, which
 // loads shards too.
 use log::sink;
+use lru_test_folders::loads::{Wanted, load_logging};
 use lru_test_folders::refusals::{Ending, Loaded, end_of_load};
-use lru_test_folders::two_shards::{folder_to_load, has_temp, is_bytes, is_saved};
-use pingora_lru_files::persistence::{MemoryFolder, load_shards};
-use pingora_lru_files::snapshot::LoadError;
+use lru_test_folders::two_shards::{folder_to_load, has_temp, is_saved};
+use pingora_lru_files::persistence::MemoryFolder;
 use std::alloc::{AllocError, Global};
 use std::test::Fail;
 
 fn load(alloc: Global, folder: &mut MemoryFolder) -> Loaded {
     let log = sink::Memory::new(alloc);
-    let mut deserialize = |shard: usize, bytes: &[u8]| {
-        if is_bytes(shard, bytes) {
-            Ok(())
-        } else {
-            Err(LoadError::Damaged)
-        }
-    };
-    load_shards(alloc, folder, &log, "d", "c", 2, &mut deserialize)
+    load_logging(alloc, folder, &log, ("d", 2, Wanted::TwoShards))
+}
+
+/// Whether a load loads both, and its cleanup fails at nothing.
+fn loads_both(alloc: Global, folder: &mut MemoryFolder) -> Result<bool, AllocError> {
+    let report = load(alloc, folder)?;
+    let counts = (report.loaded_shards, report.error_shards);
+    Ok((counts == (2, 0)) & report.temp_cleanup?.failures.is_empty())
 }
 
 /// Loads both shards. Where one, the whole load, or its cleanup is refused memory, the load is made again. Whether all of
@@ -31,14 +31,11 @@ fn loads_at_last(alloc: Global, refusals: &mut usize) -> Result<bool, AllocError
     if ending == Ending::Refused {
         *refusals = refusals.saturating_add(1);
         is_kept = first.is_ok() | has_temp(&folder);
-        let second = load(alloc, &mut folder)?;
-        let counts = (second.loaded_shards, second.error_shards);
-        if (counts, second.temp_cleanup?.failures.len()) == ((2, 0), 0) {
+        if loads_both(alloc, &mut folder)? {
             ending = Ending::Whole;
         }
     }
-    let is_left = (is_saved(&folder), has_temp(&folder)) == (true, false);
-    Ok(is_kept & (ending == Ending::Whole) & is_left)
+    Ok(is_kept & (ending == Ending::Whole) & is_saved(&folder) & !has_temp(&folder))
 }
 
 /// Two such loads, of which one at most is refused memory.

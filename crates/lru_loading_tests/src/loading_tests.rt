@@ -1,71 +1,54 @@
 // What a load logs and reports.
 use log::sink;
+use lru_test_folders::loads::{Wanted, load_noting, load_telling};
 use lru_test_folders::shelf::{File, Shelf};
-use lru_test_folders::told::{are_lines, told_load};
-use pingora_lru_files::persistence::{FolderFault, ShardLoadReport, load_shards};
+use lru_test_folders::told::are_lines;
+use pingora_lru_files::persistence::FolderFault;
 use std::alloc::{AllocError, Global};
 use std::test::Fail;
 
-/// Loads so many shards of `c` in `d`, which take every byte but 9, and gives the report and the log.
-fn load(
-    alloc: Global,
-    mut shelf: Shelf<'_>,
+/// The files of `d`, what its listing gives, and the path that is stuck; how many shards are loaded, which take every byte
+/// but 9; and then what the load tells and logs. The lines stand in the order failures, cleanup, summary.
+struct Row {
+    files: &'static [(&'static str, File<'static>)],
+    listing: Result<&'static [&'static str], FolderFault>,
+    stuck: &'static str,
     shards: usize,
-) -> Result<(ShardLoadReport<&'static str>, Vec<String>), AllocError> {
-    let log = sink::Memory::new(alloc);
-    let mut deserialize = |_shard: usize, bytes: &[u8]| {
-        if bytes.contains(&9) {
-            Err("damaged")
-        } else {
-            Ok(())
-        }
-    };
-    let report = load_shards(alloc, &mut shelf, &log, "d", "c", shards, &mut deserialize)?;
-    Ok((report, log.into_lines().into_vec()))
+    text: &'static str,
+    lines: &'static [(&'static str, &'static str)],
 }
 
-/// The files of `d`, what its listing gives, and the path that is stuck; how many shards are loaded; and then what the load
-/// tells and logs. The lines stand in the order failures, cleanup, summary.
-type Row = (
-    &'static [(&'static str, File<'static>)],
-    Result<&'static [&'static str], FolderFault>,
-    &'static str,
-    usize,
-    &'static str,
-    &'static [(&'static str, &'static str)],
-);
-
-const LOADS: [Row; 5] = [
+static LOADS: [Row; 5] = [
     // All is loaded.
-    (
-        &[("d/c.0", File::Bytes(&[1, 2])), ("d/c.1", File::Bytes(&[]))],
-        Err(FolderFault::NotFound),
-        "",
-        2,
-        "loaded 2 missing 0 errored 0\nremoved 0\n",
-        &[("[INFO", "] Successfully loaded 2/2 shards.")],
-    ),
+    Row {
+        files: &[("d/c.0", File::Bytes(&[1, 2])), ("d/c.1", File::Bytes(&[]))],
+        listing: Err(FolderFault::NotFound),
+        stuck: "",
+        shards: 2,
+        text: "loaded 2 missing 0 errored 0\nremoved 0\n",
+        lines: &[("[INFO", "] Successfully loaded 2/2 shards.")],
+    },
     // Nothing is there.
-    (
-        &[],
-        Err(FolderFault::NotFound),
-        "",
-        2,
-        "loaded 0 missing 2 errored 0\nremoved 0\n",
-        &[(
+    Row {
+        files: &[],
+        listing: Err(FolderFault::NotFound),
+        stuck: "",
+        shards: 2,
+        text: "loaded 0 missing 2 errored 0\nremoved 0\n",
+        lines: &[(
             "[INFO",
             "] No persisted LRU shards found. LRU will start empty.",
         )],
-    ),
+    },
     // Each failure is told and logged.
-    (
-        &[
+    Row {
+        files: &[
             ("d/c.0", File::Bytes(&[1])),
             ("d/c.2", File::FailsToOpen(FolderFault::Memory)),
             ("d/c.3", File::FailsToRead(FolderFault::Io)),
             ("d/c.4", File::Bytes(&[9])),
         ],
-        Ok(&[
+        listing: Ok(&[
             "c.0",
             "c.0.00000000.tmp",
             "c.1.00000000.tmp",
@@ -73,10 +56,10 @@ const LOADS: [Row; 5] = [
             "x.tmp",
             "",
         ]),
-        "d/c.1.00000000.tmp",
-        5,
-        "loaded 1 missing 1 errored 3\nfailed to load shard 2: failed to open d/c.2: out of memory\nfailed to load shard 3: failed to read from d/c.3: input or output failed\nfailed to deserialize shard 4: damaged\nremoved 2\nfailed to remove temp file d/c.1.00000000.tmp: input or output failed\nfailed to read directory entry in d: input or output failed\n",
-        &[
+        stuck: "d/c.1.00000000.tmp",
+        shards: 5,
+        text: "loaded 1 missing 1 errored 3\nfailed to load shard 2: failed to open d/c.2: out of memory\nfailed to load shard 3: failed to read from d/c.3: input or output failed\nfailed to deserialize shard 4: damaged\nremoved 2\nfailed to remove temp file d/c.1.00000000.tmp: input or output failed\nfailed to read directory entry in d: input or output failed\n",
+        lines: &[
             (
                 "[WARN",
                 "] failed to load shard 2: failed to open d/c.2: out of memory. Skipping shard.",
@@ -106,27 +89,27 @@ const LOADS: [Row; 5] = [
                 "] Loaded 1/5 shards (missing: 1, errored: 3). LRU state may be incomplete.",
             ),
         ],
-    ),
+    },
     // The cleanup finds no memory.
-    (
-        &[],
-        Err(FolderFault::Memory),
-        "",
-        0,
-        "loaded 0 missing 0 errored 0\nremoved none\n",
-        &[
+    Row {
+        files: &[],
+        listing: Err(FolderFault::Memory),
+        stuck: "",
+        shards: 0,
+        text: "loaded 0 missing 0 errored 0\nremoved none\n",
+        lines: &[
             ("[WARN", "] Temp file cleanup failed: out of memory"),
             ("[INFO", "] Successfully loaded 0/0 shards."),
         ],
-    ),
+    },
     // The folder is not listed.
-    (
-        &[],
-        Err(FolderFault::Io),
-        "",
-        0,
-        "loaded 0 missing 0 errored 0\nremoved 0\nfailed to read directory d: input or output failed\n",
-        &[
+    Row {
+        files: &[],
+        listing: Err(FolderFault::Io),
+        stuck: "",
+        shards: 0,
+        text: "loaded 0 missing 0 errored 0\nremoved 0\nfailed to read directory d: input or output failed\n",
+        lines: &[
             (
                 "[WARN",
                 "] failed to read directory d: input or output failed",
@@ -137,15 +120,13 @@ const LOADS: [Row; 5] = [
             ),
             ("[INFO", "] Successfully loaded 0/0 shards."),
         ],
-    ),
+    },
 ];
 
 fn ends_so(alloc: Global, row: &Row) -> Result<bool, AllocError> {
-    let (files, listing, stuck, shards, text, lines) = row;
-    let shelf = Shelf::new(alloc, files, *listing, stuck);
-    let (report, logged) = load(alloc, shelf, *shards)?;
-    let told = told_load(alloc, &report)?;
-    Ok((told.as_str() == *text) & are_lines(&logged, lines))
+    let mut shelf = Shelf::new(alloc, row.files, row.listing, row.stuck);
+    let (told, logged) = load_telling(alloc, &mut shelf, ("d", row.shards, Wanted::NoNine))?;
+    Ok((told.as_str() == row.text) & are_lines(&logged, row.lines))
 }
 
 /// The first row, if there is one, that ends otherwise.
@@ -164,36 +145,30 @@ fn loads_and_what_they_tell(rt: HostRuntime) -> Result<(), Fail> {
     Ok(())
 }
 
+/// The files of shards 0, 2 and 3.
+static FILES: [(&str, File<'static>); 3] = [
+    ("c.0", File::Bytes(b"zero")),
+    ("c.2", File::Bytes(b"bad")),
+    ("c.3", File::Bytes(b"")),
+];
+
+/// Their bytes, and whether a load takes them.
+static TAKEN: [(&[u8], bool); 4] = [(b"zero", true), (b"", true), (b"bad", false), (b"", true)];
+
 // The closure gets each file that is there, from shard 0 up.
 fn are_given_in_order(alloc: Global) -> Result<bool, AllocError> {
-    let files = [
-        ("c.0", File::Bytes(b"zero")),
-        ("c.2", File::Bytes(b"bad")),
-        ("c.3", File::Bytes(b"")),
-    ];
-    let mut shelf = Shelf::new(alloc, &files, Err(FolderFault::NotFound), "");
+    let mut shelf = Shelf::new(alloc, &FILES, Err(FolderFault::NotFound), "");
     let log = sink::Memory::new(alloc);
     let mut given = Vec::new(alloc);
-    let mut deserialize = |shard: usize, bytes: &[u8]| {
-        let is_its_own = match shard {
-            0 => bytes == b"zero".as_slice(),
-            2 => bytes == b"bad".as_slice(),
-            _ => bytes.is_empty(),
-        };
-        if given.push((shard, is_its_own)).is_err() || shard == 2 {
-            Err("damaged")
-        } else {
-            Ok(())
-        }
-    };
-    let report = load_shards(alloc, &mut shelf, &log, "", "c", 4, &mut deserialize)?;
+    let load = ("", 4, Wanted::Each(&TAKEN));
+    let report = load_noting(alloc, &mut shelf, &log, load, &mut given)?;
     let counts = (
         report.loaded_shards,
         report.missing_shards,
         report.error_shards,
     );
-    let wanted = [(0, true), (2, true), (3, true)];
-    Ok((counts, given.as_slice()) == ((2, 1, 1), wanted.as_slice()))
+    let is_in_order = given.as_slice() == [(0, true), (2, true), (3, true)].as_slice();
+    Ok(is_in_order & (counts == (2, 1, 1)))
 }
 
 #[test]

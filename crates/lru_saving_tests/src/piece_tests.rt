@@ -1,89 +1,107 @@
 // A shard that is written in two pieces.
-use log::sink;
-use lru_test_folders::told::told_save;
-use pingora_lru_files::persistence::{MemoryFolder, ShardSaveError, ShardSaver};
+use lru_test_folders::saves::{Given, save_in_turns};
+use lru_test_folders::told::{joined, told_save};
+use pingora_lru_files::persistence::MemoryFolder;
 use std::alloc::{AllocError, Global};
 use std::test::Fail;
 
 /// How the answer begins where the one shard is not saved.
 const FAILED: &str = "All 1 shards failed to save; see prior warnings for per-shard causes.\n";
 
-/// The calls of a save of one shard of 8193 bytes, after the one that makes the folder: the text of the failure that each
-/// of them causes, and how many bytes the temp file then has.
-const CALLS: [(u64, &str, Option<usize>); 6] = [
-    (
-        1,
-        "failed to save shard 0: failed to create c.0.0000002a.tmp: input or output failed",
-        None,
-    ),
-    (
-        2,
-        "failed to save shard 0: failed to write to c.0.0000002a.tmp: input or output failed",
-        Some(0),
-    ),
-    (
-        3,
-        "failed to save shard 0: failed to write to c.0.0000002a.tmp: input or output failed",
-        Some(8192),
-    ),
-    (
-        4,
-        "failed to save shard 0: failed to flush temp file c.0.0000002a.tmp: input or output failed",
-        Some(8193),
-    ),
-    (
-        5,
-        "failed to save shard 0: failed to sync c.0.0000002a.tmp: input or output failed",
-        Some(8193),
-    ),
-    (
-        6,
-        "failed to save shard 0: failed to rename file from c.0.0000002a.tmp to c.0: input or output failed",
-        Some(8193),
-    ),
+/// A call of a save of one shard of 8193 bytes, after the one that makes the folder: how the answer begins and what comes then
+/// where it fails, whether the shard is saved over the older file, and how many bytes the temp file then has.
+struct Call {
+    number: u64,
+    begins: &'static str,
+    text: &'static str,
+    is_saved: bool,
+    temp: Option<usize>,
+}
+
+static CALLS: [Call; 7] = [
+    Call {
+        number: 1,
+        begins: FAILED,
+        text: "failed to save shard 0: failed to create c.0.0000002a.tmp: input or output failed",
+        is_saved: false,
+        temp: None,
+    },
+    Call {
+        number: 2,
+        begins: FAILED,
+        text: "failed to save shard 0: failed to write to c.0.0000002a.tmp: input or output failed",
+        is_saved: false,
+        temp: Some(0),
+    },
+    Call {
+        number: 3,
+        begins: FAILED,
+        text: "failed to save shard 0: failed to write to c.0.0000002a.tmp: input or output failed",
+        is_saved: false,
+        temp: Some(8192),
+    },
+    Call {
+        number: 4,
+        begins: FAILED,
+        text: "failed to save shard 0: failed to flush temp file c.0.0000002a.tmp: input or output failed",
+        is_saved: false,
+        temp: Some(8193),
+    },
+    Call {
+        number: 5,
+        begins: FAILED,
+        text: "failed to save shard 0: failed to sync c.0.0000002a.tmp: input or output failed",
+        is_saved: false,
+        temp: Some(8193),
+    },
+    Call {
+        number: 6,
+        begins: FAILED,
+        text: "failed to save shard 0: failed to rename file from c.0.0000002a.tmp to c.0: input or output failed",
+        is_saved: false,
+        temp: Some(8193),
+    },
+    // No call is left.
+    Call {
+        number: 7,
+        begins: "",
+        text: "saved 1 failed 0",
+        is_saved: true,
+        temp: None,
+    },
 ];
 
-/// Whether a save of that shard over an older file, where one call fails, tells so, and leaves such a file and a temp file
-/// of so many bytes.
-fn ends_so(
-    alloc: Global,
-    call: u64,
-    text: &str,
-    file: &[u8],
-    temp: Option<usize>,
-) -> Result<bool, AllocError> {
+/// How many bytes a file has that is there.
+fn len_of(file: Option<&[u8]>) -> Option<usize> {
+    match file {
+        Some(bytes) => Some(bytes.len()),
+        None => None,
+    }
+}
+
+/// Whether the folder has the files that are left then, of which the saved one has these bytes.
+fn is_left(folder: &MemoryFolder, call: &Call, bytes: &[u8]) -> bool {
+    let file: &[u8] = if call.is_saved { bytes } else { b"old" };
+    let has_temp = len_of(folder.get("c.0.0000002a.tmp")) == call.temp;
+    has_temp & (folder.get("c.0") == Some(file))
+}
+
+/// Whether a save of that shard over an older file, where this call fails, tells so, and leaves such files.
+fn ends_so(alloc: Global, call: &Call, bytes: &[u8]) -> Result<bool, AllocError> {
     let mut folder = MemoryFolder::new(alloc).with("c.0", b"old")?;
-    folder.fail_at(call, 0);
-    let started: Result<ShardSaver<AllocError>, ShardSaveError<AllocError>> = ShardSaver::start(
-        alloc,
-        &mut folder,
-        "",
-        "c",
-        1,
-    );
-    let saved = match started {
-        Ok(mut saver) => {
-            if saver.next().is_some() {
-                saver.put(&mut folder, 42, vec![in alloc; 7; 8193]);
-            }
-            if saver.next().is_some() {
-                return Ok(false);
-            }
-            saver.finish(&sink::Memory::new(alloc))
-        }
-        Err(error) => Err(error),
-    };
+    folder.fail_at(call.number, 0);
+    let saved = save_in_turns(alloc, &mut folder, "", &[42], Given::Bytes(bytes));
     let told = told_save(alloc, &saved)?;
-    let len = folder.get("c.0.0000002a.tmp").map(|bytes| bytes.len());
-    Ok((told.as_str(), folder.get("c.0"), len) == (text, Some(file), temp))
+    let text = joined(alloc, &[call.begins, call.text, "\n"])?;
+    Ok((told.as_str() == text.as_str()) & is_left(&folder, call, bytes))
 }
 
 /// The first call, if there is one, at which it ends otherwise.
 fn wrong_call(alloc: Global) -> Result<Option<u64>, AllocError> {
-    for (call, text, temp) in CALLS {
-        let text = format!(in alloc; "{FAILED}{text}\n")?;
-        if !ends_so(alloc, call, &text, b"old", temp)? {
-            return Ok(Some(call));
+    let bytes = vec![in alloc; 7; 8193]?;
+    for call in &CALLS {
+        if !ends_so(alloc, call, &bytes)? {
+            return Ok(Some(call.number));
         }
     }
     Ok(None)
@@ -92,11 +110,5 @@ fn wrong_call(alloc: Global) -> Result<Option<u64>, AllocError> {
 #[test]
 fn each_call_of_two_pieces(rt: HostRuntime) -> Result<(), Fail> {
     assert_eq!(rt; wrong_call(rt.alloc())?, None);
-    Ok(())
-}
-
-#[test]
-fn no_call_is_left(rt: HostRuntime) -> Result<(), Fail> {
-    assert!(rt; ends_so(rt.alloc(), 7, "saved 1 failed 0\n", &[7; 8193], None)?);
     Ok(())
 }

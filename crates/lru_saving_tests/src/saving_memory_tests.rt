@@ -2,10 +2,9 @@
 // request number N. The gate's sweep refuses each request of `lru_sweep_files` in turn, which saves shards too.
 use log::sink;
 use lru_test_folders::refusals::{Ending, Saved, end_of_save};
+use lru_test_folders::saves::{Given, save_in_turns};
 use lru_test_folders::two_shards::{bytes_of, folder_to_save, is_old, is_old_or_new, is_saved};
-use pingora_lru_files::persistence::{
-    Folder, FolderFault, MemoryFolder, ShardSaveError, ShardSaver, save_shards,
-};
+use pingora_lru_files::persistence::{Folder, FolderFault, MemoryFolder, save_shards};
 use rand::rngs::StdRng;
 use rand_core::SeedableRng;
 use std::alloc::{AllocError, Global};
@@ -27,28 +26,10 @@ fn save(alloc: Global, folder: &mut MemoryFolder) -> Saved {
     )
 }
 
-/// A save as a state, each shard in its turn.
-fn save_in_turns(alloc: Global, folder: &mut MemoryFolder) -> Saved {
-    let log = sink::Memory::new(alloc);
-    let mut saver: ShardSaver<AllocError> = ShardSaver::start(alloc, folder, "d", "c", 2)?;
-    if saver.next().is_some() {
-        saver.put(folder, 42, bytes_of(alloc, 0));
-    }
-    if saver.next().is_some() {
-        saver.put(folder, 43, bytes_of(alloc, 1));
-    }
-    if saver.next().is_some() {
-        return Err(ShardSaveError::AllShardsFailed {
-            shards: 2,
-            failures: Vec::new(alloc),
-        });
-    }
-    saver.finish(&log)
-}
-
 fn save_by(alloc: Global, folder: &mut MemoryFolder, in_turns: bool) -> Saved {
     if in_turns {
-        save_in_turns(alloc, folder)
+        // A save as a state, each shard in its turn.
+        save_in_turns(alloc, folder, "d", &[42, 43], Given::TwoShards)
     } else {
         save(alloc, folder)
     }
@@ -76,18 +57,20 @@ fn saves_twice(alloc: Global, in_turns: bool) -> Result<bool, AllocError> {
     Ok(first & second & (refusals <= 1))
 }
 
-/// What a loss of power leaves of a file that was written over and not synced. Where that is refused memory, it is asked
-/// again. Whether all of that is right.
+/// Whether a loss of power has left so much of a file that was written over and not synced.
+fn is_lost(left: &MemoryFolder) -> bool {
+    (left.get("d/c.0") == Some(b"X".as_slice())) & (left.get("d/c.1") == Some(b"older".as_slice()))
+}
+
+/// What a loss of power leaves of such a file. Where that is refused memory, it is asked again. Whether all of that is right.
 fn is_lost_at_last(folder: &MemoryFolder, refusals: &mut usize) -> Result<bool, AllocError> {
-    let left = match folder.after_loss(1, b'X') {
-        Ok(left) => left,
+    match folder.after_loss(1, b'X') {
+        Ok(left) => Ok(is_lost(&left)),
         Err(AllocError) => {
             *refusals = refusals.saturating_add(1);
-            folder.after_loss(1, b'X')?
+            Ok(is_lost(&folder.after_loss(1, b'X')?))
         }
-    };
-    let wanted = (Some(b"X".as_slice()), Some(b"older".as_slice()));
-    Ok((left.get("d/c.0"), left.get("d/c.1")) == wanted)
+    }
 }
 
 /// That folder. Where it is refused memory, it is made anew.
@@ -99,13 +82,18 @@ fn folder_to_lose(alloc: Global) -> Result<MemoryFolder, FolderFault> {
     Ok(folder)
 }
 
-#[test]
-fn a_loss_of_power(rt: HostRuntime) -> Result<(), Fail> {
-    let folder = folder_to_lose(rt.alloc())?;
+/// Two such losses, of which one at most is refused memory.
+fn loses_twice(alloc: Global) -> Result<bool, FolderFault> {
+    let folder = folder_to_lose(alloc)?;
     let mut refusals = 0;
     let first = is_lost_at_last(&folder, &mut refusals)?;
     let second = is_lost_at_last(&folder, &mut refusals)?;
-    assert!(rt; first & second & (refusals <= 1));
+    Ok(first & second & (refusals <= 1))
+}
+
+#[test]
+fn a_loss_of_power(rt: HostRuntime) -> Result<(), Fail> {
+    assert!(rt; loses_twice(rt.alloc())?);
     Ok(())
 }
 

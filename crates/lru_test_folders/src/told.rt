@@ -92,3 +92,12 @@ pub fn are_lines(lines: &[String], wanted: &[(&str, &str)]) -> bool {
     }
     lines.len() == wanted.len()
 }
+
+/// These texts as one.
+pub fn joined(alloc: Global, parts: &[&str]) -> Result<String, AllocError> {
+    let mut text = String::new(alloc);
+    for part in parts {
+        text.push_str(part)?;
+    }
+    Ok(text)
+}
