@@ -8,7 +8,7 @@ use std::test::Fail;
 const MOST: usize = 18446744073709551615;
 
 // A key, what its closure adds to its weight, and whether it gives the weight 0.
-const UPDATES: [(u64, usize, bool); 3] = [(2, 3, false), (6, 0, false), (4, 0, true)];
+static UPDATES: [(u64, usize, bool); 3] = [(2, 3, false), (6, 0, false), (4, 0, true)];
 
 // What each update answers and leaves, where the keys 2 and 4 have their own weight.
 fn updates(alloc: Global) -> Result<String, Fail> {
@@ -45,7 +45,7 @@ fn updates_or_admits(rt: HostRuntime) -> Result<(), Fail> {
 }
 
 // A key, what is added to its weight, up to what, and the answer.
-const INCREMENTS: [(u64, usize, Option<usize>, Result<usize, Cause>); 3] = [
+static INCREMENTS: [(u64, usize, Option<usize>, Result<usize, Cause>); 3] = [
     (1, 1, Some(1), Ok(MOST)),
     (2, 1, None, Err(Cause::Weight)),
     (3, 1, None, Err(Cause::Weight)),
@@ -68,7 +68,7 @@ fn are_increments_right(core: &mut LruCore<u64, 1>, made: &mut u32) -> bool {
 // A key, the weight that its closure gives, the answer or what a refusal hands back, and how many data were made so far.
 type Update = (u64, usize, Result<Option<usize>, Option<(u64, usize)>>, u32);
 
-const REFUSED_UPDATES: [Update; 3] = [
+static REFUSED_UPDATES: [Update; 3] = [
     (1, MOST, Ok(Some(MOST)), 0),
     (3, 1, Err(None), 0),
     (2, 1, Err(Some((7, 1))), 1),

@@ -93,7 +93,7 @@ fn refuses_an_argument_that_is_not_text(rt: HostRuntime) -> Result<(), Fail> {
 }
 
 /// How the input fails, and what is told.
-const FAILURES: [(io::ErrorKind, &str); 2] = [
+static FAILURES: [(io::ErrorKind, &str); 2] = [
     (io::ErrorKind::TimedOut, "error input\n"),
     (io::ErrorKind::OutOfMemory, "error memory\n"),
 ];
@@ -158,7 +158,7 @@ fn ends_at_a_failed_write(rt: HostRuntime) -> Result<(), Fail> {
 }
 
 // With ample memory, with one row refused, and with the eviction cut short.
-const TEXTS: [&str; 11] = [
+static TEXTS: [&str; 11] = [
     "1\n1\n1\n1\n1\n5 1:1:1 3:3:1 5:5:1 7:7:1 9:9:1\n0 0 5 5\n",
     "refused memory\n1\n1\n1\n1\n4 3:3:1 5:5:1 7:7:1 9:9:1\n0 0 4 4\n",
     "1\nrefused memory\n1\n1\n1\n4 1:1:1 5:5:1 7:7:1 9:9:1\n0 0 4 4\n",

@@ -58,7 +58,7 @@ fn loads_what_it_saved(rt: HostRuntime) -> Result<(), Fail> {
 
 /// Which call fails of a save into an empty folder and a load, and what is told. The first call makes the folder, and each
 /// shard has four, since it has no bytes.
-const FAULTS: [(u64, &str); 5] = [
+static FAULTS: [(u64, &str); 5] = [
     (0, "save refused\nloaded 0 missing 2 errored 0 removed 0\n"),
     (
         1,
@@ -97,9 +97,9 @@ fn tells_stop(alloc: Global) -> Result<bool, AllocError> {
 
 /// The first call, if there is one, whose failure is told otherwise; and 99 where that of all calls is.
 fn wrong_fault(alloc: Global) -> Result<Option<u64>, AllocError> {
-    for (call, text) in FAULTS {
-        if !tells_fault(alloc, call, text)? {
-            return Ok(Some(call));
+    for (call, text) in &FAULTS {
+        if !tells_fault(alloc, *call, text)? {
+            return Ok(Some(*call));
         }
     }
     Ok(if tells_stop(alloc)? { None } else { Some(99) })
@@ -164,7 +164,7 @@ fn draws_the_words_of_a_save(rt: HostRuntime) -> Result<(), Fail> {
 }
 
 /// What the two lines of the log are to end with.
-const LOGGED: [(&str, &str); 2] = [
+static LOGGED: [(&str, &str); 2] = [
     ("", "No persisted LRU shards found. LRU will start empty."),
     ("", "Successfully saved 2/2 shards."),
 ];
@@ -210,7 +210,7 @@ fn takes_texts_for_folder_and_file(rt: HostRuntime) -> Result<(), Fail> {
 }
 
 /// Lines that are bad.
-const BAD: [&[u8]; 23] = [
+static BAD: [&[u8]; 23] = [
     b"save",
     b"save d",
     b"save d ",
@@ -287,7 +287,7 @@ fn refuses_no_file_without_cause(rt: HostRuntime) -> Result<(), Fail> {
 }
 
 // What a load may tell where one allocation is refused.
-const LOADS: [&str; 6] = [
+static LOADS: [&str; 6] = [
     "loaded 2 missing 0 errored 0 removed 1\n",
     "loaded 1 missing 0 errored 1 removed 1\n",
     "loaded 2 missing 0 errored 0 removed 0\n",
@@ -297,7 +297,7 @@ const LOADS: [&str; 6] = [
 ];
 
 // What a save may tell there.
-const SAVES: [&str; 4] = [
+static SAVES: [&str; 4] = [
     "saved 2 failed 0\n",
     "saved 1 failed 1\n",
     "save refused\n",

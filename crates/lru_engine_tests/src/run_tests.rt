@@ -36,7 +36,7 @@ pub fn answers(
 }
 
 /// Arguments that are wrong.
-const WRONG: [&str; 7] = [
+static WRONG: [&str; 7] = [
     "4",
     "4 -",
     "4 - 7 7",
@@ -64,7 +64,7 @@ fn tells_its_usage(rt: HostRuntime) -> Result<(), Fail> {
 }
 
 /// The arguments, the input, the status and the text.
-const RUNS: [(&str, &str, u8, &str); 11] = [
+static RUNS: [(&str, &str, u8, &str); 11] = [
     // A weight above the cap is refused.
     (
         "4 - 7",
@@ -152,7 +152,7 @@ fn runs_and_their_answers(rt: HostRuntime) -> Result<(), Fail> {
 }
 
 /// Lines that are bad.
-const BAD: [&str; 45] = [
+static BAD: [&str; 45] = [
     // no word, and space where none belongs
     "",
     " ",

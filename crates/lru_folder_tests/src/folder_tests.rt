@@ -35,20 +35,20 @@ fn answer_so(folder: &mut MemoryFolder, calls: &[(Asked<'_>, Result<(), FolderFa
 }
 
 /// The calls where the second one fails.
-const ONE_FAILS: [(Asked<'static>, Result<(), FolderFault>); 3] = [
+static ONE_FAILS: [(Asked<'static>, Result<(), FolderFault>); 3] = [
     (Asked::Make("e"), Ok(())),
     (Asked::Make("f"), FAILED),
     (Asked::Make("f"), Ok(())),
 ];
 
 /// The calls where all fail.
-const ALL_FAIL: [(Asked<'static>, Result<(), FolderFault>); 2] = [
+static ALL_FAIL: [(Asked<'static>, Result<(), FolderFault>); 2] = [
     (Asked::Remove("d/a"), FAILED),
     (Asked::Remove("d/a"), FAILED),
 ];
 
 /// The calls where none fails any more.
-const MENDED: [(Asked<'static>, Result<(), FolderFault>); 2] = [
+static MENDED: [(Asked<'static>, Result<(), FolderFault>); 2] = [
     (Asked::Remove("d/a"), Ok(())),
     (Asked::Remove("d/a"), NOT_FOUND),
 ];
@@ -70,7 +70,7 @@ fn a_plan_fails_one_call_or_all(rt: HostRuntime) -> Result<(), Fail> {
 }
 
 /// Calls in an empty folder.
-const MADE: [(Asked<'static>, Result<(), FolderFault>); 6] = [
+static MADE: [(Asked<'static>, Result<(), FolderFault>); 6] = [
     (Asked::Create("a/b/c"), NOT_FOUND),
     (Asked::Make("a/b/"), Ok(())),
     (Asked::Create("a/b/c"), Ok(())),

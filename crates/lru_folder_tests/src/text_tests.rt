@@ -17,7 +17,7 @@ fn text(alloc: Global, letters: &str) -> Result<String, AllocError> {
 }
 
 /// How each fault is shown.
-const FAULTS: [(FolderFault, &str); 3] = [
+static FAULTS: [(FolderFault, &str); 3] = [
     (FolderFault::NotFound, "not found"),
     (FolderFault::Memory, "out of memory"),
     (FolderFault::Io, "input or output failed"),
@@ -25,7 +25,7 @@ const FAULTS: [(FolderFault, &str); 3] = [
 
 /// The first fault, if there is one, that is shown otherwise.
 fn wrong_fault(alloc: Global) -> Result<Option<FolderFault>, AllocError> {
-    for (fault, text) in FAULTS {
+    for &(fault, text) in &FAULTS {
         if !is_shown(alloc, &fault, text)? {
             return Ok(Some(fault));
         }
@@ -55,7 +55,7 @@ enum About {
 }
 
 /// Errors about files: what they are about, the path, the cause, and how they are shown.
-const FILE_ERRORS: [(About, &str, FolderFault, &str); 10] = [
+static FILE_ERRORS: [(About, &str, FolderFault, &str); 10] = [
     (
         About::Create,
         "d/t",

@@ -35,7 +35,7 @@ enum Call {
 type Step = (Call, Option<u64>, &'static [u64]);
 
 #[rattlefmt::skip]
-const USES_A_FREED_SLOT_AGAIN: [Step; 9] = [
+static USES_A_FREED_SLOT_AGAIN: [Step; 9] = [
     (Call::PushHead(1), Some(2), &[1]),
     (Call::PushHead(2), Some(3), &[2, 1]),
     (Call::PushHead(3), Some(4), &[3, 2, 1]),
@@ -48,7 +48,7 @@ const USES_A_FREED_SLOT_AGAIN: [Step; 9] = [
 ];
 
 #[rattlefmt::skip]
-const FINDS_NEAR_THE_HEAD: [Step; 7] = [
+static FINDS_NEAR_THE_HEAD: [Step; 7] = [
     (Call::PushTail(3), Some(2), &[3]),
     (Call::PushTail(2), Some(3), &[3, 2]),
     (Call::PushTail(4), Some(4), &[3, 2, 4]),
@@ -59,7 +59,7 @@ const FINDS_NEAR_THE_HEAD: [Step; 7] = [
 ];
 
 #[rattlefmt::skip]
-const PROMOTES_AND_WALKS: [Step; 24] = [
+static PROMOTES_AND_WALKS: [Step; 24] = [
     (Call::PushTail(1), Some(2), &[1]),
     (Call::PushTail(2), Some(3), &[1, 2]),
     (Call::PushTail(3), Some(4), &[1, 2, 3]),
@@ -86,7 +86,7 @@ const PROMOTES_AND_WALKS: [Step; 24] = [
     (Call::Peek(NO_SLOT), None, &[3, 1, 2, 4]),
 ];
 
-const MAKES_ROOM_IN_AN_EMPTY_LIST: [Step; 2] = [
+static MAKES_ROOM_IN_AN_EMPTY_LIST: [Step; 2] = [
     (Call::Reserve(100), Some(100), &[]),
     (Call::Len, Some(0), &[]),
 ];

@@ -14,7 +14,7 @@ fn parts<D>(refused: Refused<D>) -> (Cause, D) {
 }
 
 // A key, what its weight is raised by or whether it becomes 0, the weight that it had, and what the call leaves.
-const UPDATES: [(u64, usize, bool, Option<usize>, &str); 3] = [
+static UPDATES: [(u64, usize, bool, Option<usize>, &str); 3] = [
     (2, 3, false, Some(2), "9: [(21, 5), (40, 4)]"),
     (6, 0, false, None, "10: [(60, 1), (21, 5), (40, 4)]"),
     (4, 0, true, Some(4), "7: [(41, 1), (60, 1), (21, 5)]"),
@@ -28,7 +28,7 @@ fn wrong_update<R: Wait>(rt: &R, alloc: Global) -> Result<Option<u64>, AllocErro
             return Ok(Some(key));
         }
     }
-    for (key, more, is_zero, was, left) in UPDATES {
+    for &(key, more, is_zero, was, left) in &UPDATES {
         let update = |value: &mut u64, weight: usize| {
             *value = value.wrapping_add(1);
             if is_zero {

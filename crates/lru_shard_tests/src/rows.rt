@@ -4,7 +4,7 @@ use lru_shard::unit::{Cause, LruUnit};
 use std::test::Fail;
 
 #[rattlefmt::skip]
-const REFUSES_PAST_ITS_CAP: [Step; 9] = [
+static REFUSES_PAST_ITS_CAP: [Step; 9] = [
     (Call::Admit { key: 1, data: 10, weight: 6 }, "Ok(0)", "6: 1=10 6,"),
     (Call::Admit { key: 2, data: 20, weight: 5 }, "Err(Refused { cause: Weight, held: 20 })", "6: 1=10 6,"),
     (Call::Admit { key: 1, data: 30, weight: 10 }, "Ok(6)", "10: 1=30 10,"),
@@ -18,7 +18,7 @@ const REFUSES_PAST_ITS_CAP: [Step; 9] = [
 
 // A refused update keeps what it did to the data, and makes none; a refused admission hands back what was made.
 #[rattlefmt::skip]
-const REFUSES_UPDATES: [Step; 7] = [
+static REFUSES_UPDATES: [Step; 7] = [
     (Call::Admit { key: 1, data: 5, weight: 6 }, "Ok(0)", "6: 1=5 6,"),
     (Call::Update { key: 1, data: 7, weight: 11 }, "Err(Refused { cause: Weight, held: None }) false", "6: 1=7 6,"),
     (Call::Peek { key: 1 }, "Some(7)", "6: 1=7 6,"),
@@ -30,7 +30,7 @@ const REFUSES_UPDATES: [Step; 7] = [
 
 // A full shard refuses a new row before any data are made.
 #[rattlefmt::skip]
-const REFUSES_A_ROW_TOO_MANY: [Step; 7] = [
+static REFUSES_A_ROW_TOO_MANY: [Step; 7] = [
     (Call::InsertTail { key: 1, data: 10, weight: 0 }, "Ok(true)", "0: 1=10 0,"),
     (Call::InsertTail { key: 2, data: 20, weight: 0 }, "Err(Refused { cause: Length, held: 20 })", "0: 1=10 0,"),
     (Call::InsertTail { key: 1, data: 20, weight: 0 }, "Ok(false)", "0: 1=10 0,"),
@@ -41,7 +41,7 @@ const REFUSES_A_ROW_TOO_MANY: [Step; 7] = [
 ];
 
 #[rattlefmt::skip]
-const INCREMENTS_WEIGHTS: [Step; 4] = [
+static INCREMENTS_WEIGHTS: [Step; 4] = [
     (Call::Admit { key: 1, data: 1, weight: 1 }, "Ok(0)", "1: 1=1 1,"),
     (Call::Increment { key: 1, data: 2, delta: 1, most: None }, "Ok((1, 2, false)) false", "2: 1=1 2,"),
     (Call::Increment { key: 0, data: 0, delta: 1000, most: Some(3) }, "Ok((0, 3, true)) true", "5: 0=0 3, 1=1 2,"),
@@ -49,20 +49,20 @@ const INCREMENTS_WEIGHTS: [Step; 4] = [
 ];
 
 #[rattlefmt::skip]
-const INCREMENTS_UP_TO_A_BOUND: [Step; 3] = [
+static INCREMENTS_UP_TO_A_BOUND: [Step; 3] = [
     (Call::Increment { key: 1, data: 10, delta: 4, most: Some(0) }, "Ok((0, 1, true)) true", "1: 1=10 1,"),
     (Call::SetWeight { key: 1, weight: 5 }, "Ok(Some(1))", "5: 1=10 5,"),
     (Call::Increment { key: 1, data: 20, delta: 1, most: Some(3) }, "Ok((5, 5, false)) false", "5: 1=10 5,"),
 ];
 
 #[rattlefmt::skip]
-const COUNTS_A_ROW_OF_WEIGHT_0_ONCE: [Step; 2] = [
+static COUNTS_A_ROW_OF_WEIGHT_0_ONCE: [Step; 2] = [
     (Call::InsertTail { key: 1, data: 1, weight: 0 }, "Ok(true)", "0: 1=1 0,"),
     (Call::Admit { key: 1, data: 1, weight: 5 }, "Ok(0)", "5: 1=1 5,"),
 ];
 
 #[rattlefmt::skip]
-const ANSWERS_EACH_CHANGE: [Step; 19] = [
+static ANSWERS_EACH_CHANGE: [Step; 19] = [
     (Call::InsertTail { key: 3, data: 30, weight: 4 }, "Ok(true)", "4: 3=30 4,"),
     (Call::InsertTail { key: 2, data: 20, weight: 2 }, "Ok(true)", "6: 3=30 4, 2=20 2,"),
     (Call::InsertTail { key: 1, data: 10, weight: 5 }, "Ok(true)", "11: 3=30 4, 2=20 2, 1=10 5,"),

@@ -46,7 +46,7 @@ const LONG: [u8; 25] = [
 
 /// Loads into an empty core, one after another: the shard, the bytes, the answer, and the bytes of shard 0 then. Shard 1
 /// stays empty.
-const LOADS: [(usize, &[u8], Result<usize, LoadError>, &[u8]); 5] = [
+static LOADS: [(usize, &[u8], Result<usize, LoadError>, &[u8]); 5] = [
     (0, &[], Ok(0), &[]),
     (0, &LONG, Err(LoadError::Damaged), &[]),
     (1, &ROW, Err(LoadError::Damaged), &[]),
@@ -132,7 +132,7 @@ fn refused_bytes_change_nothing(rt: HostRuntime) -> Result<(), Fail> {
 }
 
 /// How each refusal is shown.
-const TEXTS: [(LoadError, &str); 4] = [
+static TEXTS: [(LoadError, &str); 4] = [
     (LoadError::Damaged, "damaged"),
     (LoadError::Unit(Cause::Weight), "refused weight"),
     (LoadError::Unit(Cause::Length), "refused length"),
@@ -141,7 +141,7 @@ const TEXTS: [(LoadError, &str); 4] = [
 
 /// The first of them, if there is one, that is shown otherwise.
 fn wrong_text(alloc: Global) -> Result<Option<LoadError>, AllocError> {
-    for (error, text) in TEXTS {
+    for &(error, text) in &TEXTS {
         if error.to_string(alloc)?.as_str() != text {
             return Ok(Some(error));
         }

@@ -13,7 +13,7 @@ const MOST: usize = 18446744073709551615;
 
 /// Two shards, 100.
 #[rattlefmt::skip]
-pub const PROMOTES: [Step; 11] = [
+pub static PROMOTES: [Step; 11] = [
     (Admit(2, 2, 2), "Shard(Ok(0))", "2: [(2, 2)] []"),
     (Admit(3, 3, 3), "Shard(Ok(1))", "5: [(2, 2)] [(3, 3)]"),
     (Admit(4, 4, 4), "Shard(Ok(0))", "9: [(4, 4), (2, 2)] [(3, 3)]"),
@@ -29,7 +29,7 @@ pub const PROMOTES: [Step; 11] = [
 
 /// One shard, 100.
 #[rattlefmt::skip]
-pub const SETS_WEIGHTS: [Step; 7] = [
+pub static SETS_WEIGHTS: [Step; 7] = [
     (Admit(1, 1, 1), "Shard(Ok(0))", "1: [(1, 1)]"),
     (Admit(2, 2, 2), "Shard(Ok(0))", "3: [(2, 2), (1, 1)]"),
     (Admit(3, 3, 3), "Shard(Ok(0))", "6: [(3, 3), (2, 2), (1, 1)]"),
@@ -41,7 +41,7 @@ pub const SETS_WEIGHTS: [Step; 7] = [
 
 /// One shard, 100.
 #[rattlefmt::skip]
-pub const WEIGHS_NEW_ROWS: [Step; 7] = [
+pub static WEIGHS_NEW_ROWS: [Step; 7] = [
     (Increment(7, 70, 4, Some(0)), "Weight(Ok(1))", "1: [(70, 1)]"),
     (SetWeight(7, 5), "Was(Ok(Some(1)))", "5: [(70, 5)]"),
     (Increment(7, 71, 1, Some(3)), "Weight(Ok(5))", "5: [(70, 5)]"),
@@ -53,7 +53,7 @@ pub const WEIGHS_NEW_ROWS: [Step; 7] = [
 
 /// One shard, 100.
 #[rattlefmt::skip]
-pub const INCREMENTS: [Step; 4] = [
+pub static INCREMENTS: [Step; 4] = [
     (Increment(1, 10, 4, Some(0)), "Weight(Ok(1))", "1: [(10, 1)]"),
     (Admit(2, 20, 5), "Shard(Ok(0))", "6: [(20, 5), (10, 1)]"),
     (Admit(3, 30, 7), "Shard(Ok(0))", "13: [(30, 7), (20, 5), (10, 1)]"),
@@ -62,7 +62,7 @@ pub const INCREMENTS: [Step; 4] = [
 
 /// One shard, 100.
 #[rattlefmt::skip]
-pub const COUNTS_A_ROW_OF_WEIGHT_0_ONCE: [Step; 3] = [
+pub static COUNTS_A_ROW_OF_WEIGHT_0_ONCE: [Step; 3] = [
     (InsertTail(1, 1, 0), "Inserted(Ok(true))", "0: [(1, 0)]"),
     (Admit(1, 1, 5), "Shard(Ok(0))", "5: [(1, 5)]"),
     (Totals, "Totals { len: 1, weight: 5, evicted_len: 0, evicted_weight: 0 }", "5: [(1, 5)]"),
@@ -70,7 +70,7 @@ pub const COUNTS_A_ROW_OF_WEIGHT_0_ONCE: [Step; 3] = [
 
 /// One shard, 10.
 #[rattlefmt::skip]
-pub const EVICTS_THE_OLDEST: [Step; 11] = [
+pub static EVICTS_THE_OLDEST: [Step; 11] = [
     (Admit(0, 0, 2), "Shard(Ok(0))", "2: [(0, 2)]"),
     (Admit(1, 1, 2), "Shard(Ok(0))", "4: [(1, 2), (0, 2)]"),
     (Admit(2, 2, 2), "Shard(Ok(0))", "6: [(2, 2), (1, 2), (0, 2)]"),
@@ -86,7 +86,7 @@ pub const EVICTS_THE_OLDEST: [Step; 11] = [
 
 /// Two shards, 14.
 #[rattlefmt::skip]
-pub const STEPS_TO_A_VICTIM: [Step; 8] = [
+pub static STEPS_TO_A_VICTIM: [Step; 8] = [
     (Admit(2, 2, 2), "Shard(Ok(0))", "2: [(2, 2)] []"),
     (Admit(3, 3, 2), "Shard(Ok(1))", "4: [(2, 2)] [(3, 2)]"),
     (Admit(4, 4, 4), "Shard(Ok(0))", "8: [(4, 4), (2, 2)] [(3, 2)]"),
@@ -99,7 +99,7 @@ pub const STEPS_TO_A_VICTIM: [Step; 8] = [
 
 /// Four shards, 1.
 #[rattlefmt::skip]
-pub const GOES_ROUND_THE_CIRCLE: [Step; 3] = [
+pub static GOES_ROUND_THE_CIRCLE: [Step; 3] = [
     (Admit(2, 2, 1), "Shard(Ok(2))", "1: [] [] [(2, 1)] []"),
     (Admit(6, 6, 1), "Shard(Ok(2))", "2: [] [] [(6, 1), (2, 1)] []"),
     (EvictStep(3, 0), "Left(Some((2, 1)))", "1: [] [] [(6, 1)] []"),
@@ -107,7 +107,7 @@ pub const GOES_ROUND_THE_CIRCLE: [Step; 3] = [
 
 /// Two shards, 100.
 #[rattlefmt::skip]
-pub const WEIGHS_A_HALF: [Step; 4] = [
+pub static WEIGHS_A_HALF: [Step; 4] = [
     (Admit(0, 10, HALF), "Shard(Ok(0))", "9223372036854775807: [(10, 9223372036854775807)] []"),
     (Admit(2, 11, 1), "Shard(Err(Refused { cause: Weight, held: 11 }))", "9223372036854775807: [(10, 9223372036854775807)] []"),
     (Admit(1, 12, HALF), "Shard(Ok(1))", "18446744073709551614: [(10, 9223372036854775807)] [(12, 9223372036854775807)]"),
@@ -116,7 +116,7 @@ pub const WEIGHS_A_HALF: [Step; 4] = [
 
 /// Three shards, 18446744073709551615.
 #[rattlefmt::skip]
-pub const WEIGHS_A_THIRD: [Step; 9] = [
+pub static WEIGHS_A_THIRD: [Step; 9] = [
     (Admit(0, 10, THIRD + 1), "Shard(Err(Refused { cause: Weight, held: 10 }))", "0: [] [] []"),
     (Admit(0, 20, THIRD), "Shard(Ok(0))", "6148914691236517205: [(20, 6148914691236517205)] [] []"),
     (SetWeight(0, THIRD + 1), "Was(Err(Weight))", "6148914691236517205: [(20, 6148914691236517205)] [] []"),
@@ -130,7 +130,7 @@ pub const WEIGHS_A_THIRD: [Step; 9] = [
 
 /// One shard, 0.
 #[rattlefmt::skip]
-pub const COUNTS_UP_TO_THE_WIDTH: [Step; 9] = [
+pub static COUNTS_UP_TO_THE_WIDTH: [Step; 9] = [
     (Admit(1, 10, MOST), "Shard(Ok(0))", "18446744073709551615: [(10, 18446744073709551615)]"),
     (Increment(1, 13, 5, None), "Weight(Ok(18446744073709551615))", "18446744073709551615: [(10, 18446744073709551615)]"),
     (Admit(2, 11, 1), "Shard(Err(Refused { cause: Weight, held: 11 }))", "18446744073709551615: [(10, 18446744073709551615)]"),
@@ -144,7 +144,7 @@ pub const COUNTS_UP_TO_THE_WIDTH: [Step; 9] = [
 
 /// Two shards, 10.
 #[rattlefmt::skip]
-pub const ANSWERS_EACH_CALL: [Step; 18] = [
+pub static ANSWERS_EACH_CALL: [Step; 18] = [
     (Admit(0, 0, 2), "Shard(Ok(0))", "2: [(0, 2)] []"),
     (Admit(1, 10, 3), "Shard(Ok(1))", "5: [(0, 2)] [(10, 3)]"),
     (Admit(2, 20, 0), "Shard(Ok(0))", "6: [(20, 1), (0, 2)] [(10, 3)]"),
@@ -167,7 +167,7 @@ pub const ANSWERS_EACH_CALL: [Step; 18] = [
 
 /// Two shards, 10.
 #[rattlefmt::skip]
-pub const ANSWERS_WHERE_NOTHING_IS: [Step; 5] = [
+pub static ANSWERS_WHERE_NOTHING_IS: [Step; 5] = [
     (PeekLru(0), "Last(Ok(None))", "0: [] []"),
     (PeekLru(2), "Last(Ok(None))", "0: [] []"),
     (EvictShard(1), "Left(None)", "0: [] []"),
@@ -177,7 +177,7 @@ pub const ANSWERS_WHERE_NOTHING_IS: [Step; 5] = [
 
 /// Two cores of one shard, 3 and 5: the steps of each, side by side.
 #[rattlefmt::skip]
-pub const UNDER_TWO_LIMITS: [(Step, Step); 10] = [
+pub static UNDER_TWO_LIMITS: [(Step, Step); 10] = [
     ((Admit(1, 1, 2), "Shard(Ok(0))", "2: [(1, 2)]"),
         (Admit(1, 1, 2), "Shard(Ok(0))", "2: [(1, 2)]")),
     ((EvictToLimit, "Evicted(Ok([]))", "2: [(1, 2)]"),
@@ -203,7 +203,7 @@ pub const UNDER_TWO_LIMITS: [(Step, Step); 10] = [
 /// Two cores of one shard, both 10, the first with a watermark of 2. It comes to have no key 1: its weight, its row and
 /// its place are the second's alone.
 #[rattlefmt::skip]
-pub const UNDER_A_WATERMARK: [(Step, Step); 9] = [
+pub static UNDER_A_WATERMARK: [(Step, Step); 9] = [
     ((Admit(1, 1, 3), "Shard(Ok(0))", "3: [(1, 3)]"),
         (Admit(1, 1, 3), "Shard(Ok(0))", "3: [(1, 3)]")),
     ((EvictToLimit, "Evicted(Ok([]))", "3: [(1, 3)]"),
