@@ -75,6 +75,41 @@ fn send(actor: &mut Actor, keys: &[u64], size: usize, is_new: bool) -> Result<us
     Ok(done.wrapping_add(actor.flush()))
 }
 
+// Admits the keys of all and promotes by the trace, by a shard's own calls.
+fn measure_unit<R: Print + Clock>(
+    rt: &R,
+    alloc: Global,
+    watch: Watch,
+    all: &[u64],
+    trace: &[u64],
+) -> io::Result<()> {
+    let mut unit = LruUnit::with_capacity(alloc, all.len(), usize::MAX)?;
+    let start = Instant::now(rt)?;
+    let done = all
+        .iter()
+        .filter(|key| unit.admit(**key, **key, 1).is_ok())
+        .count();
+    watch.tell(rt, "a shard's own calls, admit", done, all.len(), start)?;
+    let start = Instant::now(rt)?;
+    let done = trace.iter().filter(|key| unit.access(**key)).count();
+    watch.tell(rt, "a shard's own calls, promote", done, trace.len(), start)
+}
+
+// Sends messages with these keys, and tells how many were not refused.
+fn time<R: Print + Clock>(
+    rt: &R,
+    alloc: Global,
+    watch: Watch,
+    actor: &mut Actor,
+    (keys, name): (&[u64], &str),
+    size: usize,
+) -> io::Result<()> {
+    let start = Instant::now(rt)?;
+    let done = send(actor, keys, size, name == "admit")?;
+    let what = format!(in alloc; "messages in batches of {size}, {name}")?;
+    watch.tell(rt, what.as_str(), done, keys.len(), start)
+}
+
 /// Admits so many rows and promotes a million times, by a shard's own calls and by messages.
 pub fn measure<R: Print + Clock>(rt: &R, alloc: Global, watch: Watch, rows: u32) -> io::Result<()>
     requires { 0 < rows }
@@ -84,24 +119,11 @@ pub fn measure<R: Print + Clock>(rt: &R, alloc: Global, watch: Watch, rows: u32)
     for key in 0..rows as u64 {
         all.push(key)?;
     }
-    let mut unit = LruUnit::with_capacity(alloc, rows as usize, usize::MAX)?;
-    let start = Instant::now(rt)?;
-    let done = all
-        .iter()
-        .filter(|key| unit.admit(**key, **key, 1).is_ok())
-        .count();
-    watch.tell(rt, "a shard's own calls, admit", done, rows as usize, start)?;
-    let start = Instant::now(rt)?;
-    let done = trace.iter().filter(|key| unit.access(**key)).count();
-    watch.tell(rt, "a shard's own calls, promote", done, CALLS, start)?;
+    measure_unit(rt, alloc, watch, &all, &trace)?;
     for size in [1, MOST] {
         let mut actor = Actor::new(alloc, rows as usize)?;
-        for (keys, name) in [(&all, "admit"), (&trace, "promote")] {
-            let start = Instant::now(rt)?;
-            let done = send(&mut actor, keys, size, name == "admit")?;
-            let what = format!(in alloc; "messages in batches of {size}, {name}")?;
-            watch.tell(rt, what.as_str(), done, keys.len(), start)?;
-        }
+        time(rt, alloc, watch, &mut actor, (&all, "admit"), size)?;
+        time(rt, alloc, watch, &mut actor, (&trace, "promote"), size)?;
     }
     Ok(())
 }

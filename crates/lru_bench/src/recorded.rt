@@ -4,7 +4,7 @@ ghost use Rattle.std.specs.Prelude.{◌≡◌, ◌<◌};
 use crate::trace;
 use crate::watch::Watch;
 use pingora_lru::Lru;
-use pingora_lru::recorded::{Blank, Names, RecordedLru, Registry};
+use pingora_lru::recorded::{Blank, Names, RecordedLru, Registry, Seat};
 use std::alloc::Global;
 use std::io;
 use std::marker::Brand;
@@ -35,21 +35,52 @@ fn record<B: Registry, R: Print + Clock + Wait>(
         1,
     )?;
     for seat in seats.iter_mut() {
-        for key in 0..rows as u64 {
-            if lru.admit(rt, seat, key, key, 1).is_err() {
-                return Err(io::Error::from(io::ErrorKind::OutOfMemory));
-            }
-        }
-        let start = Instant::now(rt)?;
-        let mut done = 0usize;
-        for key in trace {
-            if lru.promote(rt, seat, *key)? {
-                done = done.wrapping_add(1);
-            }
-        }
-        watch.tell(rt, "recorded, N = 8, promote", done, trace.len(), start)?;
+        time(rt, watch, &lru, seat, rows, trace)?;
     }
     Ok(())
+}
+
+// Admits the rows and promotes by the trace, with one caller.
+fn time<B: Registry, R: Print + Clock + Wait>(
+    rt: &R,
+    watch: Watch,
+    lru: &RecordedLru<u64, B, 8>,
+    seat: &mut Seat<B>,
+    rows: u32,
+    trace: &[u64],
+) -> io::Result<()> {
+    for key in 0..rows as u64 {
+        if lru.admit(rt, seat, key, key, 1).is_err() {
+            return Err(io::Error::from(io::ErrorKind::OutOfMemory));
+        }
+    }
+    let start = Instant::now(rt)?;
+    let mut done = 0usize;
+    for key in trace {
+        if lru.promote(rt, seat, *key)? {
+            done = done.wrapping_add(1);
+        }
+    }
+    watch.tell(rt, "recorded, N = 8, promote", done, trace.len(), start)
+}
+
+// Promotes by the trace in an order that does not record.
+fn measure_plain<R: Print + Clock + Wait>(
+    rt: &R,
+    alloc: Global,
+    watch: Watch,
+    rows: u32,
+    trace: &[u64],
+) -> io::Result<()> {
+    let lru = Lru::<u64, 8>::with_capacity(alloc, usize::MAX, rows as usize)?;
+    for key in 0..rows as u64 {
+        if lru.admit(rt, key, key, 1).is_err() {
+            return Err(io::Error::from(io::ErrorKind::OutOfMemory));
+        }
+    }
+    let start = Instant::now(rt)?;
+    let done = trace.iter().filter(|key| lru.promote(rt, **key)).count();
+    watch.tell(rt, "not recorded, N = 8, promote", done, trace.len(), start)
 }
 
 /// Promotes a million times among so many rows, recorded and not.
@@ -62,15 +93,7 @@ pub fn measure<R: Print + Clock + Wait>(
     requires { 0 < rows }
 {
     let trace = trace::uniform_keys(alloc, 7, rows, CALLS)?;
-    let lru = Lru::<u64, 8>::with_capacity(alloc, usize::MAX, rows as usize)?;
-    for key in 0..rows as u64 {
-        if lru.admit(rt, key, key, 1).is_err() {
-            return Err(io::Error::from(io::ErrorKind::OutOfMemory));
-        }
-    }
-    let start = Instant::now(rt)?;
-    let done = trace.iter().filter(|key| lru.promote(rt, **key)).count();
-    watch.tell(rt, "not recorded, N = 8, promote", done, CALLS, start)?;
+    measure_plain(rt, alloc, watch, rows, &trace)?;
     let names = Names {
         shards: 8,
         seats: 1,

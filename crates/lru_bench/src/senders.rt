@@ -105,6 +105,31 @@ fn work_on<O: Order, R: Wait>(rt: &R, order: &O, work: Work, keys: &[u64]) -> us
         .count()
 }
 
+// How much of the work with the keys of a trace was taken, once all of it is done.
+fn share<O: Order, R: Threads + Wait + Sync>(
+    rt: &R,
+    alloc: Global,
+    order: &O,
+    work: Work,
+    trace: &[u64],
+    senders: usize,
+) -> io::Result<usize> {
+    let calls = (trace.len() / senders.max(1)).max(1);
+    let counts = thread::map_chunks(
+        rt,
+        alloc,
+        trace,
+        calls,
+        &|_, keys| work_on(rt, order, work, keys),
+    )?;
+    order.finish(rt);
+    Ok(
+        counts
+            .iter()
+            .fold(0usize, |sum, count| sum.wrapping_add(*count)),
+    )
+}
+
 // Fills an order with all rows, and times the work of so many senders until all of it is done.
 fn time<O: Order, R: Print + Clock + Threads + Wait + Sync>(
     rt: &R,
@@ -117,25 +142,12 @@ fn time<O: Order, R: Print + Clock + Threads + Wait + Sync>(
 ) -> io::Result<()> {
     let all = calls_of(watch);
     let trace = trace::uniform_keys(alloc, 13, ROWS, all)?;
-    let calls = (all / senders.max(1)).max(1);
-    for key in 0..ROWS as u64 {
-        if !order.admit(rt, key) {
-            return Err(io::Error::from(io::ErrorKind::OutOfMemory));
-        }
+    if !(0..ROWS as u64).all(|key| order.admit(rt, key)) {
+        return Err(io::Error::from(io::ErrorKind::OutOfMemory));
     }
     order.finish(rt);
     let start = Instant::now(rt)?;
-    let counts = thread::map_chunks(
-        rt,
-        alloc,
-        &trace,
-        calls,
-        &|_, keys| work_on(rt, order, work, keys),
-    )?;
-    order.finish(rt);
-    let count = counts
-        .iter()
-        .fold(0usize, |sum, count| sum.wrapping_add(*count));
+    let count = share(rt, alloc, order, work, &trace, senders)?;
     let what = format!(in alloc; "{name}, senders = {senders}, {}", work.name())?;
     watch.tell(rt, what.as_str(), count, all, start)
 }
@@ -179,6 +191,40 @@ fn answer<R: Print + Clock + Wait, const N: usize>(
     watch.tell(rt, what.as_str(), count, ROWS as usize, start)
 }
 
+// Times so many senders to an order behind locks.
+fn behind_locks<R: Print + Clock + Threads + Wait + Sync, const N: usize>(
+    rt: &R,
+    alloc: Global,
+    watch: Watch,
+    work: Work,
+    senders: usize,
+) -> io::Result<()>
+    requires { 0 < N }
+{
+    let lru = Lru::<u64, N>::with_capacity(alloc, usize::MAX, ROWS as usize / N)?;
+    let name = format!(in alloc; "behind locks, N = {N}")?;
+    time(rt, alloc, watch, &lru, name.as_str(), work, senders)
+}
+
+// Times so many senders to actors that have this limit and are called so.
+fn by_actors<R: Print + Clock + Threads + Wait + Copy + Send + Sync + 'static, const N: usize>(
+    rt: R,
+    alloc: Global,
+    watch: Watch,
+    limit: usize,
+    who: &str,
+    work: Work,
+    senders: usize,
+) -> io::Result<()>
+    requires { 0 < N }
+{
+    let lru = actors::<R, N>(rt, alloc, limit)?;
+    let name = format!(in alloc; "by {who}, N = {N}")?;
+    time(&rt, alloc, watch, &lru, name.as_str(), work, senders)?;
+    lru.close(&rt);
+    Ok(())
+}
+
 /// Times 1 and 4 senders to N actors, with a limit that is passed and one that is not, and to an order behind locks.
 pub fn measure<R: Print + Clock + Threads + Wait + Copy + Send + Sync + 'static, const N: usize>(
     rt: R,
@@ -189,17 +235,12 @@ pub fn measure<R: Print + Clock + Threads + Wait + Copy + Send + Sync + 'static,
 {
     for senders in [1usize, 4] {
         for work in [Work::Admit, Work::Promote, Work::Mix] {
-            let lru = Lru::<u64, N>::with_capacity(alloc, usize::MAX, ROWS as usize / N)?;
-            let name = format!(in alloc; "behind locks, N = {N}")?;
-            time(&rt, alloc, watch, &lru, name.as_str(), work, senders)?;
+            behind_locks::<R, N>(&rt, alloc, watch, work, senders)?;
             for (limit, who) in [
                 (usize::MAX, "actors"),
                 (ROWS as usize / 2, "actors that evict"),
             ] {
-                let lru = actors::<R, N>(rt, alloc, limit)?;
-                let name = format!(in alloc; "by {who}, N = {N}")?;
-                time(&rt, alloc, watch, &lru, name.as_str(), work, senders)?;
-                lru.close(&rt);
+                by_actors::<R, N>(rt, alloc, watch, limit, who, work, senders)?;
             }
         }
     }

@@ -31,7 +31,7 @@ enum Work {
     AdmitAndEvict,
 }
 
-const ALL: [Work; 5] = [
+static ALL: [Work; 5] = [
     Work::Peek,
     Work::Promote,
     Work::PromoteApart,
@@ -142,6 +142,35 @@ fn no_room() -> io::Error {
     io::Error::from(io::ErrorKind::OutOfMemory)
 }
 
+// A core with a row of weight 1 for each key, at its limit.
+fn full_core<const N: usize>(alloc: Global, keys: &[u64]) -> io::Result<LruCore<u64, N>>
+    requires { 0 < N }
+{
+    let mut core = LruCore::with_capacity(alloc, keys.len(), keys.len() / N)?;
+    for key in keys {
+        if core.admit(*key, *key, 1).is_err() {
+            return Err(no_room());
+        }
+    }
+    Ok(core)
+}
+
+// One kind of work of a core's owner.
+fn time_owner<R: Print + Clock, const N: usize>(
+    rt: &R,
+    watch: Watch,
+    keys: &Keys,
+    owner: &mut Owner<N>,
+    work: Work,
+) -> io::Result<()> {
+    let trace = work.keys_of(keys);
+    let start = Instant::now(rt)?;
+    let done = work_on(owner, work, trace);
+    let (rows, name) = (keys.rows.len(), work.name());
+    let what = format!(in owner.alloc; "{rows} rows, {name}, threads = 1, LruCore<_, {N}>")?;
+    watch.tell(rt, what.as_str(), done, trace.len(), start)
+}
+
 // The calls of a core's owner.
 fn measure_core<R: Print + Clock, const N: usize>(
     rt: &R,
@@ -151,27 +180,13 @@ fn measure_core<R: Print + Clock, const N: usize>(
 ) -> io::Result<()>
     requires { 0 < N }
 {
-    let rows = keys.rows.len();
-    let mut core = LruCore::<u64, N>::with_capacity(alloc, rows, rows / N)?;
-    for key in &keys.rows {
-        if core.admit(*key, *key, 1).is_err() {
-            return Err(no_room());
-        }
-    }
-    let mut owner = Owner {
+    let mut owner = Owner::<N> {
         alloc,
-        core,
+        core: full_core(alloc, &keys.rows)?,
         rng: SmallRng::seed_from_u64(7),
     };
-    for work in ALL {
-        let trace = work.keys_of(keys);
-        let start = Instant::now(rt)?;
-        let done = work_on(&mut owner, work, trace);
-        let what = format!(in alloc;
-            "{rows} rows, {}, threads = 1, LruCore<_, {N}>",
-            work.name()
-        )?;
-        watch.tell(rt, what.as_str(), done, trace.len(), start)?;
+    for work in &ALL {
+        time_owner(rt, watch, keys, &mut owner, *work)?;
     }
     Ok(())
 }
@@ -189,6 +204,55 @@ fn full<R: Wait, const N: usize>(rt: &R, alloc: Global, keys: &[u64]) -> io::Res
     Ok(lru)
 }
 
+// For how many keys of a trace, which so many threads share, the row is there.
+fn share<R: Threads + Wait + Sync, const N: usize>(
+    rt: &R,
+    alloc: Global,
+    lru: &Lru<u64, N>,
+    work: Work,
+    trace: &[u64],
+    threads: usize,
+) -> io::Result<usize> {
+    let calls = (trace.len() / threads.max(1)).max(1);
+    let counts = thread::map_chunks(
+        rt,
+        alloc,
+        trace,
+        calls,
+        &|first, part| {
+            let mut sharer = Sharer {
+                rt,
+                alloc,
+                lru,
+                rng: SmallRng::seed_from_u64(first as u64),
+            };
+            work_on(&mut sharer, work, part)
+        },
+    )?;
+    Ok(
+        counts
+            .iter()
+            .fold(0usize, |sum, count| sum.wrapping_add(*count)),
+    )
+}
+
+// One kind of work of so many threads.
+fn time_shared<R: Print + Clock + Threads + Wait + Sync, const N: usize>(
+    rt: &R,
+    alloc: Global,
+    watch: Watch,
+    keys: &Keys,
+    lru: &Lru<u64, N>,
+    (work, threads): (Work, usize),
+) -> io::Result<()> {
+    let trace = work.keys_of(keys);
+    let start = Instant::now(rt)?;
+    let done = share(rt, alloc, lru, work, trace, threads)?;
+    let (rows, name) = (keys.rows.len(), work.name());
+    let what = format!(in alloc; "{rows} rows, {name}, threads = {threads}, Lru<_, {N}>")?;
+    watch.tell(rt, what.as_str(), done, trace.len(), start)
+}
+
 // The calls of so many threads.
 fn measure_shared<R: Print + Clock + Threads + Wait + Sync, const N: usize>(
     rt: &R,
@@ -199,35 +263,9 @@ fn measure_shared<R: Print + Clock + Threads + Wait + Sync, const N: usize>(
 ) -> io::Result<()>
     requires { 0 < N }
 {
-    let rows = keys.rows.len();
     let lru = full::<R, N>(rt, alloc, &keys.rows)?;
-    for work in ALL {
-        let trace = work.keys_of(keys);
-        let calls = (trace.len() / threads.max(1)).max(1);
-        let start = Instant::now(rt)?;
-        let counts = thread::map_chunks(
-            rt,
-            alloc,
-            trace,
-            calls,
-            &|first, part| {
-                let mut sharer = Sharer {
-                    rt,
-                    alloc,
-                    lru: &lru,
-                    rng: SmallRng::seed_from_u64(first as u64),
-                };
-                work_on(&mut sharer, work, part)
-            },
-        )?;
-        let done = counts
-            .iter()
-            .fold(0usize, |sum, count| sum.wrapping_add(*count));
-        let what = format!(in alloc;
-            "{rows} rows, {}, threads = {threads}, Lru<_, {N}>",
-            work.name()
-        )?;
-        watch.tell(rt, what.as_str(), done, trace.len(), start)?;
+    for work in &ALL {
+        time_shared(rt, alloc, watch, keys, &lru, (*work, threads))?;
     }
     Ok(())
 }

@@ -41,31 +41,68 @@ impl Keys {
     /// Keys for so many rows and so many calls.
     pub fn draw(alloc: Global, rows: usize, calls: usize) -> Result<Self, AllocError> {
         let mut draws = SplitMix64::seed_from_u64(11);
-        let mut keys = Keys {
-            rows: Vec::with_capacity(alloc, rows)?,
-            drawn: Vec::with_capacity(alloc, calls)?,
-            apart: Vec::with_capacity(alloc, calls)?,
-            new: Vec::with_capacity(alloc, calls)?,
-        };
-        for place in 0..rows {
-            keys.rows.push(draws.next_u64() & !15 | place as u64 & 15)?;
-        }
-        for _ in 0..calls {
-            let place = draws.next_u64() % rows.max(1) as u64;
-            if let Some(key) = keys.rows.get(place as usize) {
-                keys.drawn.push(*key)?;
-            }
-        }
-        for _ in 0..calls {
-            keys.new.push(draws.next_u64())?;
-        }
-        for call in 0..calls {
-            let quarter = call / (calls / 4).max(1) % 4;
-            let place = draws.next_u64() % rows.max(1) as u64 & !3 | quarter as u64;
-            if let Some(key) = keys.rows.get(place as usize) {
-                keys.apart.push(*key)?;
-            }
-        }
-        Ok(keys)
+        let rows = keys_of_rows(alloc, &mut draws, rows)?;
+        let drawn = drawn_keys(alloc, &mut draws, &rows, calls)?;
+        let new = new_keys(alloc, &mut draws, calls)?;
+        let apart = keys_apart(alloc, &mut draws, &rows, calls)?;
+        Ok(Keys {
+            rows,
+            drawn,
+            apart,
+            new,
+        })
     }
+}
+
+fn keys_of_rows(
+    alloc: Global,
+    draws: &mut SplitMix64,
+    rows: usize,
+) -> Result<Vec<u64>, AllocError> {
+    let mut keys = Vec::with_capacity(alloc, rows)?;
+    for place in 0..rows {
+        keys.push(draws.next_u64() & !15 | place as u64 & 15)?;
+    }
+    Ok(keys)
+}
+
+fn drawn_keys(
+    alloc: Global,
+    draws: &mut SplitMix64,
+    rows: &[u64],
+    calls: usize,
+) -> Result<Vec<u64>, AllocError> {
+    let mut keys = Vec::with_capacity(alloc, calls)?;
+    for _ in 0..calls {
+        let place = draws.next_u64() % rows.len().max(1) as u64;
+        if let Some(key) = rows.get(place as usize) {
+            keys.push(*key)?;
+        }
+    }
+    Ok(keys)
+}
+
+fn new_keys(alloc: Global, draws: &mut SplitMix64, calls: usize) -> Result<Vec<u64>, AllocError> {
+    let mut keys = Vec::with_capacity(alloc, calls)?;
+    for _ in 0..calls {
+        keys.push(draws.next_u64())?;
+    }
+    Ok(keys)
+}
+
+fn keys_apart(
+    alloc: Global,
+    draws: &mut SplitMix64,
+    rows: &[u64],
+    calls: usize,
+) -> Result<Vec<u64>, AllocError> {
+    let mut keys = Vec::with_capacity(alloc, calls)?;
+    for call in 0..calls {
+        let quarter = call / (calls / 4).max(1) % 4;
+        let place = draws.next_u64() % rows.len().max(1) as u64 & !3 | quarter as u64;
+        if let Some(key) = rows.get(place as usize) {
+            keys.push(*key)?;
+        }
+    }
+    Ok(keys)
 }
