@@ -7,4 +7,5 @@ pub mod SnapshotRuns
 pub mod SnapshotCalls
 pub mod SnapshotRestores
 pub mod RowLaws
+pub mod MappedItems
 pub mod RoundTrips

@@ -1,4 +1,4 @@
-use Rattle.std.proofs.Common.{◌<◌, subst, rules, arith}
+use Rattle.std.proofs.Common.{subst, rules, arith}
 use Rattle.pingora_lru.specs.Core.{Core}
 use Rattle.lru_folder.specs.declared.reports.ShardLoadReport.{ShardLoadReport}
 use Rattle.lru_folder.specs.Meaning.{Meaning}
@@ -24,10 +24,10 @@ returns-clause-loads g c =
       loads = if_ok {X = ShardLoadReport LoadError} _ (Loaded _)
           (λ report h.
           subst (λ core. Loaded core report)
-          (let same = calls_keep _ (λ f. f.1.ghost_name) (λ before after k shown answer st. search rules) 0 _ h.load.turns _ h.load.calls in search (same, rules))
+          (let same = calls_keep _ (λ f. f.1.ghost_name) (λ before after k shown answer st. st.met.0.1) 0 _ h.load.turns _ h.load.calls in search (same, rules))
           (record {
             load = load_seen _ LoadsShard (λ f. f.1.now) g.row.N
-                (λ before after k shown answer lt st. (let loads : k < g.row.N → LoadsShard before.1.now k shown answer after.1.now = search rules in loads lt))
+                (λ before after k shown answer lt st. st.met.1 lt)
                 _ _ _ _ _ _ _ _ _ _ h.load;
             errors = h.errors;
             sum = h.sum;
