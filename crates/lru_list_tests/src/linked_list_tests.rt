@@ -221,12 +221,21 @@ fn taken(list: &LinkedListU64) -> Taken {
     )
 }
 
+fn pushed(list: &mut LinkedListU64) -> Result<[Index; 3], PushError<u64>> {
+    Ok([list.push_head(2)?, list.push_head(3)?, list.push_tail(4)?])
+}
+
+// The places of three items, and how they are taken.
+fn taken_of_three(alloc: Global) -> Result<([Index; 3], Taken), Fail> {
+    let mut list = LinkedListU64::with_capacity(alloc, 3)?;
+    let places = pushed(&mut list)?;
+    Ok((places, taken(&list)))
+}
+
 #[test]
 fn iterates_from_both_ends(rt: HostRuntime) -> Result<(), Fail> {
-    let mut list = LinkedListU64::with_capacity(rt.alloc(), 3)?;
-    let places = [list.push_head(2)?, list.push_head(3)?, list.push_tail(4)?];
     assert_eq!(rt;
-        (places, taken(&list)),
+        taken_of_three(rt.alloc())?,
         (
             [2, 3, 4],
             (
@@ -247,13 +256,25 @@ fn indices_of(list: &LinkedListU64) -> ([Option<Index>; 4], usize) {
     ([first, last, middle, none], left)
 }
 
-#[test]
-fn tells_its_indices_from_both_ends(rt: HostRuntime) -> Result<(), Fail> {
-    let mut list = LinkedListU64::with_capacity(rt.alloc(), 0)?;
+fn push_three(list: &mut LinkedListU64) -> Result<(), PushError<u64>> {
     list.push_head(7)?;
     list.push_tail(8)?;
     list.push_head(9)?;
-    assert_eq!(rt; indices_of(&list), ([Some(4), Some(3), Some(2), None], 1));
+    Ok(())
+}
+
+fn indices_of_three(alloc: Global) -> Result<([Option<Index>; 4], usize), Fail> {
+    let mut list = LinkedListU64::with_capacity(alloc, 0)?;
+    push_three(&mut list)?;
+    Ok(indices_of(&list))
+}
+
+#[test]
+fn tells_its_indices_from_both_ends(rt: HostRuntime) -> Result<(), Fail> {
+    assert_eq!(rt;
+        indices_of_three(rt.alloc())?,
+        ([Some(4), Some(3), Some(2), None], 1)
+    );
     Ok(())
 }
 
@@ -274,17 +295,25 @@ fn are_popped_in_reverse(list: &mut LinkedListU64) -> bool {
     right && list.pop_tail().is_none()
 }
 
+fn are_in_order(list: &mut LinkedListU64) -> Result<[bool; 3], PushError<u64>> {
+    Ok([
+        are_pushed_in_order(list)?,
+        are_popped_in_reverse(list),
+        are_pushed_in_order(list)?,
+    ])
+}
+
+fn numbered(alloc: Global) -> Result<([bool; 3], usize), Fail> {
+    let mut list = LinkedListU64::with_capacity(alloc, 0)?;
+    let right = are_in_order(&mut list)?;
+    Ok((right, list.len()))
+}
+
 // The row asks for memory ten times: once for the empty list, and nine times as 2 nodes grow to 1024 by doubling.
 // So no push asks twice, and none of the second thousand asks at all: with the eleventh allocation failing it passes.
 #[test]
 fn numbers_slots_in_order(rt: HostRuntime) -> Result<(), Fail> {
-    let mut list = LinkedListU64::with_capacity(rt.alloc(), 0)?;
-    let right = [
-        are_pushed_in_order(&mut list)?,
-        are_popped_in_reverse(&mut list),
-        are_pushed_in_order(&mut list)?,
-    ];
-    assert_eq!(rt; (right, list.len()), ([true; 3], 1000));
+    assert_eq!(rt; numbered(rt.alloc())?, ([true; 3], 1000));
     Ok(())
 }
 
@@ -294,44 +323,83 @@ fn word(alloc: Global, text: &str) -> Result<Word, AllocError> {
     Ok(Some(String::from_str(alloc, text)?))
 }
 
-// Three texts, the first of which is written to and put first: the indices of the pushes, of the ends and beside
-// the sentinels, whether the write and the looks near the head were right, and whether each text left as it was.
-type Told = ([Option<Index>; 7], [bool; 8], usize);
+type Words = LinkedList<Word>;
 
-fn told(alloc: Global) -> Result<Told, Fail> {
-    let mut list = LinkedList::with_capacity(alloc, 1)?;
+fn is_text(item: Option<&Word>, text: &str) -> bool {
+    match item {
+        Some(Some(held)) => held.as_str() == text,
+        _ => false,
+    }
+}
+
+// The indices of three texts.
+fn texts_pushed(alloc: Global, list: &mut Words) -> Result<[Index; 3], Fail> {
     list.reserve(2)?;
-    let b = list.push_head(word(alloc, "b")?)?;
-    let a = list.push_head(word(alloc, "a")?)?;
-    let c = list.push_tail(word(alloc, "c")?)?;
+    Ok([
+        list.push_head(word(alloc, "b")?)?,
+        list.push_head(word(alloc, "a")?)?,
+        list.push_tail(word(alloc, "c")?)?,
+    ])
+}
+
+// Writes to the first of them and puts it first: whether the tail sentinel has no text, and the first was there.
+fn written(list: &mut Words) -> Result<[bool; 2], AllocError> {
     if let Some(Some(text)) = list.peek_mut(2) {
         text.push_str("d")?;
     }
-    let sentinel = list.peek_mut(1).is_none();
-    let promoted = promote_at(&mut list, 2);
-    let (head, tail) = (list.head(), list.tail());
-    let (first, last) = (list.next_index(0), list.prev_index(1));
-    let is_near = list.exist_near_head(&word(alloc, "bd")?, 1);
-    let is_far = !list.exist_near_head(&word(alloc, "a")?, 1);
-    let popped = list.pop_tail() == Some(word(alloc, "c")?);
-    let removed = remove_at(&mut list, 2) == Some(word(alloc, "bd")?);
+    Ok([list.peek_mut(1).is_none(), promote_at(list, 2)])
+}
+
+// The indices of the ends, and beside the sentinels.
+fn ends(list: &Words) -> [Option<Index>; 4] {
+    let _len = list.len();
+    [
+        list.head(),
+        list.tail(),
+        Some(list.next_index(0)),
+        Some(list.prev_index(1)),
+    ]
+}
+
+fn is_first(alloc: Global, list: &Words, text: &str) -> Result<bool, AllocError> {
+    let item = word(alloc, text)?;
+    Ok(list.exist_near_head(&item, 1))
+}
+
+// Whether each text leaves as it was, the slot is blank, and the other text is left.
+fn leave(list: &mut Words) -> [bool; 4] {
+    let popped = is_text(list.pop_tail().as_ref(), "c");
+    let removed = is_text(remove_at(list, 2).as_ref(), "bd");
     let freed = list.peek(2).is_some_and(|item| item.is_none());
-    let left = list.iter().next_back() == Some(&word(alloc, "a")?);
-    Ok((
-        [
-            Some(b),
-            Some(a),
-            Some(c),
-            head,
-            tail,
-            Some(first),
-            Some(last),
-        ],
-        [
-            sentinel, promoted, is_near, is_far, popped, removed, freed, left,
-        ],
-        list.len(),
-    ))
+    [
+        popped,
+        removed,
+        freed,
+        is_text(list.iter().next_back(), "a"),
+    ]
+}
+
+// What is told of three texts, the first of which is written to and put first.
+type Told = (
+    [Index; 3],
+    [bool; 2],
+    [Option<Index>; 4],
+    [bool; 2],
+    [bool; 4],
+    usize,
+);
+
+fn told_of(alloc: Global, list: &mut Words) -> Result<Told, Fail> {
+    let places = texts_pushed(alloc, list)?;
+    let writes = written(list)?;
+    let around = ends(list);
+    let near = [is_first(alloc, list, "bd")?, is_first(alloc, list, "a")?];
+    Ok((places, writes, around, near, leave(list), list.len()))
+}
+
+fn told(alloc: Global) -> Result<Told, Fail> {
+    let mut list = LinkedList::with_capacity(alloc, 1)?;
+    told_of(alloc, &mut list)
 }
 
 #[test]
@@ -339,16 +407,11 @@ fn holds_texts(rt: HostRuntime) -> Result<(), Fail> {
     assert_eq!(rt;
         told(rt.alloc())?,
         (
-            [
-                Some(2),
-                Some(3),
-                Some(4),
-                Some(2),
-                Some(4),
-                Some(2),
-                Some(4)
-            ],
-            [true; 8],
+            [2, 3, 4],
+            [true; 2],
+            [Some(2), Some(4), Some(2), Some(4)],
+            [true, false],
+            [true; 4],
             1
         )
     );

@@ -1,6 +1,7 @@
 // Worked rows of one shard, each a list of calls.
 use crate::steps::{Call, Step, fault};
 use lru_shard::unit::{Cause, LruUnit};
+use std::alloc::{AllocError, Global};
 use std::test::Fail;
 
 #[rattlefmt::skip]
@@ -84,25 +85,27 @@ static ANSWERS_EACH_CHANGE: [Step; 19] = [
     (Call::Evict, "None", "0:"),
 ];
 
-// Each table on an empty shard with its cap.
+// The fault of a table on an empty shard with a cap.
+fn fault_of(alloc: Global, cap: usize, steps: &[Step]) -> Result<Option<usize>, AllocError> {
+    let mut unit = LruUnit::with_capacity(alloc, 0, cap)?;
+    fault(alloc, &mut unit, steps)
+}
+
+fn faults(alloc: Global) -> Result<[Option<usize>; 7], AllocError> {
+    Ok([
+        fault_of(alloc, 10, &REFUSES_PAST_ITS_CAP)?,
+        fault_of(alloc, 10, &REFUSES_UPDATES)?,
+        fault_of(alloc, 1, &REFUSES_A_ROW_TOO_MANY)?,
+        fault_of(alloc, 10, &INCREMENTS_WEIGHTS)?,
+        fault_of(alloc, 10, &INCREMENTS_UP_TO_A_BOUND)?,
+        fault_of(alloc, 10, &COUNTS_A_ROW_OF_WEIGHT_0_ONCE)?,
+        fault_of(alloc, 100, &ANSWERS_EACH_CHANGE)?,
+    ])
+}
+
 #[test]
 fn answers_and_leaves_what_it_should(rt: HostRuntime) -> Result<(), Fail> {
-    for (cap, steps) in [
-        (10, REFUSES_PAST_ITS_CAP.as_slice()),
-        (10, REFUSES_UPDATES.as_slice()),
-        (1, REFUSES_A_ROW_TOO_MANY.as_slice()),
-        (10, INCREMENTS_WEIGHTS.as_slice()),
-        (10, INCREMENTS_UP_TO_A_BOUND.as_slice()),
-        (10, COUNTS_A_ROW_OF_WEIGHT_0_ONCE.as_slice()),
-        (100, ANSWERS_EACH_CHANGE.as_slice()),
-    ] {
-        let mut unit = LruUnit::with_capacity(rt.alloc(), 0, cap)?;
-        assert_eq!(rt;
-            fault(rt.alloc(), &mut unit, steps)?,
-            None,
-            "under a cap of {cap}"
-        );
-    }
+    assert_eq!(rt; faults(rt.alloc())?, [None; 7]);
     Ok(())
 }
 

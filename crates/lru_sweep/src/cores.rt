@@ -4,7 +4,7 @@ use lru_cores::lru_core::LruCore;
 use lru_shard::unit::{Cause, Refused};
 use rand::rngs::StdRng;
 use rand_core::{Rng, SeedableRng};
-use std::alloc::Global;
+use std::alloc::{AllocError, Global};
 use std::io;
 use std::io::Write;
 
@@ -80,58 +80,83 @@ fn write_shown<W: Write, const N: usize>(core: &LruCore<u64, N>, writer: &mut W)
     writeln!(writer, "{counters:?} {rows:?}")
 }
 
-// Five rows of weight 2 under a limit of 10, which falls to 4.
-fn one_shard<W: Write>(alloc: Global, writer: &mut W) -> io::Result<()> {
+// A core of one shard with a limit on its weight.
+fn limited(alloc: Global, limit: usize) -> Result<LruCore<u64, 1>, AllocError> {
+    made(alloc, |alloc| LruCore::with_capacity(alloc, limit, 0))
+}
+
+// Five rows of weight 2, and a limit that falls to 4.
+fn fall<W: Write>(core: &mut LruCore<u64, 1>, alloc: Global, writer: &mut W) -> io::Result<()> {
     let mut rng = StdRng::seed_from_u64(7);
-    let mut core = made(
-        alloc,
-        |alloc| LruCore::<u64, 1>::with_capacity(alloc, 10, 0),
-    )?;
     for key in 0..5u64 {
-        let answer = admit(&mut core, key, 2);
+        let answer = admit(core, key, 2);
         writeln!(writer, "admit {key} {answer:?}")?;
     }
     core.set_weight_limit(4);
-    evict(&mut core, alloc, &mut rng, writer)?;
-    write_shown(&core, writer)
+    evict(core, alloc, &mut rng, writer)?;
+    write_shown(core, writer)
 }
 
-// Six rows above a watermark of 2.
-fn two_shards<W: Write>(alloc: Global, writer: &mut W) -> io::Result<()> {
+// (A function that makes a core has one way out behind that: each drops the core, and its proof grows with them.)
+fn one_shard<W: Write>(alloc: Global, writer: &mut W) -> io::Result<()> {
+    fall(&mut limited(alloc, 10)?, alloc, writer)
+}
+
+// How many rows leave. Where memory cuts it short, the rest leave at the second try.
+fn evicted_len(core: &mut LruCore<u64, 2>, alloc: Global) -> usize {
     let mut rng = StdRng::seed_from_u64(1);
-    let mut core = made(
-        alloc,
-        |alloc| LruCore::<u64, 2>::with_capacity_and_watermark(alloc, 100, 0, Some(2)),
-    )?;
-    for key in 0..6u64 {
-        let answer = admit(&mut core, key, 1);
-        writeln!(writer, "admit {key} {answer:?}")?;
-    }
-    // Which rows leave hangs on the draws: how many leave does not.
-    let evicted = match core.evict_to_limit(alloc, &mut rng) {
+    match core.evict_to_limit(alloc, &mut rng) {
         Ok(pairs) => pairs.len(),
         Err(stopped) => match core.evict_to_limit(alloc, &mut rng) {
             Ok(pairs) => stopped.evicted.len().saturating_add(pairs.len()),
             Err(_) => 0,
         },
-    };
+    }
+}
+
+// Six rows above a watermark of 2.
+fn rise<W: Write>(core: &mut LruCore<u64, 2>, alloc: Global, writer: &mut W) -> io::Result<()> {
+    for key in 0..6u64 {
+        let answer = admit(core, key, 1);
+        writeln!(writer, "admit {key} {answer:?}")?;
+    }
+    // Which rows leave hangs on the draws: how many leave does not.
+    let evicted = evicted_len(core, alloc);
     let len = core.len();
     writeln!(writer, "{evicted} rows left, and {len} are left")
 }
 
-// The limits 3 and 5, and the keys 1, 2, 3, 1, 4 of weight 2.
-fn two_limits<W: Write>(alloc: Global, writer: &mut W) -> io::Result<()> {
+fn two_shards<W: Write>(alloc: Global, writer: &mut W) -> io::Result<()> {
+    let mut core = made(
+        alloc,
+        |alloc| LruCore::with_capacity_and_watermark(alloc, 100, 0, Some(2)),
+    )?;
+    rise(&mut core, alloc, writer)
+}
+
+// The keys 1, 2, 3, 1, 4 of weight 2.
+fn side_by_side<W: Write>(
+    small: &mut LruCore<u64, 1>,
+    large: &mut LruCore<u64, 1>,
+    alloc: Global,
+    writer: &mut W,
+) -> io::Result<()> {
     let mut rng = StdRng::seed_from_u64(7);
-    let mut small = made(alloc, |alloc| LruCore::<u64, 1>::with_capacity(alloc, 3, 0))?;
-    let mut large = made(alloc, |alloc| LruCore::<u64, 1>::with_capacity(alloc, 5, 0))?;
     for key in [1, 2, 3, 1, 4u64] {
-        let answers = (admit(&mut small, key, 2), admit(&mut large, key, 2));
+        let answers = (admit(small, key, 2), admit(large, key, 2));
         writeln!(writer, "admit {key} {answers:?}")?;
-        evict(&mut small, alloc, &mut rng, writer)?;
-        evict(&mut large, alloc, &mut rng, writer)?;
+        evict(small, alloc, &mut rng, writer)?;
+        evict(large, alloc, &mut rng, writer)?;
     }
-    write_shown(&small, writer)?;
-    write_shown(&large, writer)
+    write_shown(small, writer)?;
+    write_shown(large, writer)
+}
+
+// The limits 3 and 5.
+fn two_limits<W: Write>(alloc: Global, writer: &mut W) -> io::Result<()> {
+    let mut small = limited(alloc, 3)?;
+    let mut large = limited(alloc, 5)?;
+    side_by_side(&mut small, &mut large, alloc, writer)
 }
 
 pub fn script<W: Write>(alloc: Global, writer: &mut W) -> io::Result<()> {

@@ -1,7 +1,7 @@
 // Calls of one shard under a cap of 10, refusals among them.
 use crate::made;
 use lru_shard::unit::{Cause, LruUnit, Refused};
-use std::alloc::Global;
+use std::alloc::{AllocError, Global};
 use std::io;
 use std::io::Write;
 
@@ -155,15 +155,14 @@ fn changes<W: Write>(unit: &mut LruUnit<u64>, writer: &mut W) -> io::Result<()> 
 }
 
 // A shard with no room for a row more refuses before any data are made.
-fn full<W: Write>(alloc: Global, writer: &mut W) -> io::Result<()> {
-    let mut unit = made(alloc, |alloc| LruUnit::with_capacity(alloc, 0, 1))?;
+fn refusals<W: Write>(unit: &mut LruUnit<u64>, writer: &mut W) -> io::Result<()> {
     for key in [1, 2, 1u64] {
-        let answer = insert_tail(&mut unit, key, 0);
+        let answer = insert_tail(unit, key, 0);
         writeln!(writer, "tail {key} {answer:?}")?;
     }
-    let answer = increment(&mut unit, 2, 1, None);
+    let answer = increment(unit, 2, 1, None);
     writeln!(writer, "increment 2 {answer:?}")?;
-    let answer = update(&mut unit, 2, 2, 1);
+    let answer = update(unit, 2, 2, 1);
     writeln!(writer, "update 2 {answer:?}")
 }
 
@@ -178,16 +177,43 @@ fn reserved<W: Write>(unit: &mut LruUnit<u64>, writer: &mut W) -> io::Result<()>
     writeln!(writer, "of a hundred rows with room {refused} refused")
 }
 
-pub fn script<W: Write>(alloc: Global, writer: &mut W) -> io::Result<()> {
-    let mut unit = made(alloc, |alloc| LruUnit::with_capacity(alloc, 0, 10))?;
-    admissions(&mut unit, writer)?;
-    changes(&mut unit, writer)?;
-    full(alloc, writer)?;
-    let mut roomy = made(alloc, |alloc| LruUnit::with_capacity(alloc, 100, 1000))?;
-    reserved(&mut roomy, writer)?;
-    let mut late = made(alloc, |alloc| LruUnit::with_capacity(alloc, 0, 1000))?;
-    if late.reserve(100).is_err() {
-        late.reserve(100)?;
+fn room_made<W: Write>(unit: &mut LruUnit<u64>, writer: &mut W) -> io::Result<()> {
+    if unit.reserve(100).is_err() {
+        unit.reserve(100)?;
     }
-    reserved(&mut late, writer)
+    reserved(unit, writer)
+}
+
+fn calls<W: Write>(unit: &mut LruUnit<u64>, writer: &mut W) -> io::Result<()> {
+    admissions(unit, writer)?;
+    changes(unit, writer)
+}
+
+// An empty shard with a cap. (A function that makes one has one way out behind that: each drops the shard, and its
+// proof grows with them.)
+fn unit(alloc: Global, capacity: usize, cap: usize) -> Result<LruUnit<u64>, AllocError> {
+    made(alloc, |alloc| LruUnit::with_capacity(alloc, capacity, cap))
+}
+
+fn under_a_cap<W: Write>(alloc: Global, writer: &mut W) -> io::Result<()> {
+    calls(&mut unit(alloc, 0, 10)?, writer)
+}
+
+fn full<W: Write>(alloc: Global, writer: &mut W) -> io::Result<()> {
+    refusals(&mut unit(alloc, 0, 1)?, writer)
+}
+
+fn roomy<W: Write>(alloc: Global, writer: &mut W) -> io::Result<()> {
+    reserved(&mut unit(alloc, 100, 1000)?, writer)
+}
+
+fn late<W: Write>(alloc: Global, writer: &mut W) -> io::Result<()> {
+    room_made(&mut unit(alloc, 0, 1000)?, writer)
+}
+
+pub fn script<W: Write>(alloc: Global, writer: &mut W) -> io::Result<()> {
+    under_a_cap(alloc, writer)?;
+    full(alloc, writer)?;
+    roomy(alloc, writer)?;
+    late(alloc, writer)
 }
