@@ -41,6 +41,9 @@ returns-in-Err-write_pieces-clause-any_moment g c k =
     one apart-1 empty opened (c.write_pieces.ensures.time k-1 [] at_start) (c.write_pieces.ensures.loss k-1 [] at_start) in
     two
 
+pub returns-in-Err-write_pieces-clause-named : goal.returns-in-Err-write_pieces-clause-named
+returns-in-Err-write_pieces-clause-named g c k = c.in-Err-write_pieces.ensures.last (c.create.ensures.kept.0 k)
+
 pub returns-in-Err-flush-clause-any_moment : goal.returns-in-Err-flush-clause-any_moment
 returns-in-Err-flush-clause-any_moment g c k =
     let F = g.F.Folder in
