@@ -7,4 +7,5 @@ pub mod Folder
 pub mod Meaning
 pub mod TextsFault
 pub mod Texts
+pub mod TextsInside
 pub mod Blames

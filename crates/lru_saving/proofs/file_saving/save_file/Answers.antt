@@ -41,6 +41,9 @@ returns-in-Err-write_pieces-clause-any_moment g c k =
     one apart-1 empty opened (c.write_pieces.ensures.time k-1 [] at_start) (c.write_pieces.ensures.loss k-1 [] at_start) in
     two
 
+pub returns-in-Err-write_pieces-clause-named : goal.returns-in-Err-write_pieces-clause-named
+returns-in-Err-write_pieces-clause-named g c k = c.in-Err-write_pieces.ensures.last (c.create.ensures.kept.0 k)
+
 pub returns-in-Err-flush-clause-any_moment : goal.returns-in-Err-flush-clause-any_moment
 returns-in-Err-flush-clause-any_moment g c k =
     let F = g.F.Folder in
@@ -62,6 +65,22 @@ returns-in-Err-flush-clause-any_moment g c k =
     let k-2 = c.write_pieces.ensures.kept.0 k-1 in
     let three = so_looked m temp path bytes c.requires start law c.write_pieces.new.folder c.flush.new.self two (c.flush.ensures.time k-2) (c.flush.ensures.loss k-2) in
     three
+
+pub returns-in-Err-flush-clause-reason : goal.returns-in-Err-flush-clause-reason
+returns-in-Err-flush-clause-reason g c k =
+    let F = g.F.Folder in
+    let start = c.args.folder.now in
+    let k-1 = c.create.ensures.kept.0 k in
+    let k-2 = c.write_pieces.ensures.kept.0 k-1 in
+    let one = no_fault (F.faults start) (F.faults c.create.new.self) _ (c.in_default.ensures.cause k) (λ e. let f : ⊥ = cc in f) in
+    let two = no_fault (F.faults c.create.new.self) (F.faults c.write_pieces.new.folder) _ (c.in_default-write_pieces.ensures.cause k-1) (λ e. let f : ⊥ = cc in f) in
+    let cause = c.in-Err-flush.ensures.cause k-2 in
+    record {
+      later = omega (arith, one, two, cause.later);
+      failed = λ io. let rose = cause.failed (ap Err io) in omega (arith, one, two, rose);
+      told = λ rose. let io = cause.told (omega (arith, one, two, rose)) in cc;
+      missing = λ missing. absurd (c.in-Err-flush.ensures.found k-2 (ap Err missing));
+    }
 
 pub returns-in-Err-sync-clause-any_moment : goal.returns-in-Err-sync-clause-any_moment
 returns-in-Err-sync-clause-any_moment g c k =
