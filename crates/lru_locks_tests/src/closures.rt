@@ -20,6 +20,26 @@ static UPDATES: [(u64, usize, bool, Option<usize>, &str); 3] = [
     (4, 0, true, Some(4), "7: [(41, 1), (60, 1), (21, 5)]"),
 ];
 
+// Whether an update or an admission answers and leaves that.
+fn is_right<R: Wait>(
+    rt: &R,
+    alloc: Global,
+    lru: &Lru<u64, 1>,
+    (key, more, is_zero, was, left): (u64, usize, bool, Option<usize>, &str),
+) -> Result<bool, AllocError> {
+    let update = |value: &mut u64, weight: usize| {
+        *value = value.wrapping_add(1);
+        if is_zero {
+            0
+        } else {
+            weight.wrapping_add(more)
+        }
+    };
+    let answer = lru.update_or_admit(rt, key, update, || (60, 0));
+    let is_answered = answer.map_err(parts) == Ok(was);
+    Ok(is_answered & (shown(rt, alloc, lru)?.as_str() == left))
+}
+
 // The first key, if there is one, whose update or admission answers or leaves something else.
 fn wrong_update<R: Wait>(rt: &R, alloc: Global) -> Result<Option<u64>, AllocError> {
     let lru = Lru::<u64, 1>::with_capacity(alloc, 100, 10)?;
@@ -28,18 +48,9 @@ fn wrong_update<R: Wait>(rt: &R, alloc: Global) -> Result<Option<u64>, AllocErro
             return Ok(Some(key));
         }
     }
-    for &(key, more, is_zero, was, left) in &UPDATES {
-        let update = |value: &mut u64, weight: usize| {
-            *value = value.wrapping_add(1);
-            if is_zero {
-                0
-            } else {
-                weight.wrapping_add(more)
-            }
-        };
-        let answer = lru.update_or_admit(rt, key, update, || (60, 0));
-        if answer.map_err(parts) != Ok(was) || shown(rt, alloc, &lru)?.as_str() != left {
-            return Ok(Some(key));
+    for update in &UPDATES {
+        if !is_right(rt, alloc, &lru, *update)? {
+            return Ok(Some(update.0));
         }
     }
     Ok(None)
@@ -96,22 +107,22 @@ fn wrong_refusal<R: Wait>(rt: &R, lru: &Lru<u64, 2>, made: &mut u32) -> Option<u
 
 // No data are made where they are not needed: not for a row that is there, also where it is refused, and not before
 // a refusal for weight. An update that is refused hands back what was made.
-fn calls_what_it_needs<R: Wait>(rt: &R, alloc: Global) -> Result<bool, AllocError> {
-    let lru = Lru::<u64, 2>::with_capacity(alloc, 100, 4)?;
+fn calls_what_it_needs<R: Wait>(rt: &R, lru: &Lru<u64, 2>) -> bool {
     let are_put = matches!(lru.admit(rt, 0, 10, HALF), Ok(0))
         & matches!(lru.insert_tail(rt, 4, 30, 0), Ok(true));
     let mut made = 0u32;
     let wrong = (
-        wrong_increment(rt, &lru, &mut made),
-        wrong_refusal(rt, &lru, &mut made),
+        wrong_increment(rt, lru, &mut made),
+        wrong_refusal(rt, lru, &mut made),
     );
     let are_first = lru.promote_top_n(rt, 0, 0) & lru.promote_top_n(rt, 0, 1);
     let held = (lru.promote(rt, 0), lru.promote(rt, 2));
-    Ok(are_put & are_first & ((wrong, made, held) == ((None, None), 1, (true, false))))
+    are_put & are_first & ((wrong, made, held) == ((None, None), 1, (true, false)))
 }
 
 #[test]
 fn calls_the_closures_that_it_needs(rt: HostRuntime) -> Result<(), Fail> {
-    assert!(rt; calls_what_it_needs(&rt, rt.alloc())?);
+    let lru = Lru::<u64, 2>::with_capacity(rt.alloc(), 100, 4)?;
+    assert!(rt; calls_what_it_needs(&rt, &lru));
     Ok(())
 }

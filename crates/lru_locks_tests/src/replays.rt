@@ -1,7 +1,7 @@
 // Drawn calls on an `Lru` and on a core answer the same, and leave the same, by one thread and by two.
 ghost use Rattle.lru_runs.specs.Calls.{IsAllowed};
 
-use crate::shown::{core_state_of, state_of, text_of};
+use crate::shown::{tell_core_state, tell_state, text_of};
 use crate::steps::answer_of;
 use lru_cores::lru_core::LruCore;
 use lru_locks::lru::Lru;
@@ -125,42 +125,75 @@ fn answers_of<R: Wait, const N: usize>(
 }
 
 // The answers of the same calls on a core.
-fn core_answers_of<const N: usize>(
+fn tell_core_answers<const N: usize>(
     alloc: Global,
     core: &mut LruCore<u64, N>,
     seed: u64,
     of: Of,
-) -> Result<String, AllocError> {
+    text: &mut String,
+) -> Result<(), AllocError> {
     let mut rng = StdRng::seed_from_u64(seed);
     let mut draws = StdRng::seed_from_u64(seed);
-    let mut text = String::new(alloc);
     for _ in 0..500u32 {
         let call = drawn_call::<N>(&mut rng, of);
         let reply = calls::answer(core, alloc, &mut draws, call);
         text.push_str(text_of(alloc, reply)?.as_str())?;
     }
+    Ok(())
+}
+
+// The generators of calls and of shards.
+#[derive(Drop)]
+struct Generators {
+    calls: StdRng,
+    draws: StdRng,
+}
+
+impl Generators {
+    fn of_seed(seed: u64) -> Self {
+        Generators {
+            calls: StdRng::seed_from_u64(seed),
+            draws: StdRng::seed_from_u64(seed),
+        }
+    }
+}
+
+// One call on an `Lru`: what it answers, and the whole state after it.
+fn turn<R: Wait>(
+    rt: &R,
+    alloc: Global,
+    lru: &Lru<u64, 3>,
+    generators: &mut Generators,
+) -> Result<String, AllocError> {
+    let call = drawn_call::<3>(&mut generators.calls, Of::All);
+    let reply = answer_of(rt, alloc, &mut generators.draws, lru, call);
+    let mut text = text_of(alloc, reply)?;
+    tell_state(rt, alloc, lru, &mut text)?;
     Ok(text)
 }
 
-// One call at a time, and the whole state after each: the first turn, if there is one, after which they are not alike.
+fn core_turn(
+    alloc: Global,
+    core: &mut LruCore<u64, 3>,
+    generators: &mut Generators,
+) -> Result<String, AllocError> {
+    let call = drawn_call::<3>(&mut generators.calls, Of::All);
+    let reply = calls::answer(core, alloc, &mut generators.draws, call);
+    let mut text = text_of(alloc, reply)?;
+    tell_core_state(alloc, core, &mut text)?;
+    Ok(text)
+}
+
+// One call at a time: the first turn, if there is one, after which they are not alike.
 fn other_turn<R: Wait>(rt: &R, alloc: Global, seed: u64) -> Result<Option<u32>, AllocError> {
-    let mut rng = StdRng::seed_from_u64(seed);
-    let mut again = StdRng::seed_from_u64(seed);
-    let mut draws = StdRng::seed_from_u64(seed);
-    let mut core_draws = StdRng::seed_from_u64(seed);
+    let mut generators = Generators::of_seed(seed);
+    let mut core_generators = Generators::of_seed(seed);
     let lru = Lru::<u64, 3>::with_capacity_and_watermark(alloc, 20, 2, Some(5))?;
     let mut core = LruCore::<u64, 3>::with_capacity_and_watermark(alloc, 20, 2, Some(5))?;
-    for turn in 0..500u32 {
-        let call = drawn_call::<3>(&mut rng, Of::All);
-        let same = drawn_call::<3>(&mut again, Of::All);
-        let answer = text_of(alloc, answer_of(rt, alloc, &mut draws, &lru, call))?;
-        let core_answer = text_of(
-            alloc,
-            calls::answer(&mut core, alloc, &mut core_draws, same),
-        )?;
-        let (state, core_state) = (state_of(rt, alloc, &lru)?, core_state_of(alloc, &core)?);
-        if (answer, state) != (core_answer, core_state) {
-            return Ok(Some(turn));
+    for turn_number in 0..500u32 {
+        let text = turn(rt, alloc, &lru, &mut generators)?;
+        if text != core_turn(alloc, &mut core, &mut core_generators)? {
+            return Ok(Some(turn_number));
         }
     }
     Ok(None)
@@ -196,20 +229,49 @@ fn answers_of_both<R: Threads + Wait + Sync>(
     )
 }
 
-// Whether two threads and a core, which does the calls of the one and then those of the other, are alike.
+// The texts of both threads, each on a line.
+fn lines_of(
+    even: Result<String, AllocError>,
+    odd: Result<String, AllocError>,
+) -> Result<String, AllocError> {
+    let mut text = even?;
+    let odd = odd?;
+    write!(text, "\n{odd}\n")?;
+    Ok(text)
+}
+
+// What two threads answer, and leave.
+fn text_of_both<R: Threads + Wait + Sync>(
+    rt: &R,
+    alloc: Global,
+    seed: u64,
+) -> Result<String, AllocError> {
+    let lru = Lru::<u64, 2>::with_capacity_and_watermark(alloc, 20, 2, Some(5))?;
+    let (even, odd) = answers_of_both(rt, alloc, &lru, seed);
+    let mut text = lines_of(even, odd)?;
+    tell_state(rt, alloc, &lru, &mut text)?;
+    Ok(text)
+}
+
+// What a core answers and leaves, which does the calls of the one and then those of the other.
+fn text_of_core(alloc: Global, seed: u64) -> Result<String, AllocError> {
+    let mut core = LruCore::<u64, 2>::with_capacity_and_watermark(alloc, 20, 2, Some(5))?;
+    let mut text = String::new(alloc);
+    for shard in [0u64, 1] {
+        tell_core_answers(alloc, &mut core, seed, Of::Shard(shard), &mut text)?;
+        text.push_str("\n")?;
+    }
+    tell_core_state(alloc, &core, &mut text)?;
+    Ok(text)
+}
+
+// Whether they are alike.
 fn are_alike<R: Threads + Wait + Sync>(
     rt: &R,
     alloc: Global,
     seed: u64,
 ) -> Result<bool, AllocError> {
-    let lru = Lru::<u64, 2>::with_capacity_and_watermark(alloc, 20, 2, Some(5))?;
-    let mut core = LruCore::<u64, 2>::with_capacity_and_watermark(alloc, 20, 2, Some(5))?;
-    let (even, odd) = answers_of_both(rt, alloc, &lru, seed);
-    let (even, odd) = (even?, odd?);
-    let core_even = core_answers_of(alloc, &mut core, seed, Of::Shard(0))?;
-    let core_odd = core_answers_of(alloc, &mut core, seed, Of::Shard(1))?;
-    let (state, core_state) = (state_of(rt, alloc, &lru)?, core_state_of(alloc, &core)?);
-    Ok((even, odd, state) == (core_even, core_odd, core_state))
+    Ok(text_of_both(rt, alloc, seed)? == text_of_core(alloc, seed)?)
 }
 
 // The first seed, if there is one, at which they are not.

@@ -1,7 +1,7 @@
 // The worked rows of a core, done by an `Lru` with one caller.
 ghost use Rattle.std.specs.Prelude.{◌<◌};
 
-use crate::steps::faults;
+use crate::steps::tell_faults;
 use lru_locks::lru::Lru;
 use lru_test_rows::asked::Step;
 use lru_test_rows::tables::{
@@ -21,27 +21,31 @@ fn generator() -> StdRng {
     StdRng::seed_from_u64(7)
 }
 
-// The faults of a table on an empty `Lru`; with one shard the generator has to be left as it was.
-fn faults_of<R: Wait, const N: usize>(
+// Tells the faults of a table on an empty `Lru`; with one shard the generator has to be left as it was.
+fn tell_table<R: Wait, const N: usize>(
     rt: &R,
     alloc: Global,
     limit: usize,
     steps: &[Step],
-) -> Result<String, AllocError>
+    faults: &mut String,
+) -> Result<(), AllocError>
     requires { 0 < N }
 {
     let mut rng = generator();
     let lru = Lru::<u64, N>::with_capacity(alloc, limit, 0)?;
-    let mut faults = faults(rt, alloc, &lru, &mut rng, steps)?;
+    tell_faults(rt, alloc, &lru, &mut rng, steps, faults)?;
     if N == 1 && rng.next_u64() != generator().next_u64() {
         faults.push_str("a word was drawn\n")?;
     }
-    Ok(faults)
+    Ok(())
 }
 
-// The faults of all tables.
-fn all_faults<R: Wait>(rt: &R, alloc: Global) -> Result<String, AllocError> {
-    let mut faults = String::new(alloc);
+// Tells those of the tables of one shard.
+fn tell_tables_of_one<R: Wait>(
+    rt: &R,
+    alloc: Global,
+    faults: &mut String,
+) -> Result<(), AllocError> {
     for (limit, steps) in [
         (100, SETS_WEIGHTS.as_slice()),
         (100, WEIGHS_NEW_ROWS.as_slice()),
@@ -50,17 +54,33 @@ fn all_faults<R: Wait>(rt: &R, alloc: Global) -> Result<String, AllocError> {
         (10, EVICTS_THE_OLDEST.as_slice()),
         (0, COUNTS_UP_TO_THE_WIDTH.as_slice()),
     ] {
-        faults.push_str(faults_of::<R, 1>(rt, alloc, limit, steps)?.as_str())?;
+        tell_table::<R, 1>(rt, alloc, limit, steps, faults)?;
     }
+    Ok(())
+}
+
+// Tells those of the tables of two shards and of three.
+fn tell_other_tables<R: Wait>(
+    rt: &R,
+    alloc: Global,
+    faults: &mut String,
+) -> Result<(), AllocError> {
     for (limit, steps) in [
         (100, PROMOTES.as_slice()),
         (100, WEIGHS_A_HALF.as_slice()),
         (10, ANSWERS_EACH_CALL.as_slice()),
         (10, ANSWERS_WHERE_NOTHING_IS.as_slice()),
     ] {
-        faults.push_str(faults_of::<R, 2>(rt, alloc, limit, steps)?.as_str())?;
+        tell_table::<R, 2>(rt, alloc, limit, steps, faults)?;
     }
-    faults.push_str(faults_of::<R, 3>(rt, alloc, MOST, &WEIGHS_A_THIRD)?.as_str())?;
+    tell_table::<R, 3>(rt, alloc, MOST, &WEIGHS_A_THIRD, faults)
+}
+
+// The faults of all tables.
+fn all_faults<R: Wait>(rt: &R, alloc: Global) -> Result<String, AllocError> {
+    let mut faults = String::new(alloc);
+    tell_tables_of_one(rt, alloc, &mut faults)?;
+    tell_other_tables(rt, alloc, &mut faults)?;
     Ok(faults)
 }
 

@@ -42,12 +42,13 @@ pub fn text_of<A: Debug + Drop>(alloc: Global, answer: A) -> Result<String, Allo
     format!(in alloc; "{answer:?}")
 }
 
-// The rows of each shard with its length and its weight, and then all counters.
-pub fn state_of<R: Wait, const N: usize>(
+// The counters, and then the rows of each shard with its length and its weight.
+pub fn tell_state<R: Wait, const N: usize>(
     rt: &R,
     alloc: Global,
     lru: &Lru<u64, N>,
-) -> Result<String, AllocError> {
+    text: &mut String,
+) -> Result<(), AllocError> {
     let counters = [
         lru.weight(),
         lru.len(),
@@ -55,19 +56,20 @@ pub fn state_of<R: Wait, const N: usize>(
         lru.evicted_weight(),
         lru.evicted_len(),
     ];
-    let mut text = text_of(alloc, counters)?;
+    write!(text, "{counters:?}")?;
     for shard in 0..lru.shards() {
-        text.push_str(text_of(alloc, rows_of(rt, alloc, lru, shard)?)?.as_str())?;
         let sizes = (lru.shard_len(shard), lru.shard_weight(rt, shard));
-        text.push_str(text_of(alloc, sizes)?.as_str())?;
+        let rows = rows_of(rt, alloc, lru, shard)?;
+        write!(text, "{rows:?}{sizes:?}")?;
     }
-    Ok(text)
+    Ok(())
 }
 
-pub fn core_state_of<const N: usize>(
+pub fn tell_core_state<const N: usize>(
     alloc: Global,
     core: &LruCore<u64, N>,
-) -> Result<String, AllocError> {
+    text: &mut String,
+) -> Result<(), AllocError> {
     let counters = [
         core.weight(),
         core.len(),
@@ -75,11 +77,11 @@ pub fn core_state_of<const N: usize>(
         core.evicted_weight(),
         core.evicted_len(),
     ];
-    let mut text = text_of(alloc, counters)?;
+    write!(text, "{counters:?}")?;
     for shard in 0..core.shards() {
-        text.push_str(text_of(alloc, core_rows_of(alloc, core, shard)?)?.as_str())?;
         let sizes = (core.shard_len(shard), core.shard_weight(shard));
-        text.push_str(text_of(alloc, sizes)?.as_str())?;
+        let rows = core_rows_of(alloc, core, shard)?;
+        write!(text, "{rows:?}{sizes:?}")?;
     }
-    Ok(text)
+    Ok(())
 }

@@ -75,36 +75,61 @@ pub fn answer_of<R: Wait, const N: usize>(
     }
 }
 
-// The weight of an `Lru`, and the rows of each shard.
+// The rows of each shard of an `Lru`, behind its weight.
+pub fn show<R: Wait, const N: usize>(
+    rt: &R,
+    alloc: Global,
+    lru: &Lru<u64, N>,
+    text: &mut String,
+) -> Result<(), AllocError> {
+    let weight = lru.weight();
+    write!(text, "{weight}:")?;
+    for shard in 0..lru.shards() {
+        let rows = rows_of(rt, alloc, lru, shard)?;
+        write!(text, " {rows:?}")?;
+    }
+    Ok(())
+}
+
+// The same as a text of its own.
 pub fn shown<R: Wait, const N: usize>(
     rt: &R,
     alloc: Global,
     lru: &Lru<u64, N>,
 ) -> Result<String, AllocError> {
-    let weight = lru.weight();
-    let mut text = format!(in alloc; "{weight}:")?;
-    for shard in 0..lru.shards() {
-        let rows = rows_of(rt, alloc, lru, shard)?;
-        write!(text, " {rows:?}")?;
-    }
+    let mut text = String::new(alloc);
+    show(rt, alloc, lru, &mut text)?;
     Ok(text)
 }
 
+// Does a call, and says where it answers or leaves something else.
+fn tell_fault<R: Wait, const N: usize>(
+    rt: &R,
+    alloc: Global,
+    lru: &Lru<u64, N>,
+    rng: &mut StdRng,
+    (asked, reply, left): Step,
+    faults: &mut String,
+) -> Result<(), AllocError> {
+    let answer = text_of(alloc, answer_of(rt, alloc, rng, lru, call_of(asked)))?;
+    let shown = shown(rt, alloc, lru)?;
+    if (answer.as_str(), shown.as_str()) != (reply, left) {
+        write!(faults, "{asked:?} answers {answer} and leaves {shown}\n")?;
+    }
+    Ok(())
+}
+
 // Does the calls in turn, and says which answer or leave something else; nothing, where all is well.
-pub fn faults<R: Wait, const N: usize>(
+pub fn tell_faults<R: Wait, const N: usize>(
     rt: &R,
     alloc: Global,
     lru: &Lru<u64, N>,
     rng: &mut StdRng,
     steps: &[Step],
-) -> Result<String, AllocError> {
-    let mut faults = String::new(alloc);
-    for (asked, reply, left) in steps {
-        let answer = text_of(alloc, answer_of(rt, alloc, rng, lru, call_of(*asked)))?;
-        let shown = shown(rt, alloc, lru)?;
-        if answer.as_str() != *reply || shown.as_str() != *left {
-            write!(faults, "{asked:?} answers {answer} and leaves {shown}\n")?;
-        }
+    faults: &mut String,
+) -> Result<(), AllocError> {
+    for step in steps {
+        tell_fault(rt, alloc, lru, rng, *step, faults)?;
     }
-    Ok(faults)
+    Ok(())
 }
