@@ -7,5 +7,4 @@ pub mod Folder
 pub mod Meaning
 pub mod TextsFault
 pub mod Texts
-pub mod TextsInside
 pub mod Blames

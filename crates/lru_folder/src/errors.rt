@@ -1,7 +1,4 @@
 // What can go wrong with a shard's file, with a shard, and with a save as a whole.
-ghost use Rattle.std.specs.Prelude.{◌≡◌};
-ghost use Rattle.lru_folder.specs.TextsInside.{file_error_words};
-
 use crate::fault::FolderFault;
 use std::error::Error;
 use std::fmt;
@@ -71,39 +68,37 @@ impl Display for ShardFileError {
 
     fn fmt<W: fmt::Write>(&self, f: &mut fmt::Formatter<W>) -> fmt::Result {
         match self {
+            ShardFileError::Create { path, source } => {
+                write!(f, "failed to create {path}: {source}")
+            }
+            ShardFileError::Write { path, source } => {
+                write!(f, "failed to write to {path}: {source}")
+            }
+            ShardFileError::Flush { path, source } => {
+                write!(f, "failed to flush temp file {path}: {source}")
+            }
+            ShardFileError::Sync { path, source } => {
+                write!(f, "failed to sync {path}: {source}")
+            }
+            ShardFileError::Open { path, source } => {
+                write!(f, "failed to open {path}: {source}")
+            }
+            ShardFileError::Read { path, source } => {
+                write!(f, "failed to read from {path}: {source}")
+            }
+            ShardFileError::ReadDir { path, source } => {
+                write!(f, "failed to read directory {path}: {source}")
+            }
+            ShardFileError::ReadDirEntry { path, source } => {
+                write!(f, "failed to read directory entry in {path}: {source}")
+            }
+            ShardFileError::Remove { path, source } => {
+                write!(f, "failed to remove temp file {path}: {source}")
+            }
             ShardFileError::Rename { from, to, source } => {
                 write!(f, "failed to rename file from {from} to {to}: {source}")
             }
-            ShardFileError::Create { path, source }
-            | ShardFileError::Write { path, source }
-            | ShardFileError::Flush { path, source }
-            | ShardFileError::Sync { path, source }
-            | ShardFileError::Open { path, source }
-            | ShardFileError::Read { path, source }
-            | ShardFileError::ReadDir { path, source }
-            | ShardFileError::ReadDirEntry { path, source }
-            | ShardFileError::Remove { path, source } => {
-                write!(f, "{}{path}: {source}", words_of(self))
-            }
         }
-    }
-}
-
-/// What an error says before its path.
-fn words_of(error: &ShardFileError) -> &'static str
-    ensures { result.now ≡ file_error_words error.now }
-{
-    match error {
-        ShardFileError::Create { .. } => "failed to create ",
-        ShardFileError::Write { .. } => "failed to write to ",
-        ShardFileError::Flush { .. } => "failed to flush temp file ",
-        ShardFileError::Sync { .. } => "failed to sync ",
-        ShardFileError::Open { .. } => "failed to open ",
-        ShardFileError::Read { .. } => "failed to read from ",
-        ShardFileError::ReadDir { .. } => "failed to read directory ",
-        ShardFileError::ReadDirEntry { .. } => "failed to read directory entry in ",
-        ShardFileError::Remove { .. } => "failed to remove temp file ",
-        ShardFileError::Rename { .. } => "failed to rename file from ",
     }
 }
 
