@@ -97,28 +97,18 @@ fn are_updates_right(core: &mut LruCore<u64, 1>, made: &mut u32) -> bool {
     right
 }
 
-// Whether the two kinds of calls are right, and how many data were made.
-fn right(core: &mut LruCore<u64, 1>) -> ([bool; 2], u32) {
-    let mut made = 0u32;
-    let are_right = [
-        are_increments_right(core, &mut made),
-        are_updates_right(core, &mut made),
-    ];
-    (are_right, made)
-}
-
-// The same, with the shard of a first row, and whether a second one is new.
-fn answers(alloc: Global) -> Result<(usize, bool, ([bool; 2], u32)), Fail> {
-    let mut core = LruCore::<u64, 1>::with_capacity(alloc, 100, 0)?;
-    let shard = core.admit(1, 10, MOST)?;
-    let is_added = core.insert_tail(3, 30, 0)?;
-    Ok((shard, is_added, right(&mut core)))
-}
-
 // No data are made where they are not needed: not for a row that is there, also where it is refused, and not before
 // a refusal for weight. An update that is refused hands back what was made.
 #[test]
 fn makes_no_data_that_it_need_not(rt: HostRuntime) -> Result<(), Fail> {
-    assert_eq!(rt; answers(rt.alloc())?, (0, true, ([true; 2], 1)));
+    let mut core = LruCore::<u64, 1>::with_capacity(rt.alloc(), 100, 0)?;
+    let shard = core.admit(1, 10, MOST)?;
+    let is_added = core.insert_tail(3, 30, 0)?;
+    let mut made = 0u32;
+    let are_right = [
+        are_increments_right(&mut core, &mut made),
+        are_updates_right(&mut core, &mut made),
+    ];
+    assert_eq!(rt; (shard, is_added, are_right, made), (0, true, [true; 2], 1));
     Ok(())
 }
