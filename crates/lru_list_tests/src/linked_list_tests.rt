@@ -95,7 +95,6 @@ static MAKES_ROOM_IN_AN_EMPTY_LIST: [Step; 2] = [
 fn is_live<K>(list: &LinkedList<K>, index: Index) -> bool
     ensures { IsTrue result → IsLive list.now index }
 {
-    // what `len` promises of a list is what makes its sentinels places to look at
     let _len = list.len();
     if list.peek(index).is_none() {
         return false;
@@ -105,7 +104,6 @@ fn is_live<K>(list: &LinkedList<K>, index: Index) -> bool
 
 // The places before and behind a slot.
 fn neighbours<K>(list: &LinkedList<K>, index: Index) -> Option<(Index, Index)> {
-    // what `len` promises of a list is what makes its sentinels places to look at
     let _len = list.len();
     if list.peek(index).is_none() {
         return None;
@@ -354,7 +352,6 @@ fn written(list: &mut Words) -> Result<[bool; 2], AllocError> {
 
 // The indices of the ends, and beside the sentinels.
 fn ends(list: &Words) -> [Option<Index>; 4] {
-    // what `len` promises of a list is what makes its sentinels places to look at
     let _len = list.len();
     [
         list.head(),
