@@ -1,13 +1,11 @@
 //! The shard of an actor by its worked rows, with its map and its queue.
-use lru_actors::effect::Effect;
 use lru_actors::key::hash_key;
 use lru_actors::message::LruMsg;
 use lru_actors::process::{choose_victim, process_batch, process_msg};
 use lru_actors::state::ShardState;
 use lru_dispatch::Putter;
-use lru_ledger::{LedgerState, Slip};
+use lru_ledger::LedgerState;
 use lru_mailbox::MailState;
-use std::alloc::{AllocError, Global};
 use std::collections::HashMap;
 use std::hash::{Hash, Hasher};
 use std::test::Fail;
@@ -65,71 +63,46 @@ fn refuses_what_is_too_heavy(rt: HostRuntime) -> Result<(), Fail> {
     Ok(())
 }
 
-/// Processes four messages as a batch: its effects, and whether it is empty then.
-fn processed(
-    alloc: Global,
-    state: &mut ShardState<u8>,
-    dispatch: &mut Putter<'_, u8>,
-) -> Result<(Vec<Effect<u8>>, bool), AllocError> {
-    let mut map = HashMap::new(alloc);
-    let mut batch = vec![in alloc;
-        admit(7, 1, 0),
-        LruMsg::InsertTail {
-            hash: 8,
-            key: 2,
-            weight: 0,
-        },
-        LruMsg::Promote { hash: 8 },
-        LruMsg::Evict,
-    ]?;
-    let mut effects = Vec::with_capacity(alloc, 4)?;
-    process_batch(state, &mut map, dispatch, &mut batch, &mut effects);
-    let is_empty = batch.is_empty();
-    Ok((effects, is_empty))
-}
-
-/// Whether these are the effects of those messages.
-fn are_effects(effects: &[Effect<u8>]) -> bool {
-    let [first, second, _, last] = effects else {
-        return false;
-    };
-    (first.put == Some((7, 1))) & (second.put == Some((8, 0))) & (last.cleared == Some(7))
-}
-
-/// Whether the one slip has the hash and the weight of the row that was evicted.
-fn is_slip(slips: &[Slip]) -> bool {
-    let [slip] = slips else {
-        return false;
-    };
-    (slip.hash == 7) & (slip.weight == 1)
-}
-
-/// Whether a batch into a box with slips has those effects, and the hash of the row that was evicted stands on the slip.
-fn is_served(alloc: Global) -> Result<bool, AllocError> {
-    let (mut ledger, mut puts, _takes) = LedgerState::new(alloc, 1, 0)?;
-    let Some(mut share) = puts.pop() else {
-        return Ok(false);
-    };
-    let mut state = ShardState::with_capacity(alloc, 0, 100)?;
+// A batch into a box with slips: the hash of the row that was evicted stands on the slip.
+#[test]
+fn serves_a_batch_in_order(rt: HostRuntime) -> Result<(), Fail> {
+    let mut state = ShardState::with_capacity(rt.alloc(), 0, 100)?;
+    let mut map = HashMap::new(rt.alloc());
+    let (mut ledger, mut puts, _takes) = LedgerState::new(rt.alloc(), 1, 0)?;
+    let mut share = puts.pop().ok_or("no share")?;
     let mut dispatch = Putter {
         ledger: &mut ledger,
         share: &mut share,
     };
-    let (effects, is_empty) = processed(alloc, &mut state, &mut dispatch)?;
-    Ok(is_empty & are_effects(&effects) & is_slip(share.slips()))
-}
-
-#[test]
-fn serves_a_batch_in_order(rt: HostRuntime) -> Result<(), Fail> {
-    assert!(rt; is_served(rt.alloc())?);
-    Ok(())
-}
-
-#[test]
-fn chooses_the_longer_shard(rt: HostRuntime) -> Result<(), Fail> {
-    assert_eq!(rt;
-        (choose_victim(3, 5, 2, 2), choose_victim(3, 5, 1, 2)),
-        (3, 5)
+    let mut batch = Vec::with_capacity(rt.alloc(), 4)?;
+    batch.push(admit(7, 1, 0))?;
+    batch.push(LruMsg::InsertTail {
+        hash: 8,
+        key: 2,
+        weight: 0,
+    })?;
+    batch.push(LruMsg::Promote { hash: 8 })?;
+    batch.push(LruMsg::Evict)?;
+    let mut effects = Vec::with_capacity(rt.alloc(), 4)?;
+    process_batch(
+        &mut state,
+        &mut map,
+        &mut dispatch,
+        &mut batch,
+        &mut effects,
+    );
+    let [first, second, _, last] = effects.as_slice() else {
+        return Err(Fail::from("not four effects"));
+    };
+    let [slip] = share.slips() else {
+        return Err(Fail::from("not one slip"));
+    };
+    assert!(rt;
+        batch.is_empty()
+            && (first.put, second.put) == (Some((7, 1)), Some((8, 0)))
+            && last.cleared == Some(7)
+            && (slip.hash, slip.weight) == (7, 1)
+            && (choose_victim(3, 5, 2, 2), choose_victim(3, 5, 1, 2)) == (3, 5)
     );
     Ok(())
 }

@@ -3,14 +3,9 @@
 //! what is written is the same in each run.
 #![tactic(auto)]
 
-mod actors;
-mod boxes;
 mod cores;
 mod lists;
-mod mails;
-mod recorded;
 mod shards;
-mod tiers;
 
 use std::alloc::{AllocError, Global};
 use std::process::ExitCode;
@@ -25,29 +20,12 @@ fn made<A, F: Fn(Global) -> Result<A, AllocError>>(alloc: Global, make: F) -> Re
     }
 }
 
-// The lists, shards, cores and tiers of one owner; whether each script came to its end.
-fn of_one_owner(rt: HostRuntime) -> bool {
+fn main(rt: HostRuntime) -> ExitCode {
     let alloc = rt.alloc();
     let lists = lists::script(alloc, &mut rt.stdout());
     let shards = shards::script(alloc, &mut rt.stdout());
     let cores = cores::script(alloc, &mut rt.stdout());
-    let tiers = tiers::script(alloc, &mut rt.stdout());
-    lists.is_ok() && shards.is_ok() && cores.is_ok() && tiers.is_ok()
-}
-
-// What actors are made of; whether each script came to its end.
-fn of_actors(rt: HostRuntime) -> bool {
-    let alloc = rt.alloc();
-    let actors = actors::script(alloc, &mut rt.stdout());
-    let boxes = boxes::script(alloc, &mut rt.stdout());
-    let mails = mails::script(alloc, &mut rt.stdout());
-    actors.is_ok() && boxes.is_ok() && mails.is_ok()
-}
-
-fn main(rt: HostRuntime) -> ExitCode {
-    let (one, actors) = (of_one_owner(rt), of_actors(rt));
-    let recorded = recorded::script(&rt, rt.alloc(), &mut rt.stdout());
-    if one && actors && recorded.is_ok() {
+    if lists.is_ok() && shards.is_ok() && cores.is_ok() {
         ExitCode::SUCCESS
     } else {
         let _ = println!(rt; "a script did not end");

@@ -24,10 +24,7 @@ fn made(alloc: Global) -> Result<(LedgerState<u8>, Vec<PutShare>, Vec<TakeShare>
 
 pub fn script<W: Write>(alloc: Global, out: &mut W) -> io::Result<()> {
     let (mut ledger, mut puts, mut takes) = made(alloc)?;
-    let Some(mut putter) = puts.pop() else {
-        return Ok(());
-    };
-    let Some(mut taker) = takes.pop() else {
+    let (Some(mut putter), Some(mut taker)) = (puts.pop(), takes.pop()) else {
         return Ok(());
     };
     for key in 0..6u8 {
