@@ -1,0 +1,127 @@
+-- What the calls of an index owe: bounds, what is kept, and of which keys it is the index then.
+use Rattle.std.proofs.Common.{◌≡◌, ℕ, ◌+◌, ◌-◌, ◌/◌, ◌^◌, ◌<◌, ◌≤◌, Bool, List, length, get_or, set, replicate, sym, ap, ◌∙◌, subst, arith, Option, None}
+use Rattle.std.specs.Prelude.{IsTrue}
+use Rattle.std.specs.Cmp.{IsEquivalence}
+use Rattle.std.proofs.lemmas.List.{get_or_default}
+use Rattle.lru_index.specs.Index.{Index, room_of, IsFree, put, gone, known_of, HasKey, IsAbsent, Indexes}
+use Rattle.lru_index.specs.Representation.Cells.{IsTable, IsKept, at, homes_of, home_in, index_of, below, end_cell}
+use Rattle.lru_index.specs.Representation.Walks.{Reaches}
+use Rattle.lru_index.proofs.Tables.{kept, shown, empty_table}
+use Rattle.lru_index.proofs.Walked.{cell_within, has_link, split, tail_is, has_found}
+use Rattle.lru_index.proofs.Indexed.{length_homes, zero_free, room_is, put_keeps, cut_keeps, no_key, absent, put_index, cut_index, grown_index}
+
+-- ---- where a walk has ended
+module _ {K : Type 0} (eq : K → K → Bool) (keys : ℕ → Option K) (key : K) (cells : List ℕ) (heads shift : ℕ) (keeps : IsKept cells heads shift) (b cell : ℕ) (low : b < 2 ^ (64 - shift)) (given : List ℕ) (same : given ≡ cells) (reached : Reaches eq keys key given heads b cell) where
+  low_is : b < heads
+  low_is = subst (λ n. b < n) (sym keeps.scale) low
+
+  here : Reaches eq keys key cells heads b cell
+  here = subst (λ xs. Reaches eq keys key xs heads b cell) same reached
+
+  pub within_is : cell < length cells
+  within_is = cell_within eq keys key cells heads b keeps.table low_is cell here.walk
+
+  module _ (v : ℕ) (read : v ≡ get_or cells cell v) where
+    read_is : v ≡ at cells cell
+    read_is = read ∙ get_or_default cells cell v 0 within_is
+
+    module _ (some : v ≡ 0 → ⊥) where
+      pub found_is : HasKey eq keys key v
+      found_is = has_found eq keys key cells heads b keeps.table low_is cell here v read_is some
+
+      pub link_is : heads + v < length cells
+      link_is = has_link eq keys key cells heads b keeps.table low_is cell here.walk v read_is some
+
+      module _ (w : ℕ) (next : w ≡ get_or cells (heads + v) w) where
+        -- the cells that are left, as the cut of a chain
+        left_is : set cells (end_cell heads b here.walk.front) (at cells (heads + v)) ≡ set cells cell w
+        left_is =
+            ap (λ x. set cells x (at cells (heads + v))) (sym here.walk.cell_is)
+            ∙ ap (set cells cell) (sym (next ∙ get_or_default cells (heads + v) w 0 link_is))
+
+        pub cut_kept : IsKept (set cells cell w) heads shift
+        cut_kept =
+            let tail = (tail_is eq keys key cells heads b keeps.table low_is cell here.walk v read_is some).0 in
+            let chain = split eq keys key cells heads b keeps.table low_is cell here.walk v read_is some in
+            subst (λ xs. IsKept xs heads shift) left_is (cut_keeps cells heads shift keeps b v here.walk.front tail low_is chain)
+
+        module _ {S : Type 0} (laws : IsEquivalence eq) (hash : S → K → ℕ) (respects : (s : S) (x y : K) → IsTrue (eq x y) → hash s x ≡ hash s y) (hash_builder : S) (index : Index S) (view : index_of cells heads shift hash_builder ≡ index) (of : Indexes eq hash index keys) where
+          pub cut_indexes : Indexes eq hash (index_of (set cells cell w) heads shift hash_builder) (gone keys v)
+          cut_indexes =
+              let tail = (tail_is eq keys key cells heads b keeps.table low_is cell here.walk v read_is some).0 in
+              let chain = split eq keys key cells heads b keeps.table low_is cell here.walk v read_is some in
+              subst (λ xs. Indexes eq hash (index_of xs heads shift hash_builder) (gone keys v)) left_is
+              (cut_index eq laws hash respects cells heads shift hash_builder keeps keys (subst (λ i. Indexes eq hash i keys) (sym view) of) b v here.walk.front tail low_is chain)
+
+    module _ {S : Type 0} (laws : IsEquivalence eq) (hash : S → K → ℕ) (respects : (s : S) (x y : K) → IsTrue (eq x y) → hash s x ≡ hash s y) (hash_builder : S) (index : Index S) (view : index_of cells heads shift hash_builder ≡ index) (of : Indexes eq hash index keys) (bits_are : b ≡ hash hash_builder key / 2 ^ shift) where
+      pub absent_is : v ≡ 0 → IsAbsent eq keys key
+      absent_is none =
+          absent eq laws hash respects cells heads shift hash_builder keeps keys (subst (λ i. Indexes eq hash i keys) (sym view) of) key b bits_are low_is cell here (sym read_is ∙ none)
+
+-- ---- a place put in
+module _ {S : Type 0} (cells : List ℕ) (heads shift : ℕ) (hash_builder : S) (keeps : IsKept cells heads shift) (index : Index S) (view : index_of cells heads shift hash_builder ≡ index) where
+  pub room_at : length cells - heads ≡ room_of index
+  room_at = sym (length_homes cells heads) ∙ ap room_of view
+
+  pub is_roomy : 1 ≤ room_of index
+  is_roomy = omega (arith, room_at, keeps.some)
+
+  module _ (p : ℕ) (room : p < room_of index) where
+    room_in : p < length (homes_of cells heads)
+    room_in = subst (λ i. p < room_of i) (sym view) room
+
+    pub put_fits : heads + p < length cells
+    put_fits = room_is cells heads shift keeps p room_in
+
+    module _ (some : 0 < p) (free : IsFree index p) (b : ℕ) (low : b < 2 ^ (64 - shift)) where
+      free_in : home_in cells heads p ≡ None
+      free_in = subst (λ i. IsFree i p) (sym view) free
+
+      low_in : b < heads
+      low_in = subst (λ n. b < n) (sym keeps.scale) low
+
+      pub put_kept : IsKept (set (set cells (heads + p) (get_or cells b 0)) b p) heads shift
+      put_kept = put_keeps cells heads shift keeps b p low_in some room_in free_in
+
+      module _ {K : Type 0} (eq : K → K → Bool) (laws : IsEquivalence eq) (hash : S → K → ℕ) (respects : (s : S) (x y : K) → IsTrue (eq x y) → hash s x ≡ hash s y) (key : K) (bits_are : b ≡ hash hash_builder key / 2 ^ shift) where
+        pub put_indexes : (keys : ℕ → Option K) → IsAbsent eq keys key → Indexes eq hash index keys → Indexes eq hash (index_of (set (set cells (heads + p) (get_or cells b 0)) b p) heads shift hash_builder) (put keys p key)
+        put_indexes keys new of =
+            put_index eq laws hash respects cells heads shift hash_builder keeps keys (subst (λ i. Indexes eq hash i keys) (sym view) of) key b bits_are low_in p some room_in free_in new
+
+  -- ---- other cells for the same keys
+  module _ {K : Type 0} (eq : K → K → Bool) (laws : IsEquivalence eq) (hash : S → K → ℕ) (respects : (s : S) (x y : K) → IsTrue (eq x y) → hash s x ≡ hash s y) (keys : ℕ → Option K) (of : Indexes eq hash index keys) where
+    of_in : Indexes eq hash (index_of cells heads shift hash_builder) keys
+    of_in = subst (λ i. Indexes eq hash i keys) (sym view) of
+
+    pub zero_keyless : keys 0 ≡ None
+    zero_keyless = no_key eq laws hash respects cells heads shift hash_builder keeps keys of_in 0 (zero_free cells heads shift keeps)
+
+    module _ (cells' : List ℕ) (heads' shift' room : ℕ) (scale : heads' ≡ 2 ^ (64 - shift')) (rooms : room ≡ room_of index) (table : IsTable cells' (2 ^ (64 - shift')) (below room (known_of (hash hash_builder) shift' keys))) where
+      table_in : IsTable cells' heads' (below (length (homes_of cells heads)) (known_of (hash hash_builder) shift' keys))
+      table_in =
+          subst (λ n. IsTable cells' n (below (length (homes_of cells heads)) (known_of (hash hash_builder) shift' keys))) (sym scale)
+          (subst (λ n. IsTable cells' (2 ^ (64 - shift')) (below n (known_of (hash hash_builder) shift' keys))) (rooms ∙ sym (ap room_of view)) table)
+
+      pub grown_kept : 33 ≤ shift' → shift' ≤ 63 → heads' < length cells' → length cells' ≤ heads' + 4294967295 → IsKept cells' heads' shift'
+      grown_kept least most some few = record {
+        table = kept cells' heads' (below (length (homes_of cells heads)) (known_of (hash hash_builder) shift' keys)) table_in;
+        scale = scale;
+        least = least;
+        most = most;
+        some = some;
+        few = few;
+      }
+
+      pub grown_indexes : Indexes eq hash (index_of cells' heads' shift' hash_builder) keys
+      grown_indexes = grown_index eq laws hash respects cells heads shift hash_builder keeps keys of_in cells' heads' shift' table_in
+
+-- ---- no place at all
+module _ (cells : List ℕ) (heads : ℕ) (empty : cells ≡ replicate (length cells) 0) (some : heads < length cells) where
+  table_empty : IsTable cells heads (λ _. None)
+  table_empty = subst (λ xs. IsTable xs heads (λ _. None)) (sym empty) (empty_table (length cells) heads (omega (arith, some)))
+
+  pub empty_kept : (shift : ℕ) → heads ≡ 2 ^ (64 - shift) → 33 ≤ shift → shift ≤ 63 → length cells ≤ heads + 4294967295 → IsKept cells heads shift
+  empty_kept shift scale least most few = record { table = kept cells heads (λ _. None) table_empty; scale = scale; least = least; most = most; some = some; few = few }
+
+  pub empty_shown : (p : ℕ) → home_in cells heads p ≡ None
+  empty_shown p = shown cells heads (λ _. None) table_empty p

@@ -1,0 +1,6 @@
+pub mod Calls
+pub mod Chained
+pub mod ForCallers
+pub mod Indexed
+pub mod Tables
+pub mod Walked

@@ -1,0 +1,3 @@
+pub mod Hashing
+pub mod Index
+pub mod Representation

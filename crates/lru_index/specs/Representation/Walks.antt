@@ -1,0 +1,23 @@
+-- A walk along the chain of a key's home.
+use Rattle.std.specs.Prelude.{◌≡◌, ℕ, Bool, List, [], ◌∷◌, ◌++◌, Option}
+use Rattle.lru_index.specs.Index.{HasKey, Differs}
+use Rattle.lru_index.specs.Representation.Cells.{In, Chains, home_in, end_cell}
+
+module _ {K : Type 0} (eq : K → K → Bool) (keys : ℕ → Option K) (key : K) where
+  -- a cell of the chain of home b, behind places that have other keys
+  pub record Walks (cells : List ℕ) (heads b cell : ℕ) : Type 0 where
+    pub front : List ℕ
+    pub rest : List ℕ
+    pub chain : Chains cells heads (home_in cells heads) b (front ++ rest)
+    pub cell_is : cell ≡ end_cell heads b front
+    pub passed : (p : ℕ) → In p front → Differs eq keys key p
+
+  -- the first of these places has the key, if there is one
+  abbrev pub StopsAt : List ℕ → Type 0
+  StopsAt [] = Unit {0}
+  StopsAt (p ∷ ps) = HasKey eq keys key p
+
+  -- a cell of the chain that holds the place of the key, or ends the chain
+  pub record Reaches (cells : List ℕ) (heads b cell : ℕ) : Type 0 where
+    pub walk : Walks cells heads b cell
+    pub stop : StopsAt walk.rest

@@ -1,0 +1,191 @@
+//! An index from keys to places.
+ghost use Rattle.std.specs.Prelude.{◌≡◌, ◌<◌, ◌≤◌, IfOk, IfErr};
+ghost use Rattle.std.specs.Hash as fed;
+ghost use Rattle.std.specs.Hash.FoldHasher as folding;
+ghost use Rattle.std.specs.List.{fold};
+ghost use Rattle.lru_index.specs.Hashing.{key_hash};
+ghost use Rattle.lru_index.specs.Index.{room_of, IsEmpty, IsFree, Finds, Inserts, gone_at, Indexes};
+
+use crate::cells::{cell_of, empty_cells, fill, heads_of, home_of, put_first, shift_for};
+use crate::hashing::SeededHashes;
+use crate::keys::Keys;
+use std::alloc::{AllocError, Global};
+use std::hash::{BuildHasher, Hash};
+use std::marker::Model;
+
+/// An index from keys to places, which are numbers from 1 on. It holds no key: each call that needs one asks the rows.
+///
+/// Where hashes spread, a look-up reads one or two keys. An insertion writes two cells of four bytes, and a removal one.
+/// Only a constructor and `reserve` take memory, by one request each, and where it is refused nothing has changed. The
+/// heads are a power of two, and there is a link for each place; up to 2 to the 31 places stand one to a head or fewer.
+#[derive(Drop)]
+pub struct PlaceIndex<S = SeededHashes> {
+    cells: Vec<u32>,
+    heads: usize,
+    shift: u32,
+    hash_builder: S,
+}
+
+impl<S> Model for PlaceIndex<S> {
+    ghost use Rattle.lru_index.specs.Index.{Index, index_code};
+
+    ghost Value = { Index S };
+
+    ghost coded = { index_code S.code };
+
+    ghost use Rattle.lru_index.specs.Representation.Cells.{index_of, IsKept};
+
+    ghost view = { λ i. index_of i.cells.items i.heads i.shift i.hash_builder };
+
+    ghost invariant = { λ i. IsKept i.cells.items i.heads i.shift };
+}
+
+impl PlaceIndex<SeededHashes> {
+    /// An index of no keys, with room for the places below `places`. Its seed stays the same from run to run.
+    ///
+    /// # Errors
+    ///
+    /// There is no memory for that many.
+    pub fn with_capacity(alloc: Global, places: u32) -> Result<Self, AllocError>
+        ensures empty { IfOk result IsEmpty }
+        ensures room { IfOk result (λ index. places ≤ room_of index) }
+        ensures hashes { IfOk result (λ index. index.hash_builder.initial ≡ folding.initial) }
+    {
+        PlaceIndex::with_capacity_and_hasher(alloc, places, SeededHashes::fixed())
+    }
+
+    /// An index of no keys, with room for the places below `places`, and with a seed for its hashes.
+    ///
+    /// # Errors
+    ///
+    /// There is no memory for that many.
+    pub fn with_capacity_and_seed(alloc: Global, places: u32, seed: u64) -> Result<Self, AllocError>
+        ensures empty { IfOk result IsEmpty }
+        ensures room { IfOk result (λ index. places ≤ room_of index) }
+        ensures hashes { IfOk result (λ index. index.hash_builder.initial ≡ fold folding.write folding.initial (fed.u64 seed)) }
+    {
+        PlaceIndex::with_capacity_and_hasher(alloc, places, SeededHashes::with_seed(seed))
+    }
+}
+
+impl<S: BuildHasher> PlaceIndex<S> {
+    /// An index of no keys, with room for the places below `places`, over hashers of the caller's.
+    ///
+    /// # Errors
+    ///
+    /// There is no memory for that many.
+    pub fn with_capacity_and_hasher(
+        alloc: Global,
+        places: u32,
+        hash_builder: S,
+    ) -> Result<Self, AllocError>
+    where
+        S: Drop,
+        ensures empty { IfOk result IsEmpty }
+        ensures room { IfOk result (λ index. places ≤ room_of index) }
+        ensures hashes { IfOk result (λ index. index.hash_builder ≡ hash_builder) }
+    {
+        let shift = shift_for(places);
+        let heads = heads_of(shift);
+        let cells = empty_cells(alloc, heads, places)?;
+        Ok(PlaceIndex {
+            cells,
+            heads,
+            shift,
+            hash_builder,
+        })
+    }
+
+    /// How many places there is room for: each below this number, but 0.
+    pub fn room(&self) -> u32
+        ensures { result ≡ room_of self.now }
+    {
+        (self.cells.len() - self.heads) as u32
+    }
+
+    /// The place of a key, if it has one.
+    #[inline(always)]
+    pub fn find<K: Hash, T: Keys<K>>(&self, keys: &T, key: &K) -> Option<u32>
+        requires { Indexes K.eq (key_hash S.BuildHasher S.Hasher.Hasher K.hash_input) self.now (T.key_of keys.now) }
+        ensures { Finds K.eq (T.key_of keys.now) key.now result }
+    {
+        let home = home_of(&self.hash_builder, self.shift, key);
+        let cell = cell_of(&self.cells, self.heads, home, keys, key);
+        let found = self.cells[cell];
+        if found == 0 {
+            return None;
+        }
+        Some(found)
+    }
+
+    /// Puts a place under a key that has none. There has to be room for the place, and nothing at it.
+    #[inline(always)]
+    pub fn insert<K: Hash>(&mut self, key: &K, place: u32)
+        requires place { 0 < place }
+        requires room { place < room_of self.old }
+        requires free { IsFree self.old place }
+        ensures indexes { Inserts K.eq (key_hash S.BuildHasher S.Hasher.Hasher K.hash_input) self.old key.now place self.new }
+        ensures room_same { room_of self.new ≡ room_of self.old }
+    {
+        let home = home_of(&self.hash_builder, self.shift, key);
+        put_first(&mut self.cells, self.heads, home, place);
+    }
+
+    /// Takes a key's place out, and answers it. Where the key has none, nothing changes.
+    #[inline(always)]
+    pub fn remove<K: Hash, T: Keys<K>>(&mut self, keys: &T, key: &K) -> Option<u32>
+        requires { Indexes K.eq (key_hash S.BuildHasher S.Hasher.Hasher K.hash_input) self.old (T.key_of keys.now) }
+        ensures finds { Finds K.eq (T.key_of keys.now) key.now result }
+        ensures indexes { Indexes K.eq (key_hash S.BuildHasher S.Hasher.Hasher K.hash_input) self.new (gone_at (T.key_of keys.now) result) }
+        ensures room { room_of self.new ≡ room_of self.old }
+    {
+        let home = home_of(&self.hash_builder, self.shift, key);
+        let cell = cell_of(&self.cells, self.heads, home, keys, key);
+        let place = self.cells[cell];
+        if place == 0 {
+            return None;
+        }
+        self.cells[cell] = self.cells[self.heads + place as usize];
+        Some(place)
+    }
+
+    /// Makes room for the places below `places`, where there is less. The keys keep their places.
+    ///
+    /// # Errors
+    ///
+    /// There is no memory for that many. Nothing has changed then.
+    #[inline(always)]
+    pub fn reserve<K: Hash, T: Keys<K>>(&mut self, keys: &T, places: u32) -> Result<(), AllocError>
+        requires { Indexes K.eq (key_hash S.BuildHasher S.Hasher.Hasher K.hash_input) self.old (T.key_of keys.now) }
+        ensures indexes { Indexes K.eq (key_hash S.BuildHasher S.Hasher.Hasher K.hash_input) self.new (T.key_of keys.now) }
+        ensures kept { room_of self.old ≤ room_of self.new }
+        ensures made { IfOk result (λ _. places ≤ room_of self.new) }
+        ensures refused { IfErr result (λ _. self.new ≡ self.old) }
+    {
+        if places <= self.room() {
+            return Ok(());
+        }
+        self.grow(keys, places)
+    }
+
+    // The new chains are made from the rows in the order of the places, since that reads the keys in order. Room grows
+    // by an eighth at least, so that the rows that are read again are few.
+    fn grow<K: Hash, T: Keys<K>>(&mut self, keys: &T, places: u32) -> Result<(), AllocError>
+        requires indexed { Indexes K.eq (key_hash S.BuildHasher S.Hasher.Hasher K.hash_input) self.old (T.key_of keys.now) }
+        requires more { room_of self.old < places }
+        ensures indexes { Indexes K.eq (key_hash S.BuildHasher S.Hasher.Hasher K.hash_input) self.new (T.key_of keys.now) }
+        ensures made { IfOk result (λ _. places ≤ room_of self.new) }
+        ensures refused { IfErr result (λ _. self.new ≡ self.old) }
+    {
+        let room = self.room();
+        let places = places.max(room.saturating_add(room / 8));
+        let shift = shift_for(places);
+        let heads = heads_of(shift);
+        let mut cells = empty_cells(*self.cells.allocator(), heads, places)?;
+        fill(&mut cells, shift, room, &self.hash_builder, keys);
+        self.cells = cells;
+        self.heads = heads;
+        self.shift = shift;
+        Ok(())
+    }
+}

@@ -1,0 +1,129 @@
+//! An index over keys that stand in a vector.
+use crate::table::{Rows, add, add_colliding, add_steps, longest, no_rows, take};
+use lru_index::place_index::PlaceIndex;
+use std::alloc::{AllocError, Global};
+use std::hash::{BuildHasher, Hasher};
+use std::test::Fail;
+
+const MILLION: u32 = 1_000_000;
+
+// The most keys of one chain, where as many keys stand as there are heads, or somewhat fewer.
+const LONGEST: u64 = 16;
+
+// A hasher that gives each key the same hash, so that all stand in one chain.
+#[derive(Clone, Copy)]
+struct Same;
+
+impl Hasher for Same {
+    ghost write = { λ s _. s };
+
+    ghost finish = { λ _. 7 };
+
+    fn finish(&self) -> u64 {
+        7
+    }
+
+    fn write(&mut self, _bytes: &[u8]) {}
+}
+
+impl BuildHasher for Same {
+    type Hasher = Same;
+
+    ghost build_hasher = { λ s. s };
+
+    fn build_hasher(&self) -> Same {
+        *self
+    }
+}
+
+#[test]
+fn finds_what_was_put(rt: HostRuntime) -> Result<(), Fail> {
+    let mut rows = no_rows(rt.alloc())?;
+    let mut index = PlaceIndex::with_capacity(rt.alloc(), 0)?;
+    let first = add(&mut rows, &mut index, 7u64)?;
+    let second = add(&mut rows, &mut index, 9u64)?;
+    assert_eq!(rt; (first, second), (1, 2));
+    assert_eq!(rt; index.find(&rows, &7), Some(1));
+    assert_eq!(rt; take(&mut rows, &mut index, &7), Some(1));
+    assert_eq!(rt; index.find(&rows, &7), None);
+    assert_eq!(rt; index.find(&rows, &9), Some(2));
+    Ok(())
+}
+
+#[test]
+fn makes_room(rt: HostRuntime) -> Result<(), Fail> {
+    let index = PlaceIndex::with_capacity(rt.alloc(), 100)?;
+    // a power of two of heads, and links for two places more
+    assert_eq!(rt; index.room(), 130);
+    Ok(())
+}
+
+#[test]
+fn finds_texts(rt: HostRuntime) -> Result<(), Fail> {
+    let mut rows = no_rows(rt.alloc())?;
+    let mut index = PlaceIndex::with_capacity_and_seed(rt.alloc(), 10, 3)?;
+    add(&mut rows, &mut index, String::from_str(rt.alloc(), "one")?)?;
+    add(&mut rows, &mut index, String::from_str(rt.alloc(), "two")?)?;
+    let two = String::from_str(rt.alloc(), "two")?;
+    assert_eq!(rt; index.find(&rows, &two), Some(2));
+    assert_eq!(rt; take(&mut rows, &mut index, &two), Some(2));
+    assert_eq!(rt; index.find(&rows, &two), None);
+    Ok(())
+}
+
+#[test]
+fn one_chain_holds_all_keys(rt: HostRuntime) -> Result<(), Fail> {
+    let mut rows = no_rows(rt.alloc())?;
+    let mut index = PlaceIndex::with_capacity_and_hasher(rt.alloc(), 0, Same)?;
+    add_steps(&mut rows, &mut index, 1, 1, 100)?;
+    assert_eq!(rt; longest(&rows, &index), 100);
+    // the first of the chain, the last, and one between
+    assert_eq!(rt; take(&mut rows, &mut index, &100), Some(100));
+    assert_eq!(rt; take(&mut rows, &mut index, &1), Some(1));
+    assert_eq!(rt; take(&mut rows, &mut index, &50), Some(50));
+    assert_eq!(rt; take(&mut rows, &mut index, &50), None);
+    assert_eq!(rt; longest(&rows, &index), 97);
+    Ok(())
+}
+
+fn chain_of_steps(alloc: Global, first: u64, step: u64) -> Result<u64, AllocError> {
+    let mut rows = no_rows(alloc)?;
+    let mut index = PlaceIndex::with_capacity(alloc, 0)?;
+    add_steps(&mut rows, &mut index, first, step, MILLION)?;
+    Ok(longest(&rows, &index))
+}
+
+#[test]
+fn chains_of_multiples_are_short(rt: HostRuntime) -> Result<(), Fail> {
+    for power in [0u32, 1, 4, 8, 12, 16, 20, 24, 28, 32, 36, 40, 44] {
+        assert!(rt;
+            chain_of_steps(rt.alloc(), 0, 1u64 << power)? <= LONGEST,
+            "multiples of 2 to the {power}"
+        );
+    }
+    Ok(())
+}
+
+#[test]
+fn chains_of_runs_are_short(rt: HostRuntime) -> Result<(), Fail> {
+    for first in [1u64, 1_000_000_000_007, 0xFFFF_FFFF_FFF0_0000] {
+        assert!(rt;
+            chain_of_steps(rt.alloc(), first, 1)? <= LONGEST,
+            "from {first}"
+        );
+    }
+    Ok(())
+}
+
+#[test]
+fn keys_that_collide_under_another_seed_do_not(rt: HostRuntime) -> Result<(), Fail> {
+    let mut rows = no_rows(rt.alloc())?;
+    let mut index = PlaceIndex::with_capacity_and_seed(rt.alloc(), 0, 2)?;
+    add_colliding(&mut rows, &mut index, 1, 64 * MILLION)?;
+    assert!(rt; longest(&rows, &index) <= LONGEST);
+    let mut others = no_rows(rt.alloc())?;
+    let mut same = PlaceIndex::with_capacity_and_seed(rt.alloc(), 0, 1)?;
+    add_colliding(&mut others, &mut same, 1, MILLION)?;
+    assert!(rt; longest(&others, &same) > LONGEST);
+    Ok(())
+}
