@@ -3,7 +3,7 @@ use Rattle.std.proofs.Common.{◌≡◌, ℕ, not, max, arith, true, false, List
 use Rattle.std.specs.Prelude.{Option, Bool, option_map, ◌⊎◌, if◌then◌else◌}
 use Rattle.std.specs.Option.{option_map_or}
 use Rattle.lru_shard.specs.declared.unit.Cause.{Cause}
-use Rattle.lru_shard.specs.declared.unit.Refused.{Refused}
+use Rattle.lru_shard.specs.declared.unit.RefusedUpdate.{RefusedUpdate}
 use Rattle.lru_shard.specs.Row.{Row, row, row_of, with_first, last_row, without_last, pair_of, with_value, HasDistinctKeys}
 use Rattle.lru_shard.specs.Shard.{Shard, shard, size_of, MayRefuse, Accepts}
 use Rattle.lru_shard.specs.Unit.{UpdatesRow, UpdatesOrAdmits, IncrementsRow, IncrementsWeight, raised, started}
@@ -40,7 +40,7 @@ module _ {K : Type 0} where
     pub admits : (answer : Option ℕ × ℕ) → UpdatesOrAdmits Changes Makes old h (Ok answer) new → (answer.1 ≡ max w 1) × Accepts old new (with_first old.rows (admitted h (row_of old.rows h) key w))
     admits answer x = admits_by (row_of old.rows h) answer x
 
-    refuses_by : (o : Option (Row K)) (refused : Refused (Option (K × ℕ))) → row_of old.rows h ≡ o → HasDistinctKeys old.rows → UpdatesRow Changes Makes old h o (Err refused) new
+    refuses_by : (o : Option (Row K)) (refused : RefusedUpdate K) → row_of old.rows h ≡ o → HasDistinctKeys old.rows → UpdatesRow Changes Makes old h o (Err refused) new
         → (new ≡ old) × ((o ≡ None) ⊎ ((cause : Cause) × MayRefuse old.cap (size_of old.rows) (size_of (with_first old.rows (admitted h o key w))) cause))
     refuses_by (Some r) refused e d x =
         let c = change r.value r.weight x.1.0 x.0 x.1.1.0 in (
@@ -53,7 +53,7 @@ module _ {K : Type 0} where
         )
     refuses_by None refused e d x = (x.1, inl refl)
 
-    pub refuses : (refused : Refused (Option (K × ℕ))) → HasDistinctKeys old.rows → UpdatesOrAdmits Changes Makes old h (Err refused) new
+    pub refuses : (refused : RefusedUpdate K) → HasDistinctKeys old.rows → UpdatesOrAdmits Changes Makes old h (Err refused) new
         → (new ≡ old) × ((row_of old.rows h ≡ None) ⊎ ((cause : Cause) × MayRefuse old.cap (size_of old.rows) (size_of (with_first old.rows (admitted h (row_of old.rows h) key w))) cause))
     refuses refused d x = refuses_by (row_of old.rows h) refused refl d x
 

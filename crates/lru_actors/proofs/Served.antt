@@ -17,7 +17,7 @@ pub mapped_same : (p : Option (ℕ × ℕ)) (c : Option ℕ) (f g : ℕ → Opti
 mapped_same p None f g h k = set_same p f g h k
 mapped_same p (Some x) f g h k = ap (λ o. cond (eqb x k) None o) (set_same p f g h k)
 
-module _ {K D : Type 0} (Puts : D → ℕ → K → ℕ → D → Type 0) (IsSame : D → D → Type 0) (queue : D → Queue K) (IsClone : K → K → Type 0) where
+module _ {K D : Type 0} (Puts : D → ℕ → K → ℕ → D → Type 0) (IsSame : D → D → Type 0) (queue : D → Queue K) (IsClone : K → K → Type 0) (MayRefuse : D → Type 0) where
   by_done : (old : State K) (look look1 look2 : ℕ → Option ℕ) (d d1 d2 : D) (msg : LruMsg K) (e : Effect K) (taken rest : Option (K × ℕ)) (new : State K)
       → ((k : ℕ) → look1 k ≡ look k) → IsKept Puts IsSame queue d d1 → queue d1 ≡ queue d → ((k : ℕ) → look2 k ≡ mapped e.put e.cleared look1 k)
       → taken ≡ e.evicted → rest ≡ None → HandsOver Puts IsSame queue e.cleared taken d1 d2 → queue d2 ≡ queued taken (queue d1)
@@ -52,7 +52,7 @@ module _ {K D : Type 0} (Puts : D → ℕ → K → ℕ → D → Type 0) (IsSam
   by_refusal : (old : State K) (look look1 look2 : ℕ → Option ℕ) (d d1 d2 : D) (msg : LruMsg K) (e : Effect K) (taken rest : Option (K × ℕ)) (new : State K)
       → ((k : ℕ) → look1 k ≡ look k) → IsKept Puts IsSame queue d d1 → queue d1 ≡ queue d → ((k : ℕ) → look2 k ≡ mapped e.put e.cleared look1 k)
       → taken ≡ e.evicted → rest ≡ None → HandsOver Puts IsSame queue e.cleared taken d1 d2 → queue d2 ≡ queued taken (queue d1)
-      → (may : MayBeRefused old.shard msg) → IsRefused old msg e new → IsTurnedAway Puts IsSame queue IsClone old look d msg (record e { evicted = rest }) new look2 d2
+      → (may : MayBeRefused old.shard msg) → IsRefused old msg e new → IsTurnedAway Puts IsSame queue IsClone MayRefuse old look d msg (record e { evicted = rest }) new look2 d2
   by_refusal old look look1 look2 d d1 d2 msg e taken rest new same kept q map t r handed q2 may h =
       let none : taken ≡ None = t ∙ h.evicted in
       let stays : d2 ≡ d1 = subst (λ z. HandsOver Puts IsSame queue z None d1 d2) h.cleared (subst (λ z. HandsOver Puts IsSame queue e.cleared z d1 d2) none handed) in
@@ -81,7 +81,7 @@ module _ {K D : Type 0} (Puts : D → ℕ → K → ℕ → D → Type 0) (IsSam
   pub processed : (old : State K) (look look1 look2 : ℕ → Option ℕ) (d d1 d2 : D) (msg : LruMsg K) (e : Effect K) (taken rest : Option (K × ℕ)) (new : State K)
       → ((k : ℕ) → look1 k ≡ look k) → IsKept Puts IsSame queue d d1 → queue d1 ≡ queue d → ((k : ℕ) → look2 k ≡ mapped e.put e.cleared look1 k)
       → taken ≡ e.evicted → rest ≡ None → HandsOver Puts IsSame queue e.cleared taken d1 d2 → queue d2 ≡ queued taken (queue d1)
-      → Steps IsClone old msg e new → Processes Puts IsSame queue IsClone old look d msg (record e { evicted = rest }) new look2 d2
+      → Steps IsClone old msg e new → Processes Puts IsSame queue IsClone MayRefuse old look d msg (record e { evicted = rest }) new look2 d2
   processed old look look1 look2 d d1 d2 msg e taken rest new same kept q map t r handed q2 (inl h) =
       inl (by_done old look look1 look2 d d1 d2 msg e taken rest new same kept q map t r handed q2 h)
   processed old look look1 look2 d d1 d2 msg e taken rest new same kept q map t r handed q2 (inr h) =
@@ -89,19 +89,19 @@ module _ {K D : Type 0} (Puts : D → ℕ → K → ℕ → D → Type 0) (IsSam
 
   -- no room was had
   pub turned_away : (old : State K) (look look1 : ℕ → Option ℕ) (d d1 : D) (msg : LruMsg K) (e : Effect K) (new : State K) (b : Bool)
-      → ((k : ℕ) → look1 k ≡ look k) → IsKept Puts IsSame queue d d1 → queue d1 ≡ queue d → MayWantRoom look old.shard.rows msg
+      → ((k : ℕ) → look1 k ≡ look k) → IsKept Puts IsSame queue d d1 → queue d1 ≡ queue d → MayWantRoom (MayRefuse d) look old.shard.rows msg
       → new ≡ state_of old.shard ((old.refused + 1) % 2 ^ 64) → e ≡ record (quiet (measure old.shard.rows) (measure old.shard.rows) b) { refused = true } → b ≡ looks msg
-      → Processes Puts IsSame queue IsClone old look d msg e new look1 d1
+      → Processes Puts IsSame queue IsClone MayRefuse old look d msg e new look1 d1
   turned_away old look look1 d d1 msg e new b same kept q want left effect l =
       inr (record { may = inr want; refused = declined old msg e new b left effect l; map = same; queue_is = q; kept = kept })
 
   -- no message, and one message more
-  pub all_none : (a : State K) (look : ℕ → Option ℕ) (d : D) → ProcessesAll Puts IsSame queue IsClone a look d [] [] a look d
+  pub all_none : (a : State K) (look : ℕ → Option ℕ) (d : D) → ProcessesAll Puts IsSame queue IsClone MayRefuse a look d [] [] a look d
   all_none a look d = (refl, ((λ k. refl), refl))
 
   pub all_more : (msgs : List (LruMsg K)) (es : List (Effect K)) (a b c : State K) (f g h : ℕ → Option ℕ) (d1 d2 d3 : D) (msg : LruMsg K) (e : Effect K)
-      → ProcessesAll Puts IsSame queue IsClone a f d1 msgs es b g d2 → Processes Puts IsSame queue IsClone b g d2 msg e c h d3
-      → ProcessesAll Puts IsSame queue IsClone a f d1 (msgs ++ msg ∷ []) (es ++ e ∷ []) c h d3
+      → ProcessesAll Puts IsSame queue IsClone MayRefuse a f d1 msgs es b g d2 → Processes Puts IsSame queue IsClone MayRefuse b g d2 msg e c h d3
+      → ProcessesAll Puts IsSame queue IsClone MayRefuse a f d1 (msgs ++ msg ∷ []) (es ++ e ∷ []) c h d3
   all_more [] [] a b c f g h d1 d2 d3 msg e all one =
       let maps : g ≡ f = λ i k. all.1.0 k i in (
         c,
@@ -110,9 +110,9 @@ module _ {K D : Type 0} (Puts : D → ℕ → K → ℕ → D → Type 0) (IsSam
           (
             d3,
             (
-              subst (λ z. Processes Puts IsSame queue IsClone z f d1 msg e c h d3) all.0
-                  (subst (λ z. Processes Puts IsSame queue IsClone b z d1 msg e c h d3) maps
-                  (subst (λ z. Processes Puts IsSame queue IsClone b g z msg e c h d3) all.1.1 one)),
+              subst (λ z. Processes Puts IsSame queue IsClone MayRefuse z f d1 msg e c h d3) all.0
+                  (subst (λ z. Processes Puts IsSame queue IsClone MayRefuse b z d1 msg e c h d3) maps
+                  (subst (λ z. Processes Puts IsSame queue IsClone MayRefuse b g z msg e c h d3) all.1.1 one)),
               all_none c h d3,
             ),
           ),

@@ -34,13 +34,13 @@ module _ {K : Type 0} where
   HasPlace HasRoom rows Evict = 0 < length rows → HasRoom
   HasPlace HasRoom rows _ = Unit {0}
 
-  -- room may be wanted: in the map for a hash that it has not, or for a pair that is evicted
-  abbrev pub MayWantRoom : (ℕ → Option ℕ) → List (Row K) → LruMsg K → Type 0
-  MayWantRoom look rows (Admit hash _ _) = look hash ≡ None
-  MayWantRoom look rows (IncrementWeight hash _ _ _) = look hash ≡ None
-  MayWantRoom look rows (InsertTail hash _ _) = look hash ≡ None
-  MayWantRoom look rows Evict = 0 < length rows
-  MayWantRoom look rows _ = ⊥
+  -- room may be wanted: in the map for a hash that it has not, or in the queue, where this may refuse it, for a pair that is evicted
+  abbrev pub MayWantRoom : Type 0 → (ℕ → Option ℕ) → List (Row K) → LruMsg K → Type 0
+  MayWantRoom MayRefuse look rows (Admit hash _ _) = look hash ≡ None
+  MayWantRoom MayRefuse look rows (IncrementWeight hash _ _ _) = look hash ≡ None
+  MayWantRoom MayRefuse look rows (InsertTail hash _ _) = look hash ≡ None
+  MayWantRoom MayRefuse look rows Evict = (0 < length rows) × MayRefuse
+  MayWantRoom MayRefuse look rows _ = ⊥
 
   -- `Puts` and `IsSame` are what a put into the queue does, and what making room there leaves
   module _ {D : Type 0} (Puts : D → ℕ → K → ℕ → D → Type 0) (IsSame : D → D → Type 0) (queue : D → Queue K) where
@@ -65,21 +65,23 @@ module _ {K : Type 0} where
         pub room : IsKept d roomy
         pub handed : HandsOver e.cleared (evicted_of old.shard.rows msg) roomy d'
 
-      -- a message that is refused
-      pub record IsTurnedAway (old : State K) (look : ℕ → Option ℕ) (d : D) (msg : LruMsg K) (e : Effect K) (new : State K) (look' : ℕ → Option ℕ) (d' : D) : Type 0 where
-        pub may : MayBeRefused old.shard msg ⊎ MayWantRoom look old.shard.rows msg
-        pub refused : IsRefused old msg e new
-        pub map : (k : ℕ) → look' k ≡ look k
-        pub queue_is : queue d' ≡ queue d
-        pub kept : IsKept d d'
+      -- `MayRefuse` is where the queue may refuse room
+      module _ (MayRefuse : D → Type 0) where
+        -- a message that is refused
+        pub record IsTurnedAway (old : State K) (look : ℕ → Option ℕ) (d : D) (msg : LruMsg K) (e : Effect K) (new : State K) (look' : ℕ → Option ℕ) (d' : D) : Type 0 where
+          pub may : MayBeRefused old.shard msg ⊎ MayWantRoom (MayRefuse d) look old.shard.rows msg
+          pub refused : IsRefused old msg e new
+          pub map : (k : ℕ) → look' k ≡ look k
+          pub queue_is : queue d' ≡ queue d
+          pub kept : IsKept d d'
 
-      abbrev pub Processes : State K → (ℕ → Option ℕ) → D → LruMsg K → Effect K → State K → (ℕ → Option ℕ) → D → Type 0
-      Processes old look d msg e new look' d' = IsServed old look d msg e new look' d' ⊎ IsTurnedAway old look d msg e new look' d'
+        abbrev pub Processes : State K → (ℕ → Option ℕ) → D → LruMsg K → Effect K → State K → (ℕ → Option ℕ) → D → Type 0
+        Processes old look d msg e new look' d' = IsServed old look d msg e new look' d' ⊎ IsTurnedAway old look d msg e new look' d'
 
-      -- messages processed one after the other, and the effect of each
-      abbrev pub ProcessesAll : State K → (ℕ → Option ℕ) → D → List (LruMsg K) → List (Effect K) → State K → (ℕ → Option ℕ) → D → Type 0
-      ProcessesAll old look d [] [] new look' d' = (new ≡ old) × (((k : ℕ) → look' k ≡ look k) × (d' ≡ d))
-      ProcessesAll old look d (msg ∷ msgs) (e ∷ es) new look' d' =
-          (mid : State K) × ((between : ℕ → Option ℕ) × ((queue_between : D)
-          × (Processes old look d msg e mid between queue_between × ProcessesAll mid between queue_between msgs es new look' d')))
-      ProcessesAll old look d _ _ new look' d' = ⊥
+        -- messages processed one after the other, and the effect of each
+        abbrev pub ProcessesAll : State K → (ℕ → Option ℕ) → D → List (LruMsg K) → List (Effect K) → State K → (ℕ → Option ℕ) → D → Type 0
+        ProcessesAll old look d [] [] new look' d' = (new ≡ old) × (((k : ℕ) → look' k ≡ look k) × (d' ≡ d))
+        ProcessesAll old look d (msg ∷ msgs) (e ∷ es) new look' d' =
+            (mid : State K) × ((between : ℕ → Option ℕ) × ((queue_between : D)
+            × (Processes old look d msg e mid between queue_between × ProcessesAll mid between queue_between msgs es new look' d')))
+        ProcessesAll old look d _ _ new look' d' = ⊥

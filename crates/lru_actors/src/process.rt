@@ -1,7 +1,7 @@
 //! Messages processed with the map of weights and the queue of evicted pairs.
 ghost use Rattle.std.specs.Prelude.{◌≡◌, ℕ, ◌<◌, Some, None, IsTrue, IsFalse, IsSome, nat_eq, ◌≤◌, [], vec_len, vec_capacity};
 ghost use Rattle.std.specs.HashMap as hash;
-ghost use Rattle.lru_shard.specs.Shard.{longer_of};
+ghost use Rattle.lru_rules.specs.Victims.{longer_of};
 ghost use Rattle.lru_actors.specs.Messages.{looks};
 ghost use Rattle.lru_actors.specs.Processing.{mapped, queued, MapHasRoom, HasPlace, MayWantRoom, IsKept, HandsOver, Processes, ProcessesAll};
 
@@ -9,6 +9,7 @@ use crate::effect::Effect;
 use crate::message::LruMsg;
 use crate::state::ShardState;
 use lru_dispatch::Dispatch;
+use lru_rules::eviction::longer_of;
 use std::collections::HashMap;
 
 /// Processes one message: makes the room that it may need in the map of weights and in the queue of evicted
@@ -20,7 +21,7 @@ pub fn process_msg<K: Clone + Drop, D: Dispatch<K>>(
     dispatch: &mut D,
     msg: LruMsg<K>,
 ) -> Effect<K>
-    ensures { Processes D.Puts D.IsSame D.queue K.is_clone state.old (hash.get nat_eq map.old) dispatch.old msg result state.new (hash.get nat_eq map.new) dispatch.new }
+    ensures { Processes D.Puts D.IsSame D.queue K.is_clone D.MayRefuse state.old (hash.get nat_eq map.old) dispatch.old msg result state.new (hash.get nat_eq map.new) dispatch.new }
 {
     if !make_room(state, map, dispatch, &msg) {
         return state.refuse(is_looking(&msg));
@@ -45,7 +46,7 @@ pub fn process_batch<K: Clone + Drop, D: Dispatch<K>>(
     requires none { effects.old.items ≡ [] }
     requires room { vec_len batch.old ≤ vec_capacity effects.old }
     ensures emptied { batch.new.items ≡ [] }
-    ensures processed { ProcessesAll D.Puts D.IsSame D.queue K.is_clone state.old (hash.get nat_eq map.old) dispatch.old batch.old.items effects.new.items state.new (hash.get nat_eq map.new) dispatch.new }
+    ensures processed { ProcessesAll D.Puts D.IsSame D.queue K.is_clone D.MayRefuse state.old (hash.get nat_eq map.old) dispatch.old batch.old.items effects.new.items state.new (hash.get nat_eq map.new) dispatch.new }
 {
     // The last one is at hand, so the first is made the last.
     batch.reverse();
@@ -73,7 +74,7 @@ fn make_room<K: Clone + Drop, D: Dispatch<K>>(
     ensures queue { D.queue dispatch.new ≡ D.queue dispatch.old }
     ensures map_room { IsTrue result → MapHasRoom (hash.get nat_eq map.new) (hash.spare map.new) msg.now }
     ensures place { IsTrue result → HasPlace (D.HasRoom dispatch.new) state.now.shard.rows msg.now }
-    ensures wanted { IsFalse result → MayWantRoom (hash.get nat_eq map.old) state.now.shard.rows msg.now }
+    ensures wanted { IsFalse result → MayWantRoom (D.MayRefuse dispatch.old) (hash.get nat_eq map.old) state.now.shard.rows msg.now }
 {
     match msg {
         LruMsg::Admit { hash, .. }
@@ -137,5 +138,5 @@ fn hand_over<K, D: Dispatch<K>>(dispatch: &mut D, cleared: Option<u64>, evicted:
 pub fn choose_victim(a: usize, b: usize, len_a: usize, len_b: usize) -> usize
     ensures { result ≡ longer_of a b len_a len_b }
 {
-    if len_a >= len_b { a } else { b }
+    longer_of(a, b, len_a, len_b)
 }

@@ -1,4 +1,5 @@
 //! The shard of an actor by its worked rows, with its map and its queue.
+use lru_actors::effect::Reply;
 use lru_actors::key::hash_key;
 use lru_actors::message::LruMsg;
 use lru_actors::process::{choose_victim, process_batch, process_msg};
@@ -104,6 +105,27 @@ fn serves_a_batch_in_order(rt: HostRuntime) -> Result<(), Fail> {
             && (slip.hash, slip.weight) == (7, 1)
             && (choose_victim(3, 5, 2, 2), choose_victim(3, 5, 1, 2)) == (3, 5)
     );
+    Ok(())
+}
+
+// What a snapshot of three rows answers.
+fn snapshot(state: &mut ShardState<u8>) -> Option<Vec<(u8, usize)>> {
+    for (key, weight) in [(1, 2), (2, 3), (3, 5)] {
+        state.step(admit(u64::from(key), key, weight));
+    }
+    match state.step(LruMsg::Snapshot).reply {
+        Some(Reply::Rows(rows)) => Some(rows),
+        _ => None,
+    }
+}
+
+#[test]
+fn a_snapshot_has_all_rows(rt: HostRuntime) -> Result<(), Fail> {
+    let mut state = ShardState::with_capacity(rt.alloc(), 0, 100)?;
+    let Some(rows) = snapshot(&mut state) else {
+        return Err(Fail::from("no rows"));
+    };
+    assert!(rt; rows.as_slice() == [(3, 5), (2, 3), (1, 2)].as_slice());
     Ok(())
 }
 

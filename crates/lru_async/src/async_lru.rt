@@ -7,17 +7,21 @@ ghost use Rattle.lru_async.specs.Refusals.{held_in};
 use crate::builder::AsyncLruBuilder;
 use crate::launching::cell_and_clone;
 use crate::refusals::SendRefused;
+use crate::sends::{
+    Addressed, admission, answer_of, increment, key_back, promotion, refusal_of, removal, shard_of,
+    tail_row,
+};
 use log::{Log, error};
 use lru_actors::effect::Reply;
 use lru_actors::key::hash_key;
 use lru_actors::message::LruMsg;
-use lru_ledgers::{PutSeat, TakeSeat};
+use lru_ledgers::{PutSeat, Registry, TakeSeat};
 use lru_letters::{Letter, ReplyCell};
-use lru_mailbox::MailError;
 use lru_world::callback::NoGate;
 use lru_world::world::World;
 use std::alloc::Global;
 use std::hash::Hash;
+use std::marker::Brand;
 use std::sync::atomic::Ordering;
 use std::sync::{Arc, Wait};
 
@@ -35,18 +39,22 @@ pub struct ShardData<K> {
 ///
 /// One that is dropped without `close` leaves its threads waiting.
 #[derive(Drop)]
-pub struct AsyncLru<K: Drop, const N: usize> {
-    pub(crate) world: Arc<World<K>, Global>,
+pub struct AsyncLru<K: Drop, const N: usize, B: Registry = Brand> {
+    pub(crate) world: Arc<World<K, B>, Global>,
     pub(crate) alloc: Global,
     // each thread's cell, which it fills as its last step
-    pub(crate) actors: Vec<Arc<ReplyCell<Option<PutSeat>>, Global>>,
+    pub(crate) actors: Vec<Arc<ReplyCell<Option<PutSeat<B>>>, Global>>,
     pub(crate) eviction_workers: Vec<Arc<ReplyCell<()>, Global>>,
-    pub(crate) callback_workers: Vec<Arc<ReplyCell<Option<TakeSeat>>, Global>>,
+    pub(crate) callback_workers: Vec<Arc<ReplyCell<Option<TakeSeat<B>>>, Global>>,
     ghost some: { 0 < N },
     ghost shards: { vec_len (arc_value world).shards ≡ N },
 }
 
-impl<K: Hash + Eq + Clone + Drop + Send + Sync + 'static, const N: usize> AsyncLru<K, N> {
+impl<K: Hash + Eq + Clone + Drop + Send + Sync + 'static, const N: usize, B: Registry> AsyncLru<
+    K,
+    N,
+    B,
+> {
     ghost use Rattle.lru_async.specs.Orders.{untold};
 
     /// A builder of an order with a limit on its weight.
@@ -76,32 +84,18 @@ impl<K: Hash + Eq + Clone + Drop + Send + Sync + 'static, const N: usize> AsyncL
         AsyncLruBuilder::new(alloc, weight_limit, callback, Some(gate))
     }
 
-    fn shard_of(&self, hash: u64) -> usize
-        ensures value { result ≡ hash % N }
-        ensures below { result < N }
+    // Sends a message to the actor of its shard. A refusal hands it back.
+    fn send(&self, rt: &impl Wait, addressed: Addressed<K>) -> Result<(), SendRefused<LruMsg<K>>>
+        requires { addressed.shard < N }
+        ensures { IfErr result (λ r. held_in r ≡ addressed.message) }
     {
-        let _world = &self.world;
-        (hash % N as u64) as usize
-    }
-
-    // Sends a message to the actor of a shard. A refusal hands it back.
-    fn send(
-        &self,
-        rt: &impl Wait,
-        shard: usize,
-        message: LruMsg<K>,
-    ) -> Result<(), SendRefused<LruMsg<K>>>
-        requires { shard < N }
-        ensures { IfErr result (λ r. held_in r ≡ message) }
-    {
+        let Addressed { shard, message } = addressed;
         match self.world.shards[shard]
             .mailbox
             .push(rt, Letter::new(message))
         {
             Ok(()) => Ok(()),
-            Err(MailError::Memory(letter)) => Err(SendRefused::Memory(letter.message)),
-            Err(MailError::Closed(letter)) => Err(SendRefused::Closed(letter.message)),
-            Err(MailError::Waiting(_)) => unreachable!(),
+            Err(refused) => Err(refusal_of(refused)),
         }
     }
 
@@ -124,14 +118,8 @@ impl<K: Hash + Eq + Clone + Drop + Send + Sync + 'static, const N: usize> AsyncL
             .mailbox
             .push(rt, Letter::asking(message, theirs))
         {
-            Ok(()) => {}
-            Err(MailError::Memory(_)) => return Err(SendRefused::Memory(())),
-            Err(_) => return Err(SendRefused::Closed(())),
-        }
-        match cell.take(rt) {
-            Some(Reply::Memory) => Err(SendRefused::Memory(())),
-            Some(reply) => Ok(Some(reply)),
-            None => Err(SendRefused::Closed(())),
+            Ok(()) => answer_of(cell.take(rt)),
+            Err(refused) => Err(refusal_of(refused).bare()),
         }
     }
 
@@ -142,13 +130,11 @@ impl<K: Hash + Eq + Clone + Drop + Send + Sync + 'static, const N: usize> AsyncL
         ensures shard { IfOk result (λ s. s ≡ hash_of (K.hash_input key) % N) }
         ensures held { IfErr result (λ r. held_in r ≡ key) }
     {
-        let hash = hash_key(&key);
-        let shard = self.shard_of(hash);
-        match self.send(rt, shard, LruMsg::Admit { hash, key, weight }) {
+        let addressed = admission(key, weight, N);
+        let shard = addressed.shard;
+        match self.send(rt, addressed) {
             Ok(()) => Ok(shard),
-            Err(SendRefused::Memory(LruMsg::Admit { key, .. })) => Err(SendRefused::Memory(key)),
-            Err(SendRefused::Closed(LruMsg::Admit { key, .. })) => Err(SendRefused::Closed(key)),
-            Err(_) => unreachable!(),
+            Err(refused) => Err(key_back(refused)),
         }
     }
 
@@ -163,28 +149,21 @@ impl<K: Hash + Eq + Clone + Drop + Send + Sync + 'static, const N: usize> AsyncL
         ensures shard { IfOk result (λ s. s ≡ hash_of (K.hash_input key) % N) }
         ensures held { IfErr result (λ r. held_in r ≡ key) }
     {
-        let hash = hash_key(&key);
-        let shard = self.shard_of(hash);
-        match self.send(rt, shard, LruMsg::InsertTail { hash, key, weight }) {
+        let addressed = tail_row(key, weight, N);
+        let shard = addressed.shard;
+        match self.send(rt, addressed) {
             Ok(()) => Ok(shard),
-            Err(SendRefused::Memory(LruMsg::InsertTail { key, .. })) => Err(SendRefused::Memory(
-                key,
-            )),
-            Err(SendRefused::Closed(LruMsg::InsertTail { key, .. })) => Err(SendRefused::Closed(
-                key,
-            )),
-            Err(_) => unreachable!(),
+            Err(refused) => Err(key_back(refused)),
         }
     }
 
     /// Asks that a key's row is put first. Where the map has no such hash it answers false, and sends nothing.
     pub fn promote(&self, rt: &impl Wait, key: &K) -> Result<bool, SendRefused<()>> {
         let hash = hash_key(key);
-        let shard = self.shard_of(hash);
-        if self.world.shards[shard].weight_of(rt, hash).is_none() {
+        if self.weight_of(rt, hash).is_none() {
             return Ok(false);
         }
-        match self.send(rt, shard, LruMsg::Promote { hash }) {
+        match self.send(rt, promotion(hash, N)) {
             Ok(()) => Ok(true),
             Err(refused) => Err(refused.bare()),
         }
@@ -197,7 +176,7 @@ impl<K: Hash + Eq + Clone + Drop + Send + Sync + 'static, const N: usize> AsyncL
 
     /// Asks that the row with this hash is taken out.
     pub fn remove_by_hash(&self, rt: &impl Wait, hash: u64) -> Result<(), SendRefused<()>> {
-        match self.send(rt, self.shard_of(hash), LruMsg::Remove { hash }) {
+        match self.send(rt, removal(hash, N)) {
             Ok(()) => Ok(()),
             Err(refused) => Err(refused.bare()),
         }
@@ -212,17 +191,10 @@ impl<K: Hash + Eq + Clone + Drop + Send + Sync + 'static, const N: usize> AsyncL
         delta: usize,
         max_weight: Option<usize>,
     ) -> Result<(), SendRefused<()>> {
-        let hash = hash_key(key);
-        let Ok(key) = key.clone() else {
+        let Ok(clone) = key.clone() else {
             return Err(SendRefused::Memory(()));
         };
-        let message = LruMsg::IncrementWeight {
-            hash,
-            key,
-            delta,
-            max_weight,
-        };
-        match self.send(rt, self.shard_of(hash), message) {
+        match self.send(rt, increment(key, clone, delta, max_weight, N)) {
             Ok(()) => Ok(()),
             Err(refused) => Err(refused.bare()),
         }
@@ -235,8 +207,13 @@ impl<K: Hash + Eq + Clone + Drop + Send + Sync + 'static, const N: usize> AsyncL
 
     /// The weight that the map of weights has for the hash of this key.
     pub fn peek_weight(&self, rt: &impl Wait, key: &K) -> Option<usize> {
-        let hash = hash_key(key);
-        self.world.shards[self.shard_of(hash)].weight_of(rt, hash)
+        self.weight_of(rt, hash_key(key))
+    }
+
+    // The weight that the map of weights has for a hash.
+    fn weight_of(&self, rt: &impl Wait, hash: u64) -> Option<usize> {
+        let _world = &self.world;
+        self.world.shards[shard_of(hash, N)].weight_of(rt, hash)
     }
 
     /// A clone of the last row's key, and its weight; `None` of an empty shard, and past the last shard. Refused where there
@@ -318,7 +295,7 @@ impl<K: Hash + Eq + Clone + Drop + Send + Sync + 'static, const N: usize> AsyncL
     }
 }
 
-impl<K: Drop, const N: usize> AsyncLru<K, N> {
+impl<K: Drop, const N: usize, B: Registry> AsyncLru<K, N, B> {
     ghost use Rattle.lru_async.specs.Orders.{limits_of};
 
     /// Wakes the eviction workers, which ask for evictions while a limit is passed.
@@ -340,7 +317,12 @@ impl<K: Drop, const N: usize> AsyncLru<K, N> {
     }
 
     // Shuts down, waits for all threads, and gathers the seats that they give back.
-    pub(crate) fn end(self, rt: &impl Wait, puts: &mut Vec<PutSeat>, takes: &mut Vec<TakeSeat>) {
+    pub(crate) fn end(
+        self,
+        rt: &impl Wait,
+        puts: &mut Vec<PutSeat<B>>,
+        takes: &mut Vec<TakeSeat<B>>,
+    ) {
         self.shutdown(rt);
         let AsyncLru {
             world,

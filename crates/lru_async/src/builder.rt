@@ -9,13 +9,13 @@ use crate::launching::launch;
 use crate::ledger_lru::LedgerLru;
 use crate::receiver::EvictionReceiver;
 use crate::refusals::BuildError;
-use lru_ledgers::{LedgerBox, PutSeat, TakeSeat};
+use lru_ledgers::{Blanks, LedgerBox, PutSeat, Registry, TakeSeat};
 use lru_mailboxes::Mailbox;
 use lru_world::callback::{AsyncEvictionCallback, Gate, NoGate};
 use lru_world::outlet::Outlet;
 use std::alloc::Global;
 use std::hash::Hash;
-use std::marker::PhantomData;
+use std::marker::{Brand, PhantomData};
 use std::sync::{Arc, Wait};
 use std::thread::Threads;
 
@@ -163,10 +163,10 @@ impl<
             return Err(BuildError::NoCallbackWorkers);
         }
         let alloc = self.alloc;
-        let puts: Vec<PutSeat> = Vec::new(alloc);
-        let takes: Vec<TakeSeat> = Vec::new(alloc);
+        let puts: Vec<PutSeat<Brand>> = Vec::new(alloc);
+        let takes: Vec<TakeSeat<Brand>> = Vec::new(alloc);
         let outlet = Outlet::Mailbox(Mailbox::new(alloc));
-        launch::<K, C, N, G, R>(rt, alloc, self, outlet, puts, takes)
+        launch::<K, C, N, G, R, Brand>(rt, alloc, self, outlet, puts, takes)
     }
 
     /// Starts the threads, and gives a receiver of evicted pairs. Callback workers, if there are any, go on beside it.
@@ -180,33 +180,37 @@ impl<
     {
         let alloc = self.alloc;
         let alone = self.settings.num_callback_workers == 0;
-        let puts: Vec<PutSeat> = Vec::new(alloc);
-        let takes: Vec<TakeSeat> = Vec::new(alloc);
+        let puts: Vec<PutSeat<Brand>> = Vec::new(alloc);
+        let takes: Vec<TakeSeat<Brand>> = Vec::new(alloc);
         let outlet = Outlet::Mailbox(Mailbox::new(alloc));
-        let lru = launch::<K, C, N, G, R>(rt, alloc, self, outlet, puts, takes)?;
+        let lru = launch::<K, C, N, G, R, Brand>(rt, alloc, self, outlet, puts, takes)?;
         lru.with_receiver(&rt, alone)
     }
 
-    /// Starts the threads round a box that counts every evicted pair. Without callback workers the pairs are left in the
-    /// box.
-    pub fn build_with_ledger<R: Threads + Wait + Copy + Send + 'static>(
-        self,
-        rt: R,
-    ) -> Result<LedgerLru<K, N>, BuildError>
+    /// Starts the threads round a box that counts every evicted pair: it is made of blanks for N who put, the actors, and as
+    /// many who take as there are callback workers. Without callback workers the pairs are left in the box.
+    pub fn build_with_ledger<
+        R: Threads + Wait + Copy + Send + 'static,
+        B: Registry + Send + Sync + 'static,
+    >(self, rt: R, blanks: Blanks) -> Result<LedgerLru<K, N, B>, BuildError>
         requires some { 0 < N }
         requires ready { C.ready (arc_value self.callback) }
+        requires tables { (blanks.puts.tie.table.shared.table_id ≡ B.puts) × (blanks.takes.tie.table.shared.table_id ≡ B.takes) }
+        requires counts { (B.putters ≡ blanks.putters) × (B.takers ≡ blanks.takers) }
+        requires actors { blanks.putters ≡ N }
+        requires workers { blanks.takers ≡ self.settings.num_callback_workers }
         ensures { IfOk result (λ ledger. limits_of (order_of ledger) ≡ limits_told self.settings) }
     {
         let alloc = self.alloc;
         let takers = self.settings.num_callback_workers;
-        let (ledger, puts, takes) = LedgerBox::new(alloc, N, takers)?;
+        let (ledger, puts, takes) = LedgerBox::new(alloc, blanks)?;
         let Ok(ledger) = Arc::new(alloc, ledger) else {
             return Err(BuildError::Memory);
         };
         let room_for_puts = Vec::with_capacity(alloc, N)?;
         let room_for_takes = Vec::with_capacity(alloc, takers)?;
         let outlet = Outlet::Ledger(Arc::try_clone(&ledger)?);
-        let lru = launch::<K, C, N, G, R>(rt, alloc, self, outlet, puts, takes)?;
-        Ok(LedgerLru::new(lru, ledger, room_for_puts, room_for_takes))
+        let lru = launch::<K, C, N, G, R, B>(rt, alloc, self, outlet, puts, takes)?;
+        Ok(LedgerLru::new(lru, ledger, takers, room_for_puts, room_for_takes))
     }
 }

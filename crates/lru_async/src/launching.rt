@@ -1,14 +1,14 @@
 //! How the threads of an order are started.
-ghost use Rattle.std.specs.Prelude.{◌≡◌, ◌<◌, IfOk};
+ghost use Rattle.std.specs.Prelude.{◌≡◌, ◌+◌, ◌%◌, ◌^◌, ◌<◌, vec_len, IfOk, OnOk};
 ghost use Rattle.std.specs.Arc.{arc_value};
-ghost use Rattle.lru_async.specs.Orders.{limits_of, limits_told};
+ghost use Rattle.lru_async.specs.Orders.{limits_of, limits_told, HasWorkers};
 
 use crate::async_lru::AsyncLru;
 use crate::builder::AsyncLruBuilder;
 use crate::receiver::EvictionReceiver;
 use crate::refusals::BuildError;
-use crate::threads::{start_actor, start_callback_worker, start_eviction_worker};
-use lru_ledgers::{PutSeat, TakeSeat};
+use crate::threads::{Placed, start_actor, start_callback_worker, start_eviction_worker};
+use lru_ledgers::{PutSeat, Registry, TakeSeat};
 use lru_letters::ReplyCell;
 use lru_world::actor::Actor;
 use lru_world::callback::{AsyncEvictionCallback, Gate};
@@ -30,6 +30,13 @@ pub(crate) fn cell_and_clone<T: Drop>(
     Ok((cell, clone))
 }
 
+// The seed of an eviction worker, by its number.
+fn seed_of(seed: u64, number: usize) -> u64
+    ensures { result ≡ (seed + number) % 2 ^ 64 }
+{
+    seed.wrapping_add(number as u64)
+}
+
 // Starts the threads of a builder. Its type parameters stand in the order of the builder's.
 pub(crate) fn launch<
     K: Hash + Eq + Clone + Drop + Send + Sync + 'static,
@@ -37,17 +44,19 @@ pub(crate) fn launch<
     const N: usize,
     G: Gate + Drop + 'static,
     R: Threads + Wait + Copy + Send + 'static,
+    B: Registry + Send + Sync + 'static,
 >(
     rt: R,
     alloc: Global,
     builder: AsyncLruBuilder<K, C, N, G>,
-    outlet: Outlet<K>,
-    puts: Vec<PutSeat>,
-    takes: Vec<TakeSeat>,
-) -> Result<AsyncLru<K, N>, BuildError>
+    outlet: Outlet<K, B>,
+    puts: Vec<PutSeat<B>>,
+    takes: Vec<TakeSeat<B>>,
+) -> Result<AsyncLru<K, N, B>, BuildError>
     requires some { 0 < N }
     requires ready { C.ready (arc_value builder.callback) }
-    ensures { IfOk result (λ lru. limits_of lru ≡ limits_told builder.settings) }
+    ensures limits { IfOk result (λ lru. limits_of lru ≡ limits_told builder.settings) }
+    ensures workers { IfOk result (λ lru. HasWorkers lru builder.settings) }
 {
     let settings = builder.settings;
     let limits = Limits {
@@ -58,14 +67,14 @@ pub(crate) fn launch<
     let Ok(world) = Arc::new(alloc, world) else {
         return Err(BuildError::Memory);
     };
-    let mut lru: AsyncLru<K, N> = AsyncLru {
+    let mut lru: AsyncLru<K, N, B> = AsyncLru {
         world,
         alloc,
         actors: Vec::with_capacity(alloc, N)?,
         eviction_workers: Vec::with_capacity(alloc, settings.num_eviction_workers)?,
         callback_workers: Vec::with_capacity(alloc, settings.num_callback_workers)?,
     };
-    if let Err(refused) = start::<K, C, N, G, R>(rt, &mut lru, &builder, puts, takes) {
+    if let Err(refused) = start::<K, C, N, G, R, B>(rt, &mut lru, &builder, puts, takes) {
         lru.close(&rt);
         return Err(refused);
     }
@@ -79,15 +88,19 @@ fn start<
     const N: usize,
     G: Gate + Drop + 'static,
     R: Threads + Wait + Copy + Send + 'static,
+    B: Registry + Send + Sync + 'static,
 >(
     rt: R,
-    lru: &mut AsyncLru<K, N>,
+    lru: &mut AsyncLru<K, N, B>,
     builder: &AsyncLruBuilder<K, C, N, G>,
-    puts: Vec<PutSeat>,
-    takes: Vec<TakeSeat>,
+    puts: Vec<PutSeat<B>>,
+    takes: Vec<TakeSeat<B>>,
 ) -> Result<(), BuildError>
-    requires { C.ready (arc_value builder.now.callback) }
-    ensures { lru.new.world ≡ lru.old.world }
+    requires ready { C.ready (arc_value builder.now.callback) }
+    requires evicting { vec_len lru.old.eviction_workers ≡ 0 }
+    requires calling { vec_len lru.old.callback_workers ≡ 0 }
+    ensures world { lru.new.world ≡ lru.old.world }
+    ensures workers { OnOk result (HasWorkers lru.new builder.now.settings) }
 {
     let settings = builder.settings;
     lru.start_actors(rt, settings.capacity, &builder.gate, puts)?;
@@ -95,15 +108,21 @@ fn start<
     lru.start_callback_workers(rt, &builder.callback, settings.num_callback_workers, takes)
 }
 
-impl<K: Hash + Eq + Clone + Drop + Send + Sync + 'static, const N: usize> AsyncLru<K, N> {
+impl<
+    K: Hash + Eq + Clone + Drop + Send + Sync + 'static,
+    const N: usize,
+    B: Registry + Send + Sync + 'static,
+> AsyncLru<K, N, B> {
     fn start_actors<G: Gate + Drop + 'static, R: Threads + Wait + Copy + Send + 'static>(
         &mut self,
         rt: R,
         capacity: usize,
         gate: &Option<Arc<G, Global>>,
-        puts: Vec<PutSeat>,
+        puts: Vec<PutSeat<B>>,
     ) -> Result<(), BuildError>
-        ensures { self.new.world ≡ self.old.world }
+        ensures world { self.new.world ≡ self.old.world }
+        ensures workers { vec_len self.new.eviction_workers ≡ vec_len self.old.eviction_workers }
+        ensures others { vec_len self.new.callback_workers ≡ vec_len self.old.callback_workers }
     {
         let mut puts = puts;
         puts.reverse();
@@ -119,19 +138,25 @@ impl<K: Hash + Eq + Clone + Drop + Send + Sync + 'static, const N: usize> AsyncL
         shard: usize,
         capacity: usize,
         gate: &Option<Arc<G, Global>>,
-        seat: Option<PutSeat>,
+        seat: Option<PutSeat<B>>,
     ) -> Result<(), BuildError>
         requires { shard < N }
-        ensures { self.new.world ≡ self.old.world }
+        ensures world { self.new.world ≡ self.old.world }
+        ensures workers { vec_len self.new.eviction_workers ≡ vec_len self.old.eviction_workers }
+        ensures others { vec_len self.new.callback_workers ≡ vec_len self.old.callback_workers }
     {
         self.actors.reserve(1)?;
-        let actor = Actor::new(self.alloc, shard, capacity, usize::MAX / N, seat)?;
+        let actor = Actor::new(self.alloc, shard, N, capacity, seat)?;
         let gate = match gate {
             Some(gate) => Some(Arc::try_clone(gate)?),
             None => None,
         };
         let (ended, theirs) = cell_and_clone(self.alloc)?;
-        start_actor(rt, Arc::try_clone(&self.world)?, gate, actor, theirs)?;
+        let placed = Placed {
+            actor,
+            world: Arc::try_clone(&self.world)?,
+        };
+        start_actor(rt, placed, gate, theirs)?;
         self.actors.push_reserved(ended);
         Ok(())
     }
@@ -142,13 +167,15 @@ impl<K: Hash + Eq + Clone + Drop + Send + Sync + 'static, const N: usize> AsyncL
         count: usize,
         seed: u64,
     ) -> Result<(), BuildError>
-        ensures { self.new.world ≡ self.old.world }
+        ensures world { self.new.world ≡ self.old.world }
+        ensures started { OnOk result (vec_len self.new.eviction_workers ≡ vec_len self.old.eviction_workers + count) }
+        ensures others { vec_len self.new.callback_workers ≡ vec_len self.old.callback_workers }
     {
         for number in 0..count {
             self.eviction_workers.reserve(1)?;
-            let seed = seed.wrapping_add(number as u64);
             let (ended, theirs) = cell_and_clone(self.alloc)?;
-            start_eviction_worker(rt, Arc::try_clone(&self.world)?, seed, theirs)?;
+            let world = Arc::try_clone(&self.world)?;
+            start_eviction_worker(rt, world, seed_of(seed, number), theirs)?;
             self.eviction_workers.push_reserved(ended);
         }
         Ok(())
@@ -162,10 +189,12 @@ impl<K: Hash + Eq + Clone + Drop + Send + Sync + 'static, const N: usize> AsyncL
         rt: R,
         callback: &Arc<C, Global>,
         count: usize,
-        takes: Vec<TakeSeat>,
+        takes: Vec<TakeSeat<B>>,
     ) -> Result<(), BuildError>
         requires { C.ready (arc_value callback.now) }
-        ensures { self.new.world ≡ self.old.world }
+        ensures world { self.new.world ≡ self.old.world }
+        ensures started { OnOk result (vec_len self.new.callback_workers ≡ vec_len self.old.callback_workers + count) }
+        ensures others { vec_len self.new.eviction_workers ≡ vec_len self.old.eviction_workers }
     {
         let mut takes = takes;
         takes.reverse();
@@ -181,13 +210,13 @@ impl<K: Hash + Eq + Clone + Drop + Send + Sync + 'static, const N: usize> AsyncL
     }
 }
 
-impl<K: Drop, const N: usize> AsyncLru<K, N> {
+impl<K: Drop, const N: usize, B: Registry> AsyncLru<K, N, B> {
     // With a receiver of its evicted pairs.
     pub(crate) fn with_receiver(
         self,
         rt: &impl Wait,
         alone: bool,
-    ) -> Result<(Self, EvictionReceiver<K>), BuildError>
+    ) -> Result<(Self, EvictionReceiver<K, B>), BuildError>
         ensures { IfOk result (λ made. limits_of made.0 ≡ limits_of self) }
     {
         match Arc::try_clone(&self.world) {

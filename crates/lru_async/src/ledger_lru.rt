@@ -1,62 +1,77 @@
 //! An order served by actors, whose evicted pairs are counted.
-ghost use Rattle.std.specs.Prelude.{◌≡◌};
+ghost use Rattle.std.specs.Prelude.{◌≡◌, length};
 ghost use Rattle.lru_ledger.specs.Ledger.{slips_of};
 ghost use Rattle.lru_ledger.specs.Slips.{lists_of, IsSettled};
-ghost use Rattle.lru_async.specs.Orders.{order_of};
 
 use crate::async_lru::AsyncLru;
+use crate::seats_back::{all_puts, all_takes, sole};
 use lru_ledger::Settled;
-use lru_ledgers::{LedgerBox, PutSeat, TakeSeat};
+use lru_ledgers::{LedgerBox, PutSeat, Registry, TakeSeat};
 use std::alloc::Global;
+use std::marker::Brand;
 use std::sync::{Arc, Wait};
 
 /// An [`AsyncLru`] whose evicted pairs go through a box: once it is closed, each of them was taken, is lost or is left.
 #[derive(Drop)]
-pub struct LedgerLru<K: Drop, const N: usize> {
-    lru: AsyncLru<K, N>,
-    ledger: Arc<LedgerBox<K>, Global>,
+pub struct LedgerLru<K: Drop, const N: usize, B: Registry = Brand> {
+    lru: AsyncLru<K, N, B>,
+    ledger: Arc<LedgerBox<K, B>, Global>,
+    takers: usize,
     // empty, with room for all seats
-    puts: Vec<PutSeat>,
-    takes: Vec<TakeSeat>,
+    puts: Vec<PutSeat<B>>,
+    takes: Vec<TakeSeat<B>>,
+    ghost putters_are: { B.putters ≡ N },
+    ghost takers_are: { B.takers ≡ takers },
 }
 
-impl<K: Drop, const N: usize> LedgerLru<K, N> {
+impl<K: Drop, const N: usize, B: Registry> LedgerLru<K, N, B> {
+    ghost use Rattle.lru_async.specs.Orders.{order_of};
+
     pub(crate) fn new(
-        lru: AsyncLru<K, N>,
-        ledger: Arc<LedgerBox<K>, Global>,
-        puts: Vec<PutSeat>,
-        takes: Vec<TakeSeat>,
+        lru: AsyncLru<K, N, B>,
+        ledger: Arc<LedgerBox<K, B>, Global>,
+        takers: usize,
+        puts: Vec<PutSeat<B>>,
+        takes: Vec<TakeSeat<B>>,
     ) -> Self
+        requires counts { (B.putters ≡ N) × (B.takers ≡ takers) }
         ensures { order_of result ≡ lru }
     {
         LedgerLru {
             lru,
             ledger,
+            takers,
             puts,
             takes,
         }
     }
 
     /// The order. Its `lost_pairs` answers how many pairs the box lost.
-    pub fn lru(&self) -> &AsyncLru<K, N>
+    pub fn lru(&self) -> &AsyncLru<K, N, B>
         ensures { result.now ≡ order_of self.now }
     {
         &self.lru
     }
 
-    /// Ends all threads as `AsyncLru::close` does, takes their seats back, and tells what became of every pair.
+    /// Ends all threads as `AsyncLru::close` does, takes their seats back, and settles the box with all of them: it tells
+    /// what became of every pair, for each actor what it put, and for each callback worker what it took.
     pub fn close(self, rt: &impl Wait) -> Settled<K>
-        ensures { IsSettled (lists_of result.puts.items) (lists_of result.takes.items) result.lost.items (slips_of result.left.items) }
+        ensures puts { length result.puts.items ≡ N }
+        ensures takes { length result.takes.items ≡ B.takers }
+        ensures settled { IsSettled (lists_of result.puts.items) (lists_of result.takes.items) result.lost.items (slips_of result.left.items) }
     {
         let LedgerLru {
             lru,
             ledger,
+            takers,
             puts,
             takes,
         } = self;
         let mut puts = puts;
         let mut takes = takes;
         lru.end(rt, &mut puts, &mut takes);
-        ledger.settle(rt, puts, takes)
+        let puts = all_puts(rt, puts, N);
+        let takes = all_takes(rt, takes, takers);
+        sole(rt, ledger).settle(puts, takes)
     }
 }

@@ -8,4 +8,6 @@ mod launching;
 pub mod ledger_lru;
 pub mod receiver;
 pub mod refusals;
+mod seats_back;
+mod sends;
 mod threads;

@@ -1,19 +1,21 @@
 //! A receiver of evicted pairs.
+use lru_ledgers::Registry;
 use lru_world::outlet::Taken;
 use lru_world::world::World;
 use std::alloc::Global;
+use std::marker::Brand;
 use std::sync::{Arc, Wait};
 
 /// Receives evicted pairs. A receiver that is dropped without `leave` lets them wait on.
 #[derive(Drop)]
-pub struct EvictionReceiver<K: Drop> {
-    world: Arc<World<K>, Global>,
+pub struct EvictionReceiver<K: Drop, B: Registry = Brand> {
+    world: Arc<World<K, B>, Global>,
     // nobody else takes pairs
     alone: bool,
 }
 
-impl<K: Drop> EvictionReceiver<K> {
-    pub(crate) fn new(world: Arc<World<K>, Global>, alone: bool) -> Self {
+impl<K: Drop, B: Registry> EvictionReceiver<K, B> {
+    pub(crate) fn new(world: Arc<World<K, B>, Global>, alone: bool) -> Self {
         EvictionReceiver { world, alone }
     }
 

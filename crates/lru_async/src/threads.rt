@@ -5,7 +5,7 @@ ghost use Rattle.std.specs.Prelude.{◌≡◌, ◌<◌, vec_len};
 ghost use Rattle.std.specs.Arc.{arc_value};
 
 use crate::refusals::BuildError;
-use lru_ledgers::{PutSeat, TakeSeat};
+use lru_ledgers::{PutSeat, Registry, TakeSeat};
 use lru_letters::ReplyCell;
 use lru_world::actor::Actor;
 use lru_world::callback::{AsyncEvictionCallback, Gate};
@@ -18,20 +18,35 @@ use std::sync::{Arc, Wait};
 use std::thread;
 use std::thread::Threads;
 
+// An actor with the world that it works in, whose cap is that of one of the world's shards.
+#[derive(Drop)]
+pub(crate) struct Placed<K: Drop, B: Registry> {
+    pub(crate) actor: Actor<K, B>,
+    pub(crate) world: Arc<World<K, B>, Global>,
+    ghost one_of_all: { actor.shards ≡ vec_len (arc_value world).shards },
+}
+
+impl<K: Clone + Drop, B: Registry> Placed<K, B> {
+    // What the actor does, to its end. The world is let go then, and its seat given back.
+    fn run<G: Gate, R: Wait>(self, rt: &R, gate: &Option<Arc<G, Global>>) -> Option<PutSeat<B>> {
+        let Placed { actor, world } = self;
+        actor.run(rt, &*world, gate)
+    }
+}
+
 pub(crate) fn start_actor<
     K: Clone + Drop + Send + Sync + 'static,
+    B: Registry + Send + Sync + 'static,
     G: Gate + Drop + 'static,
     R: Threads + Wait + Copy + Send + 'static,
 >(
     rt: R,
-    world: Arc<World<K>, Global>,
+    placed: Placed<K, B>,
     gate: Option<Arc<G, Global>>,
-    actor: Actor<K>,
-    ended: Arc<ReplyCell<Option<PutSeat>>, Global>,
+    ended: Arc<ReplyCell<Option<PutSeat<B>>>, Global>,
 ) -> Result<(), BuildError> {
     let job = move || {
-        let seat = actor.run(&rt, &*world, &gate);
-        drop(world);
+        let seat = placed.run(&rt, &gate);
         drop(gate);
         ended.give(&rt, seat);
     };
@@ -44,9 +59,10 @@ pub(crate) fn start_actor<
 pub(crate) fn start_eviction_worker<
     K: Drop + Send + Sync + 'static,
     R: Threads + Wait + Copy + Send + 'static,
+    B: Registry + Send + Sync + 'static,
 >(
     rt: R,
-    world: Arc<World<K>, Global>,
+    world: Arc<World<K, B>, Global>,
     seed: u64,
     ended: Arc<ReplyCell<()>, Global>,
 ) -> Result<(), BuildError>
@@ -69,12 +85,13 @@ pub(crate) fn start_callback_worker<
     K: Drop + Send + Sync + 'static,
     C: AsyncEvictionCallback<K> + Drop + 'static,
     R: Threads + Wait + Copy + Send + 'static,
+    B: Registry + Send + Sync + 'static,
 >(
     rt: R,
-    world: Arc<World<K>, Global>,
+    world: Arc<World<K, B>, Global>,
     callback: Arc<C, Global>,
-    seat: Option<TakeSeat>,
-    ended: Arc<ReplyCell<Option<TakeSeat>>, Global>,
+    seat: Option<TakeSeat<B>>,
+    ended: Arc<ReplyCell<Option<TakeSeat<B>>>, Global>,
 ) -> Result<(), BuildError>
     requires { C.ready (arc_value callback) }
 {

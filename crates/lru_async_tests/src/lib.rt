@@ -6,10 +6,16 @@ mod callbacks;
 #[cfg(test)]
 mod calls;
 #[cfg(test)]
+mod drawn;
+#[cfg(test)]
+mod limits;
+#[cfg(test)]
 mod replays;
 #[cfg(test)]
 mod rows;
 #[cfg(test)]
 mod running;
+#[cfg(test)]
+mod served;
 #[cfg(test)]
 mod soak;

@@ -1,8 +1,12 @@
 //! What only running threads show.
+ghost use Rattle.std.specs.Prelude.{◌≡◌};
+
 use crate::callbacks::{Counting, Holding, LOOKS, Meeting, Quiet, is_raised};
 use lru_async::async_lru::AsyncLru;
 use lru_ledger::Settled;
+use lru_ledgers::{Blanks, Registry};
 use std::alloc::Global;
+use std::marker::Brand;
 use std::sync::atomic::Ordering;
 use std::sync::{Arc, Wait};
 use std::test::Fail;
@@ -10,7 +14,7 @@ use std::thread;
 use std::thread::Threads;
 
 // Whether so many rows are evicted soon.
-fn evicts<const N: usize>(lru: &AsyncLru<u64, N>, count: usize) -> bool {
+fn evicts<B: Registry, const N: usize>(lru: &AsyncLru<u64, N, B>, count: usize) -> bool {
     for _ in 0..LOOKS {
         if lru.evicted_len() >= count {
             return true;
@@ -97,7 +101,7 @@ fn a_held_shard_holds_up_no_other(rt: HostRuntime) -> Result<(), Fail> {
 }
 
 // Admits keys 1, 2 and 3 with weight 10, and waits until one is evicted.
-fn fills<R: Wait>(rt: &R, lru: &AsyncLru<u64, 1>) -> bool {
+fn fills<B: Registry, R: Wait>(rt: &R, lru: &AsyncLru<u64, 1, B>) -> bool {
     for key in 1..4u64 {
         if lru.admit(rt, key, 10).is_err() {
             return false;
@@ -259,18 +263,35 @@ fn all_left(settled: &Settled<u64>) -> (usize, bool) {
     (puts.len(), same)
 }
 
+// Fills an order whose pairs nobody takes, and closes it.
+fn untaken<B: Registry + Send + Sync + 'static, R: Threads + Wait + Copy + Send + Sync + 'static>(
+    rt: R,
+    alloc: Global,
+    quiet: Arc<Quiet, Global>,
+    blanks: Blanks,
+) -> Option<(bool, Settled<u64>)>
+    requires tables { (blanks.puts.tie.table.shared.table_id ≡ B.puts) × (blanks.takes.tie.table.shared.table_id ≡ B.takes) }
+    requires counts { (B.putters ≡ 1) × (B.takers ≡ 0) }
+    requires blanks { (blanks.putters ≡ 1) × (blanks.takers ≡ 0) }
+{
+    let Ok(ledger) = AsyncLru::<u64, 1>::builder(alloc, 20, quiet)
+        .num_callback_workers(0)
+        .build_with_ledger::<R, B>(rt, blanks)
+    else {
+        return None;
+    };
+    let filled = fills(&rt, ledger.lru());
+    Some((filled, ledger.close(&rt)))
+}
+
 #[test]
 fn a_ledger_keeps_what_nobody_takes(rt: HostRuntime) -> Result<(), Fail> {
     let alloc: Global = rt.alloc();
     let quiet = Arc::new(alloc, Quiet)?;
-    let Ok(ledger) = AsyncLru::<u64, 1>::builder(alloc, 20, quiet)
-        .num_callback_workers(0)
-        .build_with_ledger(rt)
-    else {
+    let blanks = Blanks::new(alloc, 1, 0)?;
+    let Some((filled, settled)) = untaken::<Brand, _>(rt, alloc, quiet, blanks) else {
         panic!(rt; "no threads");
     };
-    let filled = fills(&rt, ledger.lru());
-    let settled = ledger.close(&rt);
     let (count, same) = all_left(&settled);
     assert!(rt; filled && count >= 1 && same);
     Ok(())

@@ -1,11 +1,15 @@
 //! Many senders under a limit: every evicted pair is accounted for.
+ghost use Rattle.std.specs.Prelude.{◌≡◌};
+
 use lru_async::async_lru::AsyncLru;
 use lru_ledger::{Settled, Slip};
+use lru_ledgers::{Blanks, Registry};
 use lru_world::callback::AsyncEvictionCallback;
 use rand::RngExt;
 use rand::rngs::StdRng;
 use rand_core::SeedableRng;
 use std::alloc::Global;
+use std::marker::Brand;
 use std::sync::atomic::{AtomicUsize, Ordering};
 use std::sync::{Arc, Wait};
 use std::test::Fail;
@@ -32,7 +36,7 @@ impl AsyncEvictionCallback<u64> for Adding {
 }
 
 // Fifty thousand drawn sends. Whether each was taken.
-fn draw_sends<R: Wait>(rt: &R, lru: &AsyncLru<u64, 4>, seed: u64) -> bool {
+fn draw_sends<B: Registry, R: Wait>(rt: &R, lru: &AsyncLru<u64, 4, B>, seed: u64) -> bool {
     let mut rng = StdRng::seed_from_u64(seed);
     let mut taken = true;
     for _ in 0..50_000u32 {
@@ -51,7 +55,10 @@ fn draw_sends<R: Wait>(rt: &R, lru: &AsyncLru<u64, 4>, seed: u64) -> bool {
 }
 
 // Four senders at once.
-fn four_send<R: Threads + Wait + Sync>(rt: &R, lru: &AsyncLru<u64, 4>) -> bool {
+fn four_send<B: Registry + Send + Sync, R: Threads + Wait + Sync>(
+    rt: &R,
+    lru: &AsyncLru<u64, 4, B>,
+) -> bool {
     let (first, second) = thread::join(
         rt,
         || thread::join(rt, || draw_sends(rt, lru, 1), || draw_sends(rt, lru, 2)),
@@ -85,6 +92,28 @@ fn all_sums(lists: &Vec<Vec<Slip>>) -> (usize, usize, usize) {
     all
 }
 
+// Sends under a limit, and closes. Whether each send was taken, and what is settled; nothing where there are no threads.
+fn soaked<B: Registry + Send + Sync + 'static, R: Threads + Wait + Copy + Send + Sync + 'static>(
+    rt: R,
+    alloc: Global,
+    adding: Arc<Adding, Global>,
+    blanks: Blanks,
+) -> Option<(bool, Settled<u64>)>
+    requires tables { (blanks.puts.tie.table.shared.table_id ≡ B.puts) × (blanks.takes.tie.table.shared.table_id ≡ B.takes) }
+    requires counts { (B.putters ≡ 4) × (B.takers ≡ 2) }
+    requires blanks { (blanks.putters ≡ 4) × (blanks.takers ≡ 2) }
+{
+    let Ok(ledger) = AsyncLru::<u64, 4>::builder(alloc, 300, adding)
+        .num_eviction_workers(2)
+        .num_callback_workers(2)
+        .build_with_ledger::<R, B>(rt, blanks)
+    else {
+        return None;
+    };
+    let sent = four_send(&rt, ledger.lru());
+    Some((sent, ledger.close(&rt)))
+}
+
 #[test]
 fn every_pair_is_accounted_for(rt: HostRuntime) -> Result<(), Fail> {
     let alloc: Global = rt.alloc();
@@ -94,15 +123,11 @@ fn every_pair_is_accounted_for(rt: HostRuntime) -> Result<(), Fail> {
         weights: AtomicUsize::new(0),
     };
     let adding = Arc::new(alloc, adding)?;
-    let Ok(ledger) = AsyncLru::<u64, 4>::builder(alloc, 300, Arc::try_clone(&adding)?)
-        .num_eviction_workers(2)
-        .num_callback_workers(2)
-        .build_with_ledger(rt)
-    else {
+    let blanks = Blanks::new(alloc, 4, 2)?;
+    let theirs = Arc::try_clone(&adding)?;
+    let Some((sent, settled)) = soaked::<Brand, _>(rt, alloc, theirs, blanks) else {
         panic!(rt; "no threads");
     };
-    let sent = four_send(&rt, ledger.lru());
-    let settled = ledger.close(&rt);
     let called = (
         adding.calls.load(Ordering::SeqCst),
         adding.hashes.load(Ordering::SeqCst),

@@ -1,7 +1,7 @@
 -- Eviction: when a core is over, whose last row leaves, and whole runs.
 use Rattle.std.specs.Prelude.{◌≡◌, ℕ, ◌+◌, ◌<◌, ◌≤◌, ◌%◌, ◌^◌, Bool, List, [], ◌∷◌, length, take, slice_index_or, Option, Some, None, MatchOption, IsTrue, IsFalse}
 use Rattle.lru_shard.specs.Row.{Row, pair_of, last_row, without_last}
-use Rattle.lru_shard.specs.Shard.{longer_of}
+use Rattle.lru_rules.specs.Victims.{longer_of}
 use Rattle.lru_rules.specs.Limits.{is_past}
 use Rattle.lru_rules.specs.Draws.{drawn_shards}
 use Rattle.rand_core.specs.Stream.{Stream}

@@ -5,7 +5,7 @@ ghost use Rattle.lru_cores.specs.Eviction.{IsVictim};
 ghost use Rattle.lru_cores.specs.Representation.Units.{lists_of};
 
 pub use lru_rules::eviction::EvictError;
-use lru_rules::eviction::{drawn_shards, is_past, place_after};
+use lru_rules::eviction::{drawn_shards, is_past, longer_of, place_after};
 use lru_rules::totals::Totals;
 use lru_shard::unit::{Cause, LruUnit, LruUnitIter, Refused};
 use rand_core::Rng;
@@ -299,11 +299,7 @@ impl<T, const N: usize> LruCore<T, N> {
         if !self.is_over() {
             return None;
         }
-        let start = if self.units[b].len() <= self.units[a].len() {
-            a
-        } else {
-            b
-        };
+        let start = longer_of(a, b, self.units[a].len(), self.units[b].len());
         let Some(victim) = first_held(&self.units, start) else {
             unreachable!()
         };
@@ -425,7 +421,7 @@ impl<T: Drop, const N: usize> LruCore<T, N> {
         self.totals.change(before, after);
         let (was, _) = match answer {
             Ok(done) => done,
-            Err(refused) => return Err(refused),
+            Err(refused) => return Err(refused.untold()),
         };
         Ok(was)
     }

@@ -1,5 +1,5 @@
 //! Where evicted pairs go.
-ghost use Rattle.std.specs.Prelude.{◌≡◌, IsOk};
+ghost use Rattle.std.specs.Prelude.{◌≡◌, IsOk, IsErr};
 ghost use Rattle.lru_dispatch.specs.Queue.{dispatched};
 
 use lru_mailbox::MailState;
@@ -16,6 +16,9 @@ pub trait Dispatch<K> {
     // there is room for one more
     ghost HasRoom: { Self → Type 0 };
 
+    // room for one more may be refused
+    ghost MayRefuse: { Self → Type 0 };
+
     // what a put of a pair, of this hash, does to all of it
     ghost Puts: { Self → ℕ → K → ℕ → Self → Type 0 };
 
@@ -25,6 +28,7 @@ pub trait Dispatch<K> {
     /// Makes room for one more pair. Nothing else changes, also where memory refuses it.
     fn reserve_one(&mut self) -> Result<(), AllocError>
         ensures room { IsOk result → HasRoom self.new }
+        ensures refused { IsErr result → MayRefuse self.old }
         ensures same { IsSame self.old self.new }
         ensures queue { queue self.new ≡ queue self.old };
 
@@ -43,6 +47,8 @@ impl<K: Drop> Dispatch<K> for MailState<(K, usize)> {
     ghost queue = { λ s. queue_of_post s.post };
 
     ghost HasRoom = { λ s. 0 < s.room };
+
+    ghost MayRefuse = { λ s. s.room ≡ 0 };
 
     ghost Puts = { λ s hash key weight t. t.post ≡ posted_or_lost s.post (key, weight) };
 

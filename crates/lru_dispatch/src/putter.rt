@@ -20,6 +20,8 @@ impl<'a, K: Drop> Dispatch<K> for Putter<'a, K> {
 
     ghost HasRoom = { λ s. 0 < min s.ledger.now.room s.share.now.room };
 
+    ghost MayRefuse = { λ s. min s.ledger.now.room s.share.now.room ≡ 0 };
+
     ghost Puts = { λ s hash key weight t. IsPut s.ledger.now.book s.share.now.slips hash key weight t.ledger.now.book t.share.now.slips };
 
     ghost IsSame = { λ s t. (t.ledger.now.book ≡ s.ledger.now.book) × (t.share.now.slips ≡ s.share.now.slips) };
@@ -29,6 +31,6 @@ impl<'a, K: Drop> Dispatch<K> for Putter<'a, K> {
     }
 
     fn put(&mut self, hash: u64, key: K, weight: usize) {
-        self.ledger.put_reserved(self.share, hash, key, weight);
+        let _slip = self.ledger.put_reserved(self.share, hash, key, weight);
     }
 }

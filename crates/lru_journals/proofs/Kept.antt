@@ -4,10 +4,12 @@ use Rattle.std.specs.Prelude.{slice_get}
 use Rattle.lru_journals.specs.declared.entry.Stamp.{Stamp}
 use Rattle.lru_journals.specs.declared.entry.Entry.{Entry}
 use Rattle.lru_journals.specs.declared.entry.Receipt.{Receipt}
-use Rattle.lru_journals.specs.Ties.{hand, up, Among, Shows}
+use Rattle.lru_hands.specs.Hands.{up, Among}
+use Rattle.lru_journals.specs.Ties.{hand, Shows}
 use Rattle.lru_journals.specs.Stamps.{entry, receipt, stamp, slip, stamps_in, slips_in, TurnsRise}
 use Rattle.lru_journals.specs.Tied.{AreKept, AreHeld, PlacesRise, AreTied, IsBook}
-use Rattle.lru_journals.proofs.Lists.{some_same, none_some, find_stamp, find_slip, at_stamp, at_slip}
+use Rattle.lru_hands.proofs.Hands.{some_same, none_some, up_get, up_some}
+use Rattle.lru_journals.proofs.Lists.{find_stamp, find_slip, at_stamp, at_slip}
 
 module _ {A B : Type 0} where
   pub map_get : (f : A → B) (l : List A) (i : ℕ) (b : B) → slice_get (map f l) i ≡ Some b → (a : A) × ((slice_get l i ≡ Some a) × (f a ≡ b))
@@ -19,16 +21,6 @@ module _ {A B : Type 0} where
   get_map f [] i a e = absurd (none_some a e)
   get_map f (x ∷ xs) zero a e = ap (λ (y : A). Some (f y)) (some_same x a e)
   get_map f (x ∷ xs) (suc i) a e = get_map f xs i a e
-
-up_get : (from n k x : ℕ) → slice_get (up from n) k ≡ Some x → x ≡ from + k
-up_get from zero k x e = absurd (none_some x e)
-up_get from (suc n) zero x e = let s : from ≡ x = some_same from x e in omega arith
-up_get from (suc n) (suc k) x e = let ih = up_get (suc from) n k x e in omega (arith, ih)
-
-up_some : (from n k : ℕ) → k < n → slice_get (up from n) k ≡ Some (from + k)
-up_some from zero k h = absurd (omega (arith, h))
-up_some from (suc n) zero h = let s : from ≡ from + 0 = omega arith in ap (λ (m : ℕ). Some m) s
-up_some from (suc n) (suc k) h = up_some (suc from) n k (omega (arith, h)) ∙ (let s : suc from + k ≡ from + suc k = omega arith in ap (λ (m : ℕ). Some m) s)
 
 module _ {S : Type 0} (number : S → ℕ) (own : S → List Receipt) (n m : ℕ) (shards : List ℕ) (book : List Stamp) (hs : List (List Entry)) (ss : List S)
     (numbers : map number ss ≡ up 0 m)

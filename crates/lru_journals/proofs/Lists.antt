@@ -4,14 +4,9 @@ use Rattle.std.specs.Prelude.{slice_get}
 use Rattle.lru_journals.specs.declared.entry.Stamp.{Stamp}
 use Rattle.lru_journals.specs.declared.entry.Entry.{Entry}
 use Rattle.lru_journals.specs.declared.entry.Receipt.{Receipt}
-use Rattle.lru_journals.specs.Ties.{Among}
+use Rattle.lru_hands.specs.Hands.{Among}
+use Rattle.lru_hands.proofs.Hands.{some_same, none_some}
 use Rattle.lru_journals.specs.Stamps.{stamp, slip, stamps_in, slips_in, TurnsRise}
-
-pub some_same : {A : Type 0} (x y : A) → Some x ≡ Some y → x ≡ y
-some_same x y e = cc
-
-pub none_some : {A : Type 0} (x : A) → None ≡ Some x → ⊥
-none_some x e = cc
 
 pub stamps_snoc : (s p : ℕ) (es : List Entry) (e : Entry) → stamps_in s p (es ++ e ∷ []) ≡ stamps_in s p es ++ stamp s (p + length es) e ∷ []
 stamps_snoc s p [] e = let n : p ≡ p + 0 = omega arith in λ i. stamp s (n i) e ∷ []

@@ -5,158 +5,19 @@ use mathlib.Core.Option.{some, none, some-ne-none, some-injective}
 use native.Mathlib.Decide.{ℕ_discrete}
 use lib.ListN.{get_elem?}
 use Rattle.atomic_table.specs.Table.{State, Me, keeps, step, Allows, Splits, Joins}
-use Rattle.atomic_table.proofs.Lists.{at_set, at_snoc, set_else}
+use Rattle.atomic_table.proofs.Lists.{at_set, at_snoc, set_else, set_again}
 use Rattle.lru_journals.specs.declared.entry.Stamp.{Stamp}
 use Rattle.lru_journals.specs.declared.entry.Hand.{Hand}
 use Rattle.lru_journals.specs.declared.entry.Names.{Names}
-use Rattle.lru_journals.specs.Ties.{hand, total, times, up, Among, Held, Owns, AllOwn, Ties, HasSlips, stamped, Stamps, Shows, Looks, joined}
-
-module _ {A : Type 0} where
-  pub among_left : (x : A) (xs ys : List A) → Among x xs → Among x (xs ++ ys)
-  among_left x [] ys a = absurd a
-  among_left x (y ∷ xs) ys (inl e) = inl e
-  among_left x (y ∷ xs) ys (inr a) = inr (among_left x xs ys a)
-
-  pub among_right : (x : A) (xs ys : List A) → Among x ys → Among x (xs ++ ys)
-  among_right x [] ys a = a
-  among_right x (y ∷ xs) ys a = inr (among_right x xs ys a)
-
-  pub among_either : (x : A) (xs ys : List A) → Among x (xs ++ ys) → Among x xs ⊎ Among x ys
-  among_either x [] ys a = inr a
-  among_either x (y ∷ xs) ys (inl e) = inl (inl e)
-  among_either x (y ∷ xs) ys (inr a) = ⊎_elim (λ b. inl (inr b)) (λ b. inr b) (among_either x xs ys a)
-
-  set_at : (l : List A) (i : ℕ) (a b : A) → get_elem? l i ≡ some a → get_elem? (set l i b) i ≡ some b
-  set_at [] i a b e = absurd (some-ne-none a (sym e))
-  set_at (x ∷ xs) zero a b e = refl
-  set_at (x ∷ xs) (suc i) a b e = set_at xs i a b e
-
-  set_again : (l : List A) (i : ℕ) (a : A) → get_elem? l i ≡ some a → set l i a ≡ l
-  set_again [] i a e = refl
-  set_again (x ∷ xs) zero a e = λ k. sym (some-injective x a e) k ∷ xs
-  set_again (x ∷ xs) (suc i) a e = λ k. x ∷ set_again xs i a e k
-
-  total_set : (f : A → ℕ) (vs : List A) (i : ℕ) (v w : A) → get_elem? vs i ≡ some v → total f (set vs i w) + f v ≡ total f vs + f w
-  total_set f [] i v w e = absurd (some-ne-none v (sym e))
-  total_set f (x ∷ xs) zero v w e = let same : f x ≡ f v = ap f (some-injective x v e) in omega (arith, same)
-  total_set f (x ∷ xs) (suc i) v w e = let ih = total_set f xs i v w e in omega (arith, ih)
-
-  pub total_append : (f : A → ℕ) (vs ws : List A) → total f (vs ++ ws) ≡ total f vs + total f ws
-  total_append f [] ws = omega arith
-  total_append f (x ∷ xs) ws = let ih = total_append f xs ws in omega (arith, ih)
-
-  -- what stands at one place is within the total
-  at_most : (f : A → ℕ) (vs : List A) (i : ℕ) (v : A) → get_elem? vs i ≡ some v → f v ≤ total f vs
-  at_most f [] i v e = absurd (some-ne-none v (sym e))
-  at_most f (x ∷ xs) zero v e = let same : f x ≡ f v = ap f (some-injective x v e) in omega (arith, same)
-  at_most f (x ∷ xs) (suc i) v e = let ih = at_most f xs i v e in omega (arith, ih)
-
-  two_within : (f : A → ℕ) (vs : List A) (i j : ℕ) (v u : A) → j ≢ i → get_elem? vs i ≡ some v → get_elem? vs j ≡ some u → f u + f v ≤ total f vs
-  two_within f [] i j v u n e d = absurd (some-ne-none v (sym e))
-  two_within f (x ∷ xs) zero zero v u n e d = absurd (n refl)
-  two_within f (x ∷ xs) zero (suc j) v u n e d = let same : f x ≡ f v = ap f (some-injective x v e) in let ih = at_most f xs j u d in omega (arith, same, ih)
-  two_within f (x ∷ xs) (suc i) zero v u n e d = let same : f x ≡ f u = ap f (some-injective x u d) in let ih = at_most f xs i v e in omega (arith, same, ih)
-  two_within f (x ∷ xs) (suc i) (suc j) v u n e d = let ih = two_within f xs i j v u (λ p. n (ap suc p)) e d in omega (arith, ih)
-
--- numbers: to stand there is to stand there once at least
-counts_one : (x y : ℕ) → y ≡ x → ◌≡◌ {A = ℕ} (if y == x then 1 else 0) 1
-counts_one x y e = ap (λ (b : Bool). cond {A = ℕ} b 1 0) (eq-eqb y x e)
-
-counts_none : (x y : ℕ) → y ≢ x → ◌≡◌ {A = ℕ} (if y == x then 1 else 0) 0
-counts_none x y n = ap (λ (b : Bool). cond {A = ℕ} b 1 0) (ne_eqb y x n)
-
-pub among_times : (x : ℕ) (xs : List ℕ) → Among x xs → 0 < times x xs
-among_times x [] a = absurd a
-among_times x (y ∷ ys) (inl e) = omega (arith, counts_one x y (sym e))
-among_times x (y ∷ ys) (inr a) = let ih = among_times x ys a in omega (arith, ih)
-
-pub times_among : (x : ℕ) (xs : List ℕ) → 0 < times x xs → Among x xs
-times_among x [] h = absurd (omega (arith, h))
-times_among x (y ∷ ys) h = by_first (ℕ_discrete y x) (times_among x ys)
-  where
-    by_first : Dec (y ≡ x) → (0 < times x ys → Among x ys) → Among x (y ∷ ys)
-    by_first (yes e) rest = inl (sym e)
-    by_first (no n) rest = inr (rest (omega (arith, h, counts_none x y n)))
-
-none_before : (x from k : ℕ) → x < from → times x (up from k) ≡ 0
-none_before x from zero h = refl
-none_before x from (suc k) h = omega (arith, none_before x (suc from) k (omega (arith, h)), counts_none x from (λ e. omega (arith, h, e)))
-
--- of the numbers from one up each stands once, and no other does
-pub times_up : (x from k : ℕ) → times x (up from k) ≤ 1
-times_up x from zero = omega arith
-times_up x from (suc k) = by_first (ℕ_discrete from x) (times_up x (suc from) k)
-  where
-    by_first : Dec (from ≡ x) → times x (up (suc from) k) ≤ 1 → times x (up from (suc k)) ≤ 1
-    by_first (yes e) rest = omega (arith, none_before x (suc from) k (omega (arith, e)), counts_one x from e)
-    by_first (no n) rest = omega (arith, rest, counts_none x from n)
-
-pub up_below : (x from k : ℕ) → 0 < times x (up from k) → x < from + k
-up_below x from zero h = absurd (omega (arith, h))
-up_below x from (suc k) h = by_first (ℕ_discrete from x) (up_below x (suc from) k)
-  where
-    by_first : Dec (from ≡ x) → (0 < times x (up (suc from) k) → x < suc from + k) → x < from + suc k
-    by_first (yes e) rest = omega (arith, e)
-    by_first (no n) rest = omega (arith, rest (omega (arith, h, counts_none x from n)))
-
-held_at : (f : Hand → List Stamp) (x : Stamp) (vs : List Hand) (i : ℕ) (v : Hand) → get_elem? vs i ≡ some v → Among x (f v) → Held f x vs
-held_at f x [] i v e a = absurd (some-ne-none v (sym e))
-held_at f x (u ∷ us) zero v e a = inl (subst (λ w. Among x (f w)) (sym (some-injective u v e)) a)
-held_at f x (u ∷ us) (suc i) v e a = inr (held_at f x us i v e a)
-
-held_find : (f : Hand → List Stamp) (x : Stamp) (vs : List Hand) → Held f x vs → (j : ℕ) × (u : Hand) × (get_elem? vs j ≡ some u) × Among x (f u)
-held_find f x [] h = absurd h
-held_find f x (u ∷ us) (inl a) = (0, u, refl, a)
-held_find f x (u ∷ us) (inr h) = let r = held_find f x us h in (suc r.0, r.1, r.2, r.3)
-
-held_to : (f : Hand → List Stamp) (x : Stamp) (vs : List Hand) (i : ℕ) (v w : Hand) → get_elem? vs i ≡ some v → Held f x vs → Among x (f v) ⊎ Held f x (set vs i w)
-held_to f x [] i v w e h = absurd h
-held_to f x (u ∷ us) zero v w e (inl a) = inl (subst (λ y. Among x (f y)) (some-injective u v e) a)
-held_to f x (u ∷ us) zero v w e (inr h) = inr (inr h)
-held_to f x (u ∷ us) (suc i) v w e (inl a) = inr (inl a)
-held_to f x (u ∷ us) (suc i) v w e (inr h) = ⊎_elim (λ a. inl a) (λ b. inr (inr b)) (held_to f x us i v w e h)
-
-held_from : (f : Hand → List Stamp) (x : Stamp) (vs : List Hand) (i : ℕ) (w : Hand) → Held f x (set vs i w) → Among x (f w) ⊎ Held f x vs
-held_from f x [] i w h = absurd h
-held_from f x (u ∷ us) zero w (inl a) = inl a
-held_from f x (u ∷ us) zero w (inr h) = inr (inr h)
-held_from f x (u ∷ us) (suc i) w (inl a) = inr (inl a)
-held_from f x (u ∷ us) (suc i) w (inr h) = ⊎_elim (λ a. inl a) (λ b. inr (inr b)) (held_from f x us i w h)
-
-held_snoc : (f : Hand → List Stamp) (x : Stamp) (vs : List Hand) (w : Hand) → Held f x vs → Held f x (vs ++ w ∷ [])
-held_snoc f x [] w h = absurd h
-held_snoc f x (u ∷ us) w (inl a) = inl a
-held_snoc f x (u ∷ us) w (inr h) = inr (held_snoc f x us w h)
-
-held_last : (f : Hand → List Stamp) (x : Stamp) (vs : List Hand) (w : Hand) → Among x (f w) → Held f x (vs ++ w ∷ [])
-held_last f x [] w a = inl a
-held_last f x (u ∷ us) w a = inr (held_last f x us w a)
-
-held_snoc_from : (f : Hand → List Stamp) (x : Stamp) (vs : List Hand) (w : Hand) → Held f x (vs ++ w ∷ []) → Held f x vs ⊎ Among x (f w)
-held_snoc_from f x [] w (inl a) = inr a
-held_snoc_from f x [] w (inr h) = absurd h
-held_snoc_from f x (u ∷ us) w (inl a) = inl (inl a)
-held_snoc_from f x (u ∷ us) w (inr h) = ⊎_elim (λ b. inl (inr b)) (λ a. inr a) (held_snoc_from f x us w h)
+use Rattle.lru_hands.specs.Hands.{total, times, up, Among, Held}
+use Rattle.lru_hands.proofs.Hands.{among_left, among_right, among_either, set_at, at_most, two_within, total_append, among_times, times_up, up_below, held_at, held_find, held_to, held_from, split_to, split_from, join_to, join_from, total_split, total_join, total_same, take_drop, none_in, one_of}
+use Rattle.lru_journals.specs.Ties.{hand, Owns, AllOwn, Ties, HasSlips, stamped, Stamps, Shows, Looks, joined}
 
 own_set : (vs : List Hand) (i : ℕ) (w : Hand) → Owns w → AllOwn vs → AllOwn (set vs i w)
 own_set vs i w q h j u e = ⊎_elim (λ (t : (j ≡ i) × (w ≡ u)). subst Owns t.1 q) (λ (t : (j ≢ i) × (get_elem? vs j ≡ some u)). h j u t.1) (at_set vs i j w u e)
 
 own_snoc : (vs : List Hand) (w : Hand) → Owns w → AllOwn vs → AllOwn (vs ++ w ∷ [])
 own_snoc vs w q h j u e = ⊎_elim (λ (d : get_elem? vs j ≡ some u). h j u d) (λ (t : w ≡ u). subst Owns t q) (at_snoc vs w u j e)
-
--- a hand cut in two, by one list of it
-module _ (f : Hand → List Stamp) (x : Stamp) (vs : List Hand) (i : ℕ) (v l r : Hand) (at : get_elem? vs i ≡ some v) where
-  split_to : (Among x (f v) → Among x (f l) ⊎ Among x (f r)) → Held f x vs → Held f x (set vs i l ++ r ∷ [])
-  split_to cut h = ⊎_elim
-      (λ a. ⊎_elim (λ b. held_snoc f x (set vs i l) r (held_at f x (set vs i l) i l (set_at vs i v l at) b)) (λ b. held_last f x (set vs i l) r b) (cut a))
-      (λ b. held_snoc f x (set vs i l) r b)
-      (held_to f x vs i v l at h)
-
-  split_from : (Among x (f l) → Among x (f v)) → (Among x (f r) → Among x (f v)) → Held f x (set vs i l ++ r ∷ []) → Held f x vs
-  split_from a b h = ⊎_elim
-      (λ c. ⊎_elim (λ d. held_at f x vs i v at (a d)) (λ d. d) (held_from f x vs i l c))
-      (λ d. held_at f x vs i v at (b d))
-      (held_snoc_from f x (set vs i l) r h)
 
 -- what it takes to cut v into l and r
 pub record Cuts (v l r : Hand) : Type 0 where
@@ -170,9 +31,6 @@ pub record Cuts (v l r : Hand) : Type 0 where
   pub slips_to : (x : Stamp) → Among x v.slips → Among x l.slips ⊎ Among x r.slips
   pub slips_l : (x : Stamp) → Among x l.slips → Among x v.slips
   pub slips_r : (x : Stamp) → Among x r.slips → Among x v.slips
-
-total_split : (f : Hand → ℕ) (vs : List Hand) (i : ℕ) (v l r : Hand) → get_elem? vs i ≡ some v → f l + f r ≡ f v → total f (set vs i l ++ r ∷ []) ≡ total f vs
-total_split f vs i v l r at cut = let a = total_set f vs i v l at in let b = total_append f (set vs i l) (r ∷ []) in omega (arith, a, b, cut)
 
 ties_split : (k : Names) (vs : List Hand) (i : ℕ) (v l r : Hand) → Cuts v l r → Ties k vs → get_elem? vs i ≡ some v → Ties k (set vs i l ++ r ∷ [])
 ties_split k vs i v l r cut t at = let B : Hand → List Stamp = λ u. u.book in let S : Hand → List Stamp = λ u. u.slips in record {
@@ -228,16 +86,9 @@ cuts_apart v = record {
   slips_r = λ x a. absurd a;
 }
 
-take_drop : (x : ℕ) (xs : List ℕ) → times x (drop 1 xs) + times x (take 1 xs) ≡ times x xs
-take_drop x [] = refl
-take_drop x (y ∷ ys) = omega arith
-
-none_in : {A : Type 0} (x : A) (xs : List A) → xs ≡ [] → Among x xs → ⊥
-none_in x xs e a = subst (Among x) e a
-
 pub cuts_shard : (v : Hand) → v.book ≡ [] → v.slips ≡ [] → Cuts v (hand (drop 1 v.shards) v.seats [] []) (hand (take 1 v.shards) [] [] [])
 cuts_shard v b s = record {
-  shards = λ x. take_drop x v.shards;
+  shards = λ x. take_drop _ v.shards;
   seats = λ x. omega arith;
   own_l = λ o. ((λ x a. absurd a), (λ x a. absurd a));
   own_r = λ o. ((λ x a. absurd a), (λ x a. absurd a));
@@ -252,7 +103,7 @@ cuts_shard v b s = record {
 pub cuts_seat : (v : Hand) → v.book ≡ [] → v.slips ≡ [] → Cuts v (hand v.shards (drop 1 v.seats) [] []) (hand [] (take 1 v.seats) [] [])
 cuts_seat v b s = record {
   shards = λ x. omega arith;
-  seats = λ x. take_drop x v.seats;
+  seats = λ x. take_drop _ v.seats;
   own_l = λ o. ((λ x a. absurd a), (λ x a. absurd a));
   own_r = λ o. ((λ x a. absurd a), (λ x a. absurd a));
   book_to = λ x a. absurd (none_in x v.book b a);
@@ -262,32 +113,6 @@ cuts_seat v b s = record {
   slips_l = λ x a. absurd a;
   slips_r = λ x a. absurd a;
 }
-
--- two hands put together, by one list of them
-module _ (f : Hand → List Stamp) (x : Stamp) (vs : List Hand) (i j : ℕ) (v w b n : Hand) (at : get_elem? vs i ≡ some v) (apart : j ≢ i) (there : get_elem? vs j ≡ some w) where
-  abbrev after : List Hand
-  after = set (set vs i b) j n
-
-  here : get_elem? after i ≡ some b
-  here = set_else (set vs i b) j i n (λ e. apart (sym e)) ∙ set_at vs i v b at
-
-  beside : get_elem? (set vs i b) j ≡ some w
-  beside = set_else vs i j b apart ∙ there
-
-  join_to : (Among x (f v) → Among x (f b)) → (Among x (f w) → Among x (f b)) → Held f x vs → Held f x after
-  join_to c d h = ⊎_elim
-      (λ a. held_at f x after i b here (c a))
-      (λ g. ⊎_elim (λ a. held_at f x after i b here (d a)) (λ g'. g') (held_to f x (set vs i b) j w n beside g))
-      (held_to f x vs i v b at h)
-
-  join_from : (Among x (f b) → Among x (f v) ⊎ Among x (f w)) → (Among x (f n) → ⊥) → Held f x after → Held f x vs
-  join_from c d h = ⊎_elim
-      (λ a. absurd (d a))
-      (λ g. ⊎_elim (λ a. ⊎_elim (λ p. held_at f x vs i v at p) (λ p. held_at f x vs j w there p) (c a)) (λ g'. g') (held_from f x vs i b g))
-      (held_from f x (set vs i b) j n h)
-
-total_join : (f : Hand → ℕ) (vs : List Hand) (i j : ℕ) (v w b n : Hand) → get_elem? vs i ≡ some v → get_elem? (set vs i b) j ≡ some w → f b ≡ f v + f w → f n ≡ 0 → total f (set (set vs i b) j n) ≡ total f vs
-total_join f vs i j v w b n at there both empty = let p = total_set f vs i v b at in let q = total_set f (set vs i b) j w n there in omega (arith, p, q, both, empty)
 
 both_own : (v w : Hand) → Owns v → Owns w → Owns (joined v w)
 both_own v w p q = (
@@ -377,13 +202,6 @@ module _ (x y : Stamp) (vs : List Hand) (i : ℕ) (v : Hand) (at : get_elem? vs 
       (among_either y (f v) (x ∷ []) (subst (Among y) fw a)))
       (λ b. keep (old b))
       (held_from f y vs i w h)
-
-total_same : (f : Hand → ℕ) (vs : List Hand) (i : ℕ) (v w : Hand) → get_elem? vs i ≡ some v → f w ≡ f v → total f (set vs i w) ≡ total f vs
-total_same f vs i v w at e = let p = total_set f vs i v w at in omega (arith, p, e)
-
-one_of : {A : Type 0} (x y : A) → Among x (y ∷ []) → x ≡ y
-one_of x y (inl e) = e
-one_of x y (inr a) = absurd a
 
 own_stamp : (v : Hand) (x : Stamp) → Among x.shard v.shards → Among x.seat v.seats → Owns v → Owns (stamped (some x) v)
 own_stamp v x s t o = (

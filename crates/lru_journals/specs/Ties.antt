@@ -3,46 +3,19 @@ use Rattle.std.specs.Prelude.{◌≡◌, ℕ, zero, suc, ◌+◌, ◌<◌, ◌�
 use mathlib.Core.Option.{Option, some, none}
 use lib.ListN.{get_elem?}
 use Rattle.atomic_table.specs.Table.{Me, Step}
-use Rattle.atomic_table.specs.Seated.{TableId}
+use Rattle.lru_hands.specs.Hands.{total, times, up, Among, Held}
 use Rattle.lru_journals.specs.declared.entry.Stamp.{Stamp}
 use Rattle.lru_journals.specs.declared.entry.Hand.{Hand}
 use Rattle.lru_journals.specs.declared.entry.Names.{Names}
 
--- the name of no table
-abbrev pub no_table : TableId
-no_table = record { words = 0; slots = 0; views_name = 0; atom = 0; block = 0; offset = 0; slot_names = [] }
-
 abbrev pub hand : List ℕ → List ℕ → List Stamp → List Stamp → Hand
 hand shards seats book slips = record { shards = shards; seats = seats; book = book; slips = slips }
 
--- f of each, added up
-abbrev pub total : {A : Type 0} → (A → ℕ) → List A → ℕ
-total f [] = 0
-total f (x ∷ xs) = f x + total f xs
-
--- how often x stands there
-abbrev pub times : ℕ → List ℕ → ℕ
-times x xs = total (λ y. if y == x then 1 else 0) xs
-
--- so many numbers, from this one up
-abbrev pub up : ℕ → ℕ → List ℕ
-up from zero = []
-up from (suc count) = from ∷ up (suc from) count
-
-abbrev pub Among : {A : Type 0} → A → List A → Type 0
-Among x [] = ⊥
-Among x (y ∷ ys) = (x ≡ y) ⊎ Among x ys
-
--- it stands in some hand's book, or among its slips
-abbrev pub Held : (Hand → List Stamp) → Stamp → List Hand → Type 0
-Held f x [] = ⊥
-Held f x (v ∷ vs) = Among x (f v) ⊎ Held f x vs
-
 abbrev pub Booked : Stamp → List Hand → Type 0
-Booked x vs = Held (λ v. v.book) x vs
+Booked x vs = Held (λ (v : Hand). v.book) x vs
 
 abbrev pub Slipped : Stamp → List Hand → Type 0
-Slipped x vs = Held (λ v. v.slips) x vs
+Slipped x vs = Held (λ (v : Hand). v.slips) x vs
 
 -- a hand has stamps of its own shards in its book, and of its own seats among its slips
 abbrev pub Owns : Hand → Type 0

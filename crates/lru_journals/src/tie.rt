@@ -2,7 +2,8 @@
 //! take no bytes.
 ghost use Rattle.std.specs.Prelude.{◌≡◌, [], ◌∷◌, ◌++◌, take, drop, IfOk};
 ghost use Rattle.atomic_table.specs.Seated.{TableId};
-ghost use Rattle.lru_journals.specs.Ties.{hand, Ties, up, Among, Stamps, Looks, Shows, joined, no_table};
+ghost use Rattle.lru_hands.specs.Hands.{up, Among, no_table};
+ghost use Rattle.lru_journals.specs.Ties.{hand, Ties, Stamps, Looks, Shows, joined};
 
 use crate::entry::{Hand, Names, Stamp};
 use atomic_table::{Join, Play, Seat, Split, Table, TableRule};

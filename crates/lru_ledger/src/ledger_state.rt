@@ -45,7 +45,7 @@ impl<K: Drop> Model for LedgerState<K> {
 
 impl<K: Drop> LedgerState<K> {
     ghost use Rattle.std.specs.Prelude.{length, ◌∷◌, IsOk, IsErr, min};
-    ghost use Rattle.lru_ledger.specs.Ledger.{slip_put, put, shut, left, Puts, Takes, Makes, IsTied};
+    ghost use Rattle.lru_ledger.specs.Ledger.{slip_put, put, shut, left, empty, seats_of, Puts, Takes, Makes, IsTied};
     ghost use Rattle.lru_ledger.specs.Slips.{IsSettled};
 
     /// An open box where nothing waits, and its shares.
@@ -56,17 +56,26 @@ impl<K: Drop> LedgerState<K> {
     ) -> Result<(Self, Vec<PutShare>, Vec<TakeShare>), AllocError>
         ensures { IfOk result (λ made. Makes putters takers made.0 made.1.items made.2.items) }
     {
-        let state = LedgerState {
+        let state = LedgerState::without_shares(alloc, putters, takers)?;
+        let puts = put_shares(alloc, putters)?;
+        let takes = take_shares(alloc, takers)?;
+        Ok((state, puts, takes))
+    }
+
+    /// An open box where nothing waits, with room to tell in the end of so many who put and so many who take. Its shares
+    /// are made apart from it.
+    pub fn without_shares(alloc: Global, putters: usize, takers: usize) -> Result<Self, AllocError>
+        ensures book { IfOk result (λ state. state.book ≡ empty) }
+        ensures seats { IfOk result (λ state. state.seats ≡ seats_of putters takers) }
+    {
+        Ok(LedgerState {
             waiting: VecDeque::new(alloc),
             lost: VecDeque::new(alloc),
             next: 0,
             closed: false,
             puts: Vec::with_capacity(alloc, putters)?,
             takes: Vec::with_capacity(alloc, takers)?,
-        };
-        let puts = put_shares(alloc, putters)?;
-        let takes = take_shares(alloc, takers)?;
-        Ok((state, puts, takes))
+        })
     }
 
     /// How many pairs wait.
@@ -107,10 +116,11 @@ impl<K: Drop> LedgerState<K> {
         self.lost.reserve(self.waiting.len() + 1)
     }
 
-    /// Puts a pair last, with its slip in the share; where the box is closed the slip is lost. It takes no
-    /// memory. There has to be room, as a `reserve_one` before it makes.
-    pub fn put_reserved(&mut self, share: &mut PutShare, hash: u64, key: K, weight: usize)
+    /// Puts a pair last, with its slip in the share, and answers the slip; where the box is closed the slip is lost.
+    /// It takes no memory. There has to be room, as a `reserve_one` before it makes.
+    pub fn put_reserved(&mut self, share: &mut PutShare, hash: u64, key: K, weight: usize) -> Slip
         requires { 0 < min self.old.room share.old.room }
+        ensures slip { result ≡ slip_put self.old.book hash weight }
         ensures book { self.new.book ≡ put self.old.book hash key weight }
         ensures share { share.new.slips ≡ share.old.slips ++ slip_put self.old.book hash weight ∷ [] }
         ensures seats { self.new.seats ≡ self.old.seats }
@@ -127,6 +137,7 @@ impl<K: Drop> LedgerState<K> {
         } else {
             self.waiting.push_back_reserved((slip, key));
         }
+        slip
     }
 
     /// Puts a pair last, with its slip in the share; where the box is closed the slip is lost. Where memory
@@ -144,7 +155,7 @@ impl<K: Drop> LedgerState<K> {
         if self.reserve_one(share).is_err() {
             return Err(MailError::Memory(key));
         }
-        self.put_reserved(share, hash, key, weight);
+        let _slip = self.put_reserved(share, hash, key, weight);
         Ok(())
     }
 
@@ -182,6 +193,30 @@ impl<K: Drop> LedgerState<K> {
         lose_all(&mut self.waiting, &mut self.lost);
     }
 
+    /// Ends the box: the slips that are lost, and the pairs that are left. The lists of what was put and taken are
+    /// empty, with room for those of all shares. It takes no memory.
+    pub fn end(self) -> Settled<K>
+        ensures puts { (result.puts.items ≡ []) × (self.seats.putters ≤ vec_capacity result.puts) }
+        ensures takes { (result.takes.items ≡ []) × (self.seats.takers ≤ vec_capacity result.takes) }
+        ensures lost { result.lost.items ≡ self.book.lost }
+        ensures left { result.left.items ≡ self.book.waiting }
+    {
+        let LedgerState {
+            waiting,
+            lost,
+            next: _,
+            closed: _,
+            puts,
+            takes,
+        } = self;
+        Settled {
+            puts,
+            takes,
+            lost: lost.into_vec(),
+            left: waiting,
+        }
+    }
+
     /// Ends the box: what each share put and took, the slips that are lost, and the pairs that are left. It
     /// takes no memory. The shares are those that `new` gave, in order.
     pub fn settle(self, puts: Vec<PutShare>, takes: Vec<TakeShare>) -> Settled<K>
@@ -194,19 +229,17 @@ impl<K: Drop> LedgerState<K> {
         ensures left { result.left.items ≡ self.book.waiting }
         ensures settled { IsSettled (lists_of result.puts.items) (lists_of result.takes.items) result.lost.items (slips_of result.left.items) }
     {
-        let LedgerState {
-            waiting,
-            lost,
-            next: _,
-            closed: _,
+        let Settled {
             puts: put_lists,
             takes: take_lists,
-        } = self;
+            lost,
+            left,
+        } = self.end();
         Settled {
             puts: gather_puts(put_lists, puts),
             takes: gather_takes(take_lists, takes),
-            lost: lost.into_vec(),
-            left: waiting,
+            lost,
+            left,
         }
     }
 }

@@ -23,7 +23,8 @@ impl Model for PutShare {
 }
 
 impl PutShare {
-    pub(crate) fn new(alloc: Global) -> Self
+    /// A share without slips.
+    pub fn new(alloc: Global) -> Self
         ensures { result.slips ≡ [] }
     {
         PutShare {
@@ -55,7 +56,8 @@ impl PutShare {
         self.slips.push_reserved(slip);
     }
 
-    pub(crate) fn into_slips(self) -> Vec<Slip>
+    /// The slips, in their order.
+    pub fn into_slips(self) -> Vec<Slip>
         ensures { result.items ≡ self.slips }
     {
         let PutShare { slips } = self;
@@ -81,7 +83,8 @@ impl Model for TakeShare {
 }
 
 impl TakeShare {
-    pub(crate) fn new(alloc: Global) -> Self
+    /// A share without slips.
+    pub fn new(alloc: Global) -> Self
         ensures { result.slips ≡ [] }
     {
         TakeShare {
@@ -113,7 +116,8 @@ impl TakeShare {
         self.slips.push_reserved(slip);
     }
 
-    pub(crate) fn into_slips(self) -> Vec<Slip>
+    /// The slips, in their order.
+    pub fn into_slips(self) -> Vec<Slip>
         ensures { result.items ≡ self.slips }
     {
         let TakeShare { slips } = self;

@@ -1,11 +1,22 @@
--- What a box that threads share answers.
-use Rattle.std.specs.Prelude.{◌≡◌, Result, Ok, Err}
+-- What a put and a take leave at a seat.
+use Rattle.std.specs.Prelude.{◌≡◌, ℕ, List, [], ◌∷◌, ◌++◌, Option, Some, None, Result, Ok, Err}
+use Rattle.std.specs.declared.alloc.AllocError.{AllocError}
 use Rattle.lru_mailbox.specs.declared.mail_error.MailError.{MailError}
 use Rattle.lru_mailbox.specs.declared.mail_error.MailError.TheVariants.{Memory, Closed, Waiting}
+use Rattle.lru_ledger.specs.declared.slip.Slip.{Slip}
+use Rattle.lru_ledger.specs.Slips.{slip_of}
 
--- a refused key is handed back, and want of memory alone refuses it
-abbrev pub HandsKeyBack : {K : Type 0} → K → Result (Unit {0}) (MailError K) → Type 0
-HandsKeyBack key (Ok _) = Unit {0}
-HandsKeyBack key (Err (Memory held)) = held ≡ key
-HandsKeyBack key (Err (Closed held)) = ⊥
-HandsKeyBack key (Err (Waiting held)) = ⊥
+module _ {K : Type 0} where
+  -- a put leaves one slip more, with this hash and weight and some number; or, for want of memory alone, the key is handed
+  -- back and the slips are as before
+  abbrev pub PutsSlip : List Slip → ℕ → K → ℕ → Result (Unit {0}) (MailError K) → List Slip → Type 0
+  PutsSlip old hash key weight (Ok _) new = (number : ℕ) × (new ≡ old ++ slip_of number hash weight ∷ [])
+  PutsSlip old hash key weight (Err (Memory held)) new = (held ≡ key) × (new ≡ old)
+  PutsSlip old hash key weight (Err (Closed held)) new = ⊥
+  PutsSlip old hash key weight (Err (Waiting held)) new = ⊥
+
+  -- a take leaves the slip that it answers; or, where it answers none, the slips as before
+  abbrev pub TakesSlip : List Slip → Result (Option (Slip × K)) AllocError → List Slip → Type 0
+  TakesSlip old (Ok (Some pair)) new = new ≡ old ++ pair.0 ∷ []
+  TakesSlip old (Ok None) new = new ≡ old
+  TakesSlip old (Err _) new = new ≡ old

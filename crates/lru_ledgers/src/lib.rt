@@ -2,7 +2,7 @@
 #![tactic(auto)]
 
 mod ledger_box;
-mod seats;
 
 pub use ledger_box::LedgerBox;
-pub use seats::{PutSeat, TakeSeat};
+pub use lru_desks::seats::{PutSeat, TakeSeat};
+pub use lru_desks::tie::{Blanks, Registry};

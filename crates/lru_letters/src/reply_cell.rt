@@ -1,4 +1,6 @@
 //! A place for one reply.
+ghost use Rattle.std.specs.Prelude.{◌≡◌};
+ghost use Rattle.lru_letters.specs.Answering.{decided, given_in, waits};
 
 use std::mem;
 use std::sync::{Condvar, Mutex, Wait};
@@ -8,6 +10,33 @@ enum Answer<T> {
     Waiting,
     Given(T),
     Left,
+}
+
+// Fills an answer that waits. One that is filled stays.
+fn decide<T: Drop>(answer: &mut Answer<T>, with: Answer<T>)
+    ensures { answer.new ≡ decided answer.old with }
+{
+    if matches!(*answer, Answer::Waiting) {
+        *answer = with;
+    }
+}
+
+// Takes the reply that was given, if one is there. There is none afterwards.
+fn take_given<T: Drop>(answer: &mut Answer<T>) -> Option<T>
+    ensures reply { result ≡ given_in answer.old }
+    ensures left { answer.new ≡ Answer.Left }
+{
+    match mem::replace(answer, Answer::Left) {
+        Answer::Given(reply) => Some(reply),
+        _ => None,
+    }
+}
+
+// Whether no reply was given yet, and one may come.
+fn is_waiting<T>(answer: &Answer<T>) -> bool
+    ensures { result ≡ waits answer.now }
+{
+    matches!(answer, Answer::Waiting)
 }
 
 /// A place for one reply, shared by the one who asks and the one who answers. The first to fill it decides; who comes
@@ -38,10 +67,7 @@ impl<T: Drop> ReplyCell<T> {
     }
 
     fn fill(&self, rt: &impl Wait, with: Answer<T>) {
-        let mut answer = self.answer.lock(rt);
-        if matches!(*answer, Answer::Waiting) {
-            *answer = with;
-        }
+        decide(&mut *self.answer.lock(rt), with);
         self.filled.notify_all();
     }
 
@@ -51,10 +77,7 @@ impl<T: Drop> ReplyCell<T> {
         let answer = self.answer.lock(rt);
         let mut answer = self
             .filled
-            .wait_while(rt, answer, |answer| matches!(answer, Answer::Waiting));
-        match mem::replace(&mut *answer, Answer::Left) {
-            Answer::Given(reply) => Some(reply),
-            _ => None,
-        }
+            .wait_while(rt, answer, |answer| is_waiting(answer));
+        take_given(&mut *answer)
     }
 }

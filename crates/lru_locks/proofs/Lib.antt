@@ -1,1 +1,3 @@
 pub mod LruCaps
+pub mod Homes
+pub mod Units

@@ -29,6 +29,11 @@ impl<T> ShortLock<T> {
         }
     }
 
+    // What is behind it.
+    pub(crate) fn into_inner(self) -> T {
+        self.lock.into_inner()
+    }
+
     // Takes the lock together with other readers.
     pub(crate) fn read(&self, rt: &impl Wait) -> RwLockReadGuard<'_, T> {
         for _ in 0..TRIES {

@@ -1,36 +1,29 @@
 //! N shards under one limit on their weight, shared by threads: each shard behind a lock of its own.
 ghost use Rattle.std.specs.Prelude.{◌≡◌, ℕ, ◌+◌, ◌-◌, ◌%◌, ◌^◌, ◌<◌, ◌≤◌, min, max, not, length, vec_len, IfOk, IfErr, IfSome, OnOk, Ok, None, All};
+ghost use Rattle.std.specs.Sync.RwLock.{write_guard_value};
 ghost use Rattle.lru_rules.specs.Limits.{cap_of};
+ghost use Rattle.lru_rules.specs.Shards.{AreAtHome, IsOwn, AreOwn};
 
 use crate::lock::ShortLock;
 use crossbeam_utils::CachePadded;
-use lru_rules::eviction::{EvictError, drawn_shards, is_past, place_after};
-use lru_rules::totals::Totals;
+use lru_rules::counters::shift;
+use lru_rules::eviction::{EvictError, Readings, drawn_shards, longer_of, place_after};
+use lru_rules::totals::{Totals, Units};
 use lru_shard::unit::{Cause, LruUnit, Refused};
 use rand_core::Rng;
 use std::alloc::{AllocError, Global};
-use std::sync::Wait;
 use std::sync::atomic::{AtomicUsize, Ordering};
-
-// What a sum modulo 2^64 grows by where one of its numbers changes.
-fn growth(before: usize, after: usize) -> usize
-    ensures { (before + result) % 2 ^ 64 ≡ after }
-{
-    after.wrapping_sub(before)
-}
-
-// Brings a counter after one change, in one step.
-fn shift(counter: &AtomicUsize, before: usize, after: usize) {
-    if before != after {
-        counter.fetch_add(growth(before, after), Ordering::SeqCst);
-    }
-}
+use std::sync::{RwLockWriteGuard, Wait};
 
 // What lies behind a shard's lock. Its calls are all that is done under the lock, on the unit that it lends.
 #[derive(Drop)]
 struct Locked<T, const N: usize> {
     unit: LruUnit<T>,
+    // which shard it is
+    number: usize,
     ghost capped: { unit.cap ≡ cap_of N },
+    ghost below: { number < N },
+    ghost home: { AreAtHome N number unit.rows },
 }
 
 impl<T, const N: usize> Locked<T, N> {
@@ -40,15 +33,25 @@ impl<T, const N: usize> Locked<T, N> {
     ghost use Rattle.lru_shard.specs.Unit.{VisitsEach};
     ghost use Rattle.lru_shard.specs.Unit.{needs_promote};
 
-    fn with_capacity(alloc: Global, capacity: usize) -> Result<Self, AllocError>
+    fn with_capacity(alloc: Global, capacity: usize, number: usize) -> Result<Self, AllocError>
     where
         T: Drop,
-        requires { 0 < N }
+        requires { number < N }
         ensures { IfOk result (λ locked. locked.unit ≡ shard [] (cap_of N)) }
     {
         Ok(Locked {
             unit: LruUnit::with_capacity(alloc, capacity, usize::MAX / N)?,
+            number,
         })
+    }
+
+    // The shard, out of its lock.
+    fn into_unit(self) -> LruUnit<T>
+        ensures { IsOwn N self.number result }
+    {
+        let Locked { unit, .. } = self;
+        let _weight = unit.used_weight();
+        unit
     }
 
     fn totals(&self) -> Totals
@@ -121,6 +124,7 @@ impl<T: Drop, const N: usize> Locked<T, N> {
     // A weight of 0 counts as 1.
     #[tactic(auto, using(crate::proofs::LruCaps::admit_light))]
     fn admit(&mut self, key: u64, data: T, weight: usize) -> Result<usize, Refused<T>>
+        requires { key % N ≡ self.old.number }
         ensures row { AdmitsRaised self.old.unit key «data» weight result self.new.unit }
         ensures light { OnOk result (max weight 1 ≤ cap_of N) }
     {
@@ -130,6 +134,7 @@ impl<T: Drop, const N: usize> Locked<T, N> {
     }
 
     fn insert_tail(&mut self, key: u64, data: T, weight: usize) -> Result<bool, Refused<T>>
+        requires { key % N ≡ self.old.number }
         ensures { InsertsTail self.old.unit key «data» weight result self.new.unit }
     {
         self.unit.insert_tail(key, data, weight)
@@ -144,7 +149,8 @@ impl<T: Drop, const N: usize> Locked<T, N> {
         delta: usize,
         max_weight: Option<usize>,
     ) -> Result<usize, Cause>
-        requires { F.IsAlwaysCallable admit_data }
+        requires home { key % N ≡ self.old.number }
+        requires callable { F.IsAlwaysCallable admit_data }
         ensures row { IncrementsTo (F.post admit_data) self.old.unit key delta max_weight result self.new.unit }
         ensures light { IfOk result (λ weight. weight ≤ cap_of N) }
     {
@@ -166,12 +172,15 @@ impl<T: Drop, const N: usize> Locked<T, N> {
     where
         U: FnOnce(&mut T, usize) -> usize + Drop,
         A: FnOnce() -> (T, usize) + Drop,
+        requires home { key % N ≡ self.old.number }
         requires update { U.IsAlwaysCallable update }
         requires admit_data { A.IsAlwaysCallable admit_data }
         ensures { UpdatesFrom (Updates (U.post update)) (A.post admit_data) self.old.unit key result self.new.unit }
     {
-        let (was, _) = self.unit.update_or_admit(key, update, admit_data)?;
-        Ok(was)
+        match self.unit.update_or_admit(key, update, admit_data) {
+            Ok((was, _)) => Ok(was),
+            Err(refused) => Err(refused.untold()),
+        }
     }
 
     // A weight of 0 counts as 1.
@@ -218,11 +227,28 @@ fn empty_units<T: Drop, const N: usize>(
     ensures { IfOk result (λ units. vec_len units ≡ N) }
 {
     let mut units = Vec::with_capacity(alloc, N)?;
-    for _ in 0..N {
-        let locked = Locked::with_capacity(alloc, capacity)?;
+    for number in 0..N {
+        let locked = Locked::with_capacity(alloc, capacity, number)?;
         units.push(CachePadded::new(ShortLock::new(locked)))?;
     }
     Ok(units)
+}
+
+// The shard that a lock has. No type says which lock has which shard, so the number is looked at; it is the right one.
+fn unit_of<T: Drop, const N: usize>(
+    rt: &impl Wait,
+    lock: CachePadded<ShortLock<Locked<T, N>>>,
+    number: usize,
+) -> LruUnit<T>
+    ensures { IsOwn N number result }
+{
+    let locked = lock.into_inner().into_inner();
+    for _ in rt.forever() {
+        if locked.number == number {
+            break;
+        }
+    }
+    locked.into_unit()
 }
 
 fn zeros(alloc: Global, count: usize) -> Result<Vec<CachePadded<AtomicUsize>>, AllocError>
@@ -275,39 +301,6 @@ pub struct Lru<T, const N: usize> {
     ghost some: { 0 < N },
     ghost has_units: { vec_len units ≡ N },
     ghost has_lens: { vec_len lens ≡ N },
-}
-
-// What an `evict_to_limit` read at its start; its weight and length go down by what it evicts.
-#[derive(Clone, Copy)]
-struct Readings {
-    weight: usize,
-    len: usize,
-    weight_limit: usize,
-    watermark: Option<usize>,
-}
-
-impl Readings {
-    ghost use Rattle.lru_rules.specs.Limits.{is_past};
-
-    // Whether what is left of the values first read and these values are both past one limit.
-    fn is_past(&self, weight: usize, len: usize) -> bool
-        ensures { result ≡ is_past self.now.weight_limit self.now.watermark (min self.now.weight weight) (min self.now.len len) }
-    {
-        is_past(
-            self.weight_limit,
-            self.watermark,
-            self.weight.min(weight),
-            self.len.min(len),
-        )
-    }
-
-    // A row of this weight was evicted.
-    fn evicted(&mut self, weight: usize)
-        ensures { self.new ≡ record self.old { weight = self.old.weight - weight; len = self.old.len - 1 } }
-    {
-        self.weight = self.weight.saturating_sub(weight);
-        self.len = self.len.saturating_sub(1);
-    }
 }
 
 impl<T, const N: usize> Lru<T, N> {
@@ -451,12 +444,50 @@ impl<T, const N: usize> Lru<T, N> {
         locked.write(rt).reserve(additional)
     }
 
+    /// Ends all calls, and answers the shards, in their order, with what was counted of them. The keys of each shard are its
+    /// own, and it is within its cap. Where memory is refused, the `Lru` is handed back.
+    pub fn into_units(self, rt: &impl Wait, alloc: Global) -> Result<Units<T>, Self>
+    where
+        T: Drop,
+        ensures count { IfOk result (λ left. vec_len left.units ≡ N) }
+        ensures own { IfOk result (λ left. AreOwn N left.units.items) }
+    {
+        let Ok(mut units) = Vec::with_capacity(alloc, N) else {
+            return Err(self);
+        };
+        let totals = Totals {
+            weight: self.weight(),
+            len: self.len(),
+        };
+        let Lru { units: locks, .. } = self;
+        for lock in locks {
+            let number = units.len();
+            units.push_reserved(unit_of(rt, lock, number));
+        }
+        Ok(Units { units, totals })
+    }
+
     fn shard_of(&self, key: u64) -> usize
         ensures value { result ≡ key % N }
         ensures below { result < N }
     {
         let _units = &self.units;
         (key % N as u64) as usize
+    }
+
+    // Takes the lock of a shard, for a call that may bring a key in. No type says which lock has which shard, so the number is
+    // looked at; the first one is the right one.
+    fn unit_at(&self, rt: &impl Wait, shard: usize) -> RwLockWriteGuard<'_, Locked<T, N>>
+        requires { shard < N }
+        ensures { (write_guard_value result).number ≡ shard }
+    {
+        for _ in rt.forever() {
+            let unit = self.units[shard].write(rt);
+            if unit.number == shard {
+                return unit;
+            }
+        }
+        unreachable!()
     }
 
     // Brings the counters after a call on a shard's unit, while its lock is held.
@@ -476,11 +507,7 @@ impl<T, const N: usize> Lru<T, N> {
     {
         let _units = &self.units;
         let (a, b) = drawn_shards::<R, N>(rng);
-        if self.shard_len(a) >= self.shard_len(b) {
-            a
-        } else {
-            b
-        }
+        longer_of(a, b, self.shard_len(a), self.shard_len(b))
     }
 }
 
@@ -500,7 +527,7 @@ impl<T: Drop, const N: usize> Lru<T, N> {
         ensures held { IfErr result (λ refused. refused.held ≡ «data») }
     {
         let shard = self.shard_of(key);
-        let mut unit = self.units[shard].write(rt);
+        let mut unit = self.unit_at(rt, shard);
         let before = unit.totals();
         let answer = unit.admit(key, data, weight);
         self.note(shard, before, unit.totals());
@@ -519,7 +546,7 @@ impl<T: Drop, const N: usize> Lru<T, N> {
         ensures { IfErr result (λ refused. refused.held ≡ «data») }
     {
         let shard = self.shard_of(key);
-        let mut unit = self.units[shard].write(rt);
+        let mut unit = self.unit_at(rt, shard);
         let before = unit.totals();
         let answer = unit.insert_tail(key, data, weight);
         self.note(shard, before, unit.totals());
@@ -540,7 +567,7 @@ impl<T: Drop, const N: usize> Lru<T, N> {
         ensures light { IfOk result (λ w. w ≤ cap_of N) }
     {
         let shard = self.shard_of(key);
-        let mut unit = self.units[shard].write(rt);
+        let mut unit = self.unit_at(rt, shard);
         let before = unit.totals();
         let answer = unit.increment_weight(key, admit_data, delta, max_weight);
         self.note(shard, before, unit.totals());
@@ -564,7 +591,7 @@ impl<T: Drop, const N: usize> Lru<T, N> {
         ensures { IfErr result (λ refused. HandsBack (A.post admit_data) refused) }
     {
         let shard = self.shard_of(key);
-        let mut unit = self.units[shard].write(rt);
+        let mut unit = self.unit_at(rt, shard);
         let before = unit.totals();
         let answer = unit.update_or_admit(key, update, admit_data);
         self.note(shard, before, unit.totals());

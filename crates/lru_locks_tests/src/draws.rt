@@ -135,3 +135,20 @@ fn finds_the_one_row_of_many_shards(rt: HostRuntime) -> Result<(), Fail> {
     assert_eq!(rt; lost_key(&rt, rt.alloc())?, None);
     Ok(())
 }
+
+// How many of three rows of weight 2 leave under a limit.
+fn leave_under<R: Wait>(rt: &R, alloc: Global, limit: usize) -> Result<Option<usize>, AllocError> {
+    let lru = Lru::<u64, 2>::with_capacity(alloc, limit, 3)?;
+    let are_put = (0..3u64).all(|key| lru.admit(rt, key, key, 2).is_ok());
+    Ok(count_evicted(rt, alloc, &lru).filter(|_| are_put))
+}
+
+#[test]
+fn stays_at_its_limit(rt: HostRuntime) -> Result<(), Fail> {
+    let alloc: Global = rt.alloc();
+    assert_eq!(rt;
+        (leave_under(&rt, alloc, 6)?, leave_under(&rt, alloc, 5)?),
+        (Some(0), Some(1))
+    );
+    Ok(())
+}

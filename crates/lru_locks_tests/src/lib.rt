@@ -6,6 +6,8 @@ mod closures;
 #[cfg(test)]
 mod draws;
 #[cfg(test)]
+mod left;
+#[cfg(test)]
 mod replays;
 #[cfg(test)]
 mod rows;

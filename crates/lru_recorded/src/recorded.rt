@@ -1,10 +1,13 @@
 //! N shards for many threads, each behind a lock of its own with its history.
 ghost use Rattle.std.specs.Prelude.{◌≡◌, ◌+◌, ◌-◌, ◌%◌, ◌<◌, ◌≤◌, [], vec_len, map, All, IfOk, IfErr, OnOk, OnErr, Some, Ok, None};
+ghost use Rattle.std.specs.Sync.Mutex.{mutex_guard_value};
 ghost use Rattle.lru_journals.specs.declared.entry.Reply.TheVariants.{Flag, Weight};
 ghost use Rattle.lru_journals.specs.Stamps.{GetsReceipt};
-ghost use Rattle.lru_journals.specs.Ties.{hand, up};
+ghost use Rattle.lru_hands.specs.Hands.{up};
+ghost use Rattle.lru_journals.specs.Ties.{hand};
 ghost use Rattle.lru_journals.specs.Tied.{AreTied};
 ghost use Rattle.lru_rules.specs.Limits.{cap_of};
+ghost use Rattle.lru_rules.specs.Shards.{AreOwn};
 ghost use Rattle.lru_recordings.specs.Plain.{forget};
 ghost use Rattle.lru_recordings.specs.Histories.{IsEviction, left_by, AreLegal, lists_of};
 ghost use Rattle.lru_recorded.specs.Probes.{Adds, AreProbes, FindsNone, IsRound};
@@ -18,14 +21,15 @@ pub use lru_journals::tie::{Blank, Registry};
 use lru_journals::tie::{Tie, Token};
 use lru_recordings::gathered::{Gathered, Room};
 use lru_recordings::recording::Recording;
-use lru_rules::eviction::{EvictError, drawn_shards, is_past, place_after};
-use lru_rules::totals::Totals;
+use lru_rules::counters::shift;
+use lru_rules::eviction::{EvictError, Readings, drawn_shards, longer_of, place_after};
+use lru_rules::totals::{Totals, Units};
 use lru_shard::unit::{Cause, LruUnit, Refused};
 use rand_core::Rng;
 use std::alloc::{AllocError, Global};
 use std::marker::PhantomData;
 use std::sync::atomic::{AtomicUsize, Ordering};
-use std::sync::{Mutex, Wait};
+use std::sync::{Mutex, MutexGuard, Wait};
 
 // What `finish` takes: the token of which all shards and seats were dealt, and room for the shards. It stands behind a
 // lock, since neither may be shared.
@@ -62,13 +66,6 @@ pub struct RecordedLru<T, B: Registry, const N: usize> {
     ghost has_lens: { vec_len lens ≡ N },
     ghost names_are: { names.shards ≡ N },
     ghost seats_are: { names.seats ≡ B.seats },
-}
-
-// What a sum modulo 2^64 grows by where one of its numbers changes.
-fn shift(counter: &AtomicUsize, before: usize, after: usize) {
-    if before != after {
-        counter.fetch_add(after.wrapping_sub(before), Ordering::SeqCst);
-    }
 }
 
 fn zeros(alloc: Global, count: usize) -> Result<Vec<AtomicUsize>, AllocError>
@@ -182,6 +179,21 @@ impl<T: Drop, B: Registry, const N: usize> RecordedLru<T, B, N> {
         (key % N as u64) as usize
     }
 
+    // Takes the lock of a shard. No type says which lock has which shard, so the number is looked at; the first one is the
+    // right one.
+    fn shard_at(&self, rt: &impl Wait, shard: usize) -> MutexGuard<'_, Recording<T, B, N>>
+        requires { shard < N }
+        ensures { (mutex_guard_value result).journal.number ≡ shard }
+    {
+        for _ in rt.forever() {
+            let recording = self.shards[shard].lock(rt);
+            if recording.journal.number == shard {
+                return recording;
+            }
+        }
+        unreachable!()
+    }
+
     // Brings the counters after a call on a shard, while its lock is held.
     fn count(&self, shard: usize, before: Totals, after: Totals)
         requires { shard < N }
@@ -210,14 +222,7 @@ impl<T: Drop, B: Registry, const N: usize> RecordedLru<T, B, N> {
         ensures seat { seat.new.number ≡ seat.old.number }
     {
         let shard = self.shard_of(key);
-        // No type says which lock has which shard, so the number is looked at; it is the right one.
-        let mut recording = self.shards[shard].lock(rt);
-        if recording.journal.number != shard {
-            return Err(Refused {
-                cause: Cause::Memory,
-                held: data,
-            });
-        }
+        let mut recording = self.shard_at(rt, shard);
         let before = Totals::of(&recording.unit);
         let answer = recording.admit(&self.tie, seat, key, data, weight);
         self.count(shard, before, Totals::of(&recording.unit));
@@ -242,14 +247,7 @@ impl<T: Drop, B: Registry, const N: usize> RecordedLru<T, B, N> {
         ensures seat { seat.new.number ≡ seat.old.number }
     {
         let shard = self.shard_of(key);
-        // No type says which lock has which shard, so the number is looked at; it is the right one.
-        let mut recording = self.shards[shard].lock(rt);
-        if recording.journal.number != shard {
-            return Err(Refused {
-                cause: Cause::Memory,
-                held: data,
-            });
-        }
+        let mut recording = self.shard_at(rt, shard);
         let before = Totals::of(&recording.unit);
         let answer = recording.insert_tail(&self.tie, seat, key, data, weight);
         self.count(shard, before, Totals::of(&recording.unit));
@@ -274,11 +272,7 @@ impl<T: Drop, B: Registry, const N: usize> RecordedLru<T, B, N> {
         ensures seat { seat.new.number ≡ seat.old.number }
     {
         let shard = self.shard_of(key);
-        // No type says which lock has which shard, so the number is looked at; it is the right one.
-        let mut recording = self.shards[shard].lock(rt);
-        if recording.journal.number != shard {
-            return Err(Cause::Memory);
-        }
+        let mut recording = self.shard_at(rt, shard);
         let before = Totals::of(&recording.unit);
         let answer = recording.increment_weight(
             &self.tie, seat, key, admit_data, delta, max_weight,
@@ -308,14 +302,7 @@ impl<T: Drop, B: Registry, const N: usize> RecordedLru<T, B, N> {
         ensures seat { seat.new.number ≡ seat.old.number }
     {
         let shard = self.shard_of(key);
-        // No type says which lock has which shard, so the number is looked at; it is the right one.
-        let mut recording = self.shards[shard].lock(rt);
-        if recording.journal.number != shard {
-            return Err(Refused {
-                cause: Cause::Memory,
-                held: None,
-            });
-        }
+        let mut recording = self.shard_at(rt, shard);
         let before = Totals::of(&recording.unit);
         let answer = recording.update_or_admit(&self.tie, seat, key, update, admit_data);
         self.count(shard, before, Totals::of(&recording.unit));
@@ -336,11 +323,7 @@ impl<T: Drop, B: Registry, const N: usize> RecordedLru<T, B, N> {
         ensures seat { seat.new.number ≡ seat.old.number }
     {
         let shard = self.shard_of(key);
-        // No type says which lock has which shard, so the number is looked at; it is the right one.
-        let mut recording = self.shards[shard].lock(rt);
-        if recording.journal.number != shard {
-            return Err(Cause::Memory);
-        }
+        let mut recording = self.shard_at(rt, shard);
         let before = Totals::of(&recording.unit);
         let answer = recording.set_weight(&self.tie, seat, key, weight);
         self.count(shard, before, Totals::of(&recording.unit));
@@ -353,13 +336,8 @@ impl<T: Drop, B: Registry, const N: usize> RecordedLru<T, B, N> {
         ensures err { OnErr result (seat.new.receipts.items ≡ seat.old.receipts.items) }
         ensures seat { seat.new.number ≡ seat.old.number }
     {
-        let shard = self.shard_of(key);
-        // No type says which lock has which shard, so the number is looked at; it is the right one.
-        let mut recording = self.shards[shard].lock(rt);
-        if recording.journal.number != shard {
-            return Err(AllocError);
-        }
-        recording.promote(&self.tie, seat, key)
+        self.shard_at(rt, self.shard_of(key))
+            .promote(&self.tie, seat, key)
     }
 
     /// Puts a key's row first unless it is among the first `top`, and answers whether there is one.
@@ -374,13 +352,8 @@ impl<T: Drop, B: Registry, const N: usize> RecordedLru<T, B, N> {
         ensures err { OnErr result (seat.new.receipts.items ≡ seat.old.receipts.items) }
         ensures seat { seat.new.number ≡ seat.old.number }
     {
-        let shard = self.shard_of(key);
-        // No type says which lock has which shard, so the number is looked at; it is the right one.
-        let mut recording = self.shards[shard].lock(rt);
-        if recording.journal.number != shard {
-            return Err(AllocError);
-        }
-        recording.promote_top_n(&self.tie, seat, key, top)
+        self.shard_at(rt, self.shard_of(key))
+            .promote_top_n(&self.tie, seat, key, top)
     }
 
     /// Takes a key's row out, and answers its data and weight.
@@ -395,11 +368,7 @@ impl<T: Drop, B: Registry, const N: usize> RecordedLru<T, B, N> {
         ensures seat { seat.new.number ≡ seat.old.number }
     {
         let shard = self.shard_of(key);
-        // No type says which lock has which shard, so the number is looked at; it is the right one.
-        let mut recording = self.shards[shard].lock(rt);
-        if recording.journal.number != shard {
-            return Err(AllocError);
-        }
+        let mut recording = self.shard_at(rt, shard);
         let before = Totals::of(&recording.unit);
         let answer = recording.remove(&self.tie, seat, key);
         self.count(shard, before, Totals::of(&recording.unit));
@@ -412,13 +381,8 @@ impl<T: Drop, B: Registry, const N: usize> RecordedLru<T, B, N> {
         ensures err { OnErr result (seat.new.receipts.items ≡ seat.old.receipts.items) }
         ensures seat { seat.new.number ≡ seat.old.number }
     {
-        let shard = self.shard_of(key);
-        // No type says which lock has which shard, so the number is looked at; it is the right one.
-        let mut recording = self.shards[shard].lock(rt);
-        if recording.journal.number != shard {
-            return Err(AllocError);
-        }
-        recording.peek(&self.tie, seat, key)
+        self.shard_at(rt, self.shard_of(key))
+            .peek(&self.tie, seat, key)
     }
 
     /// The weight of a key.
@@ -432,13 +396,8 @@ impl<T: Drop, B: Registry, const N: usize> RecordedLru<T, B, N> {
         ensures err { OnErr result (seat.new.receipts.items ≡ seat.old.receipts.items) }
         ensures seat { seat.new.number ≡ seat.old.number }
     {
-        let shard = self.shard_of(key);
-        // No type says which lock has which shard, so the number is looked at; it is the right one.
-        let mut recording = self.shards[shard].lock(rt);
-        if recording.journal.number != shard {
-            return Err(AllocError);
-        }
-        recording.peek_weight(&self.tie, seat, key)
+        self.shard_at(rt, self.shard_of(key))
+            .peek_weight(&self.tie, seat, key)
     }
 
     /// Evicts the last row of the shard `shard` modulo N, whatever the limits are, and answers its data and weight.
@@ -469,10 +428,7 @@ impl<T: Drop, B: Registry, const N: usize> RecordedLru<T, B, N> {
         ensures err { OnErr result (seat.new.receipts.items ≡ seat.old.receipts.items) }
         ensures seat { seat.new.number ≡ seat.old.number }
     {
-        let mut recording = self.shards[shard].lock(rt);
-        if recording.journal.number != shard {
-            return Err(AllocError);
-        }
+        let mut recording = self.shard_at(rt, shard);
         let before = Totals::of(&recording.unit);
         let answer = recording.evict(&self.tie, seat, call);
         self.count(shard, before, Totals::of(&recording.unit));
@@ -508,10 +464,21 @@ impl<T: Drop, B: Registry, const N: usize> RecordedLru<T, B, N> {
     {
         let _shards = &self.shards;
         let (a, b) = drawn_shards::<R, N>(rng);
-        if self.lens[a].load(Ordering::SeqCst) >= self.lens[b].load(Ordering::SeqCst) {
-            a
-        } else {
-            b
+        longer_of(
+            a,
+            b,
+            self.lens[a].load(Ordering::SeqCst),
+            self.lens[b].load(Ordering::SeqCst),
+        )
+    }
+
+    // The values that an `evict_to_limit` goes by, as they are now.
+    fn readings(&self) -> Readings {
+        Readings {
+            weight: self.weight.load(Ordering::SeqCst),
+            len: self.len.load(Ordering::SeqCst),
+            weight_limit: self.weight_limit,
+            watermark: self.watermark,
         }
     }
 
@@ -537,15 +504,12 @@ impl<T: Drop, B: Registry, const N: usize> RecordedLru<T, B, N> {
         ensures undrawn { N ≡ 1 → rng.new ≡ rng.old }
         ensures seat { seat.new.number ≡ seat.old.number }
     {
-        let mut weight = self.weight.load(Ordering::SeqCst);
-        let len = self.len.load(Ordering::SeqCst);
+        let mut readings = self.readings();
         let mut evicted = Vec::new(alloc);
-        for count in 0..len {
-            let weight_now = self.weight.load(Ordering::SeqCst);
-            let len_now = self.len.load(Ordering::SeqCst);
-            let weight_left = weight.min(weight_now);
-            let len_left = len_now.min(len - count);
-            if !is_past(self.weight_limit, self.watermark, weight_left, len_left) {
+        for _ in 0..readings.len {
+            let weight = self.weight.load(Ordering::SeqCst);
+            let len = self.len.load(Ordering::SeqCst);
+            if !readings.is_past(weight, len) {
                 break;
             }
             if evicted.reserve(1).is_err() {
@@ -557,7 +521,7 @@ impl<T: Drop, B: Registry, const N: usize> RecordedLru<T, B, N> {
             let Some(pair) = found else {
                 return Ok(evicted);
             };
-            weight = weight.saturating_sub(pair.1);
+            readings.evicted(pair.1);
             evicted.push_reserved(pair);
         }
         Ok(evicted)
@@ -579,14 +543,10 @@ impl<T: Drop, B: Registry, const N: usize> RecordedLru<T, B, N> {
         ensures err { OnErr result (seat.new.receipts.items ≡ seat.old.receipts.items) }
         ensures seat { seat.new.number ≡ seat.old.number }
     {
-        let Some(lock) = self.shards.get(shard) else {
+        if shard >= N {
             return Ok(None);
-        };
-        let mut recording = lock.lock(rt);
-        if recording.journal.number != shard {
-            return Err(AllocError);
         }
-        recording.peek_lru(&self.tie, seat)
+        self.shard_at(rt, shard).peek_lru(&self.tie, seat)
     }
 
     /// Ends all calls, and answers the shards, their histories and the seats, as they are. The seats are those that `new`
@@ -595,11 +555,13 @@ impl<T: Drop, B: Registry, const N: usize> RecordedLru<T, B, N> {
     /// Each history is one that one thread could have made: from the empty list on, each reply is the plain list's at
     /// that point, and each call is of that shard. Each shard has the keys and weights at the end of its history. The
     /// receipts of all seats are the entries of all histories, each once.
+    /// The keys of each shard are its own, and it is within its cap.
     pub fn finish(self, seats: Vec<Seat<B>>) -> Recorded<T, B, N>
         requires { map (λ s. s.number) seats.items ≡ up 0 B.seats }
         ensures count { (vec_len result.units ≡ N) × (vec_len result.histories ≡ N) }
         ensures units { map (λ u. forget u.rows) result.units.items ≡ map (left_by (cap_of N) []) (lists_of result.histories.items) }
         ensures legal { AreLegal N (lists_of result.histories.items) }
+        ensures own { AreOwn N result.units.items }
         ensures seats { result.seats ≡ seats }
         ensures tied { AreTied (lists_of result.histories.items) (map (λ s. s.receipts.items) seats.items) }
     {
@@ -621,5 +583,28 @@ impl<T: Drop, B: Registry, const N: usize> RecordedLru<T, B, N> {
             histories,
             seats,
         }
+    }
+
+    /// Ends all calls without the seats, and answers the shards, in their order, with what was counted of them. The keys of
+    /// each shard are its own, and it is within its cap. It takes no memory.
+    pub fn into_units(self) -> Units<T>
+        ensures count { vec_len result.units ≡ N }
+        ensures own { AreOwn N result.units.items }
+    {
+        let totals = Totals {
+            weight: self.weight.load(Ordering::SeqCst),
+            len: self.len.load(Ordering::SeqCst),
+        };
+        let RecordedLru {
+            tie,
+            shards,
+            rest,
+            names,
+            ..
+        } = self;
+        let Rest { token, room, .. } = rest.into_inner();
+        let mut book = token;
+        let Gathered { units, .. } = room.fill(&tie, names, &mut book, shards);
+        Units { units, totals }
     }
 }

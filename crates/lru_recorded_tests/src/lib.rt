@@ -4,6 +4,8 @@
 #[cfg(test)]
 mod asked;
 #[cfg(test)]
+mod draws;
+#[cfg(test)]
 mod plain;
 #[cfg(test)]
 mod refused;

@@ -3,6 +3,7 @@ use Rattle.std.proofs.Common.{◌≡◌, ℕ, suc, ◌+◌, ◌≤◌, ◌<◌, 
 use Rattle.std.specs.Prelude.{Result, Ok, Err, option_map}
 use Rattle.std.specs.Option.{option_map_or}
 use Rattle.lru_shard.specs.declared.unit.Refused.{Refused as Handed}
+use Rattle.lru_shard.specs.declared.unit.RefusedUpdate.{RefusedUpdate}
 use Rattle.lru_shard.specs.declared.unit.Cause.{Cause}
 use Rattle.lru_shard.specs.declared.unit.Cause.TheVariants.{Memory, Weight as Heavy, Length}
 use Rattle.lru_shard.specs.Row.{Row, row, row_of, pair_of, is_held, with_first, without, with_weight, last_row, without_last, weight_of}
@@ -20,7 +21,6 @@ use Rattle.lru_shard.proofs.Refusals.{refusal_none, refusal_weight, refusal_leng
 use Rattle.lru_recordings.specs.Plain.{Plain, plain, forget, step, found, unless_refused, increment, called}
 use Rattle.lru_recordings.specs.Histories.{home, IsEviction}
 use Rattle.lru_recordings.specs.Replies.{refused, weighed, paired, admitted, inserted, new_weight, incremented, increments, set, IsUpdated, IsGiven, IsMade}
-use Rattle.lru_recordings.specs.Given.{IsNoted}
 use Rattle.lru_recordings.proofs.Forgets.{length-forget, weight-forget, size-forget, row_of-forget, is_held-forget, without-forget, first-forget, tailed-forget, with_weight-forget, weight_at-forget, accessed-forget, promoted-forget, last_row-forget, without_last-forget, forget-with_value}
 use Rattle.lru_recordings.proofs.Noted.{Stands}
 
@@ -97,21 +97,21 @@ module _ {T : Type 0} where
       ∙ ap (λ l. step l reply) (same ∙ ap (λ (s : Shard T). forget s.rows) (sym a.left))
 
   -- a list that something refuses is not left
-  heavy_by : (old new : Shard T) (plain_rows : List Plain) (reply : Reply) (size : Size) (cause : Cause) → size_of plain_rows ≡ size → refusal old.cap (size_of old.rows) size ≡ Some cause → new ≡ old →
+  heavy_by : (old new : Shard T) (plain_rows : List Plain) (reply : Reply) (size : Size) (cause : Cause) → size_of plain_rows ≡ size → refusal old.cap (size_of old.rows) size ≡ Some cause → forget new.rows ≡ forget old.rows →
       unless_refused old.cap (forget old.rows) plain_rows reply ≡ step (forget new.rows) (Refused cause)
   heavy_by old new plain_rows reply size cause same why left =
       ap (λ o. option_map_or (λ cause. step (forget old.rows) (Refused cause)) o (step plain_rows reply)) ((λ i. refusal old.cap (size-forget old.rows i) (same i)) ∙ why)
-      ∙ ap (λ (s : Shard T). step (forget s.rows) (Refused cause)) (sym left)
+      ∙ ap (λ l. step l (Refused cause)) (sym left)
 
   declines_by : (call : Call) (old new : Shard T) (plain_rows : List Plain) (reply : Reply) (size : Size) (cause : Cause) → called old.cap (forget old.rows) call ≡ unless_refused old.cap (forget old.rows) plain_rows reply → size_of plain_rows ≡ size →
-      MayRefuse old.cap (size_of old.rows) size cause → new ≡ old → Stands old.cap (forget old.rows) call (refused cause) (forget new.rows)
-  declines_by call old new plain_rows reply size Memory is same may left = ap (λ (s : Shard T). forget s.rows) left
+      MayRefuse old.cap (size_of old.rows) size cause → forget new.rows ≡ forget old.rows → Stands old.cap (forget old.rows) call (refused cause) (forget new.rows)
+  declines_by call old new plain_rows reply size Memory is same may left = left
   declines_by call old new plain_rows reply size Heavy is same may left = is ∙ heavy_by old new plain_rows reply size Heavy same may left
   declines_by call old new plain_rows reply size Length is same may left = is ∙ heavy_by old new plain_rows reply size Length same may left
 
   pub declines : (call : Call) (old new : Shard T) (rows : List (Row T)) (plain_rows : List Plain) (reply : Reply) (cause : Cause) → called old.cap (forget old.rows) call ≡ unless_refused old.cap (forget old.rows) plain_rows reply → plain_rows ≡ forget rows →
       Declines old new rows cause → Stands old.cap (forget old.rows) call (refused cause) (forget new.rows)
-  declines call old new rows plain_rows reply cause is same d = declines_by call old new plain_rows reply (size_of rows) cause is (ap size_of same ∙ size-forget rows) d.may d.left
+  declines call old new rows plain_rows reply cause is same d = declines_by call old new plain_rows reply (size_of rows) cause is (ap size_of same ∙ size-forget rows) d.may (ap (λ (s : Shard T). forget s.rows) d.left)
 
   pub stands_admit : (old new : Shard T) (k : ℕ) (d : T) (w : ℕ) (answer : Result ℕ (Handed T)) → Admits old k d (max w 1) answer new → Stands old.cap (forget old.rows) (Admit k w) (admitted answer) (forget new.rows)
   stands_admit old new k d w (Ok was) h =
@@ -174,7 +174,7 @@ module _ {T : Type 0} where
     stands_row None e (Err cause) h =
         let w = started delta most in
         declines_by (increments k delta most) old new (with_first (forget old.rows) (row k tt w)) (Weight w) (and_row (size_of old.rows) w) cause (is_increment None e)
-        (size-new old.rows k w (row_of-forget old.rows k ∙ ap (option_map plain) e)) h.0 h.1
+        (size-new old.rows k w (row_of-forget old.rows k ∙ ap (option_map plain) e)) h.0 (ap (λ (s : Shard T). forget s.rows) h.1)
 
     pub stands_increment : (answer : Result (ℕ × ℕ × Bool) Cause) → IncrementsWeight Makes old k delta most answer new → Stands old.cap (forget old.rows) (increments k delta most) (incremented (new_weight answer)) (forget new.rows)
     stands_increment answer h = stands_row (row_of old.rows k) refl answer h
@@ -212,6 +212,14 @@ module _ {T : Type 0} where
       evicts old.cap (forget old.rows) n s call is
       ∙ (λ i. step ((without_last-forget old.rows ∙ ap (λ (s : Shard T). forget s.rows) (sym e)) i) ((ap found (last_row-forget old.rows) ∙ found_last (last_row old.rows) ∙ ap paired (sym a)) i))
 
+  -- a key that has a row: no list that its new row leads is longer
+  shorter : (rows : List (Row T)) (k : ℕ) (x : Row T) → row_of rows k ≡ Some x → suc (length (without rows k)) ≤ length rows
+  shorter [] k x e = absurd (cc)
+  shorter (r ∷ rows) k x e =
+      cond_both (eqb r.key k) (Some r) (row_of rows k) (λ o. o ≡ Some x → suc (length (without (r ∷ rows) k)) ≤ length (r ∷ rows))
+      (λ here _. let n : length (without (r ∷ rows) k) ≡ length (without rows k) = ap (λ b. length (cond (not b) (r ∷ without rows k) (without rows k))) here in omega (arith, n, length-without-le k rows))
+      (λ there h. let n : length (without (r ∷ rows) k) ≡ suc (length (without rows k)) = ap (λ b. length (cond (not b) (r ∷ without rows k) (without rows k))) there in omega (arith, n, shorter rows k x h)) e
+
   -- `update_or_admit`
   module _ (Changes : T → ℕ → ℕ → T → Type 0) (Makes : T × ℕ → Type 0) (old new : Shard T) (k : ℕ) where
     updated_row : (o : Option (Row T)) → row_of old.rows k ≡ o → (was : Option ℕ) (w : ℕ) → UpdatesRow Changes Makes old k o (Ok (was, w)) new → Stands old.cap (forget old.rows) (UpdateOrAdmit k w) (Some (weighed was)) (forget new.rows)
@@ -237,158 +245,64 @@ module _ {T : Type 0} where
     pub given_of : (was : Option ℕ) (w : ℕ) → UpdatesOrAdmits Changes Makes old k (Ok (was, w)) new → IsGiven Changes Makes was w
     given_of was w h = given_row (row_of old.rows k) was w h
 
-    refused_row : (o : Option (Row T)) (r : Handed (Option (T × ℕ))) → UpdatesRow Changes Makes old k o (Err r) new → forget new.rows ≡ forget old.rows
+    -- a refusal leaves the keys and the weights
+    refused_row : (o : Option (Row T)) (r : RefusedUpdate T) → UpdatesRow Changes Makes old k o (Err r) new → forget new.rows ≡ forget old.rows
     refused_row (Some x) r h = ap (λ (s : Shard T). forget s.rows) h.1.1.1.1.1 ∙ forget-with_value old.rows k h.0
     refused_row None r h = ap (λ (s : Shard T). forget s.rows) h.1
 
-    pub refused_update : (r : Handed (Option (T × ℕ))) → UpdatesOrAdmits Changes Makes old k (Err r) new → forget new.rows ≡ forget old.rows
-    refused_update r h = refused_row (row_of old.rows k) r h
+    -- why a missing key is refused, and why a present one is, in the words of the plain list
+    declined : (w : ℕ) (size : Size) (cause : Cause) → size_of (with_first (forget old.rows) (row k tt w)) ≡ size → MayRefuse old.cap (size_of old.rows) size cause → forget new.rows ≡ forget old.rows →
+        Stands old.cap (forget old.rows) (UpdateOrAdmit k w) (refused cause) (forget new.rows)
+    declined w size cause same may left = declines_by (UpdateOrAdmit k w) old new (with_first (forget old.rows) (row k tt w)) (found (row_of (forget old.rows) k)) size cause refl same may left
 
-  -- a refusal that was looked up
-  pub stands_refused : (old new : Shard T) (k w : ℕ) (cause : Cause) → refusal old.cap (size_of (forget new.rows)) (size_of (with_first (forget new.rows) (row k tt w))) ≡ Some cause → forget new.rows ≡ forget old.rows → Stands old.cap (forget old.rows) (UpdateOrAdmit k w) (Some (Refused cause)) (forget new.rows)
-  stands_refused old new k w cause why same =
-      ap (λ o. option_map_or (λ cause. step (forget old.rows) (Refused cause)) o (step (with_first (forget old.rows) (row k tt w)) (found (row_of (forget old.rows) k))))
-      (ap (λ l. refusal old.cap (size_of l) (size_of (with_first l (row k tt w)))) (sym same) ∙ why)
-      ∙ ap (λ l. step l (Refused cause)) (sym same)
+    declined_new : (cause : Cause) (w : ℕ) (held : Option (T × ℕ)) → row_of old.rows k ≡ None → RefusesNew Makes old cause w held → forget new.rows ≡ forget old.rows → Stands old.cap (forget old.rows) (UpdateOrAdmit k w) (refused cause) (forget new.rows)
+    declined_new Memory w held none h left = left
+    declined_new Length w held none h left =
+        declined w (and_row (size_of old.rows) w) Length (size-new old.rows k w (row_of-forget old.rows k ∙ ap (option_map plain) none))
+        (refusal_length old.cap (size_of old.rows) (and_row (size_of old.rows) w) (omega arith) (leb-true (most_rows old.cap) (length old.rows) h.0)) left
+    declined_new Heavy w held none h left =
+        declined w (and_row (size_of old.rows) w) Heavy (size-new old.rows k w (row_of-forget old.rows k ∙ ap (option_map plain) none))
+        (ap (λ v. refusal old.cap (size_of old.rows) (and_row (size_of old.rows) v)) h.1.1.0.0 ∙ h.1.1.1) left
 
-  -- what a look for a weight says of the row
-  pub no_row : (rows : List (Row T)) (k : ℕ) → None ≡ option_map (λ (r : Row T). r.weight) (row_of rows k) → row_of rows k ≡ None
-  no_row rows k h = by_row (row_of rows k) h
-    where
-      by_row : (o : Option (Row T)) → None ≡ option_map (λ (r : Row T). r.weight) o → o ≡ None
-      by_row None h = refl
-      by_row (Some r) h = absurd (cc)
+    declined_row : (o : Option (Row T)) (r : RefusedUpdate T) → row_of old.rows k ≡ o → UpdatesRow Changes Makes old k o (Err r) new → Stands old.cap (forget old.rows) (UpdateOrAdmit k r.weight) (refused r.cause) (forget new.rows)
+    declined_row (Some x) r e h =
+        let first = with_first old.rows (row k h.0 r.weight) in
+        declined r.weight (size_of first) r.cause (ap size_of (first-forget old.rows (row k h.0 r.weight)) ∙ size-forget first)
+        (subst (λ v. MayRefuse old.cap (size_of old.rows) (size_of (with_first old.rows (row k h.0 v))) r.cause) (sym h.1.1.1.1.0.0) h.1.1.1.0) (refused_row (Some x) r h)
+    declined_row None r e h = declined_new r.cause r.weight r.held e h.0 (refused_row None r h)
 
-  pub has_row : (rows : List (Row T)) (k old : ℕ) → Some old ≡ option_map (λ (r : Row T). r.weight) (row_of rows k) → (r : Row T) × ((row_of rows k ≡ Some r) × (old ≡ r.weight))
-  has_row rows k old h = by_row (row_of rows k) h
-    where
-      by_row : (o : Option (Row T)) → Some old ≡ option_map (λ (r : Row T). r.weight) o → (r : Row T) × ((o ≡ Some r) × (old ≡ r.weight))
-      by_row None h = absurd (cc)
-      by_row (Some r) h = (r, (refl, cc))
+    -- a refused `update_or_admit`, by the weight that it tells
+    pub stands_refused : (r : RefusedUpdate T) → UpdatesOrAdmits Changes Makes old k (Err r) new → Stands old.cap (forget old.rows) (UpdateOrAdmit k r.weight) (refused r.cause) (forget new.rows)
+    stands_refused r h = declined_row (row_of old.rows k) r refl h
 
-  pub row_light : (u : Shard T) (k old : ℕ) → IsShard u → Some old ≡ option_map (λ (r : Row T). r.weight) (row_of u.rows k) → old ≤ weight_of u.rows
-  row_light u k old valid h = let r = has_row u.rows k old h in omega (arith, r.1.1, weight-without u.rows k r.0 (at_row u.rows k r.0 valid.keys r.1.0))
+    told_as : (cause : Cause) (w : ℕ) (held held' : Option (T × ℕ)) → held ≡ held' → IsMade Changes Makes cause held' w → IsMade Changes Makes cause held w
+    told_as cause w held held' e m = subst (λ (x : Option (T × ℕ)). IsMade Changes Makes cause x w) (sym e) m
 
-  plain_none : (rows : List (Row T)) (k : ℕ) → row_of rows k ≡ None → row_of (forget rows) k ≡ None
-  plain_none rows k e = row_of-forget rows k ∙ ap (option_map plain) e
+    made_new : (cause : Cause) (w : ℕ) (held : Option (T × ℕ)) → RefusesNew Makes old cause w held → IsMade Changes Makes cause held w
+    made_new Memory w held h = h.1.1
+    made_new Length w held h = (h.1.1, h.1.0)
+    made_new Heavy w held h = told_as Heavy w held (Some h.0) h.1.1.0.1 (h.1.0, h.1.1.0.0)
 
-  pub refused_full : (u : Shard T) (k w : ℕ) → None ≡ option_map (λ (r : Row T). r.weight) (row_of u.rows k) → most_rows u.cap ≤ length u.rows → refusal u.cap (size_of (forget u.rows)) (size_of (with_first (forget u.rows) (row k tt w))) ≡ Some Length
-  refused_full u k w h full = (λ i. refusal u.cap (size-forget u.rows i) (size-new u.rows k w (plain_none u.rows k (no_row u.rows k h)) i)) ∙ refusal_length u.cap (size_of u.rows) (and_row (size_of u.rows) w) (omega arith) full
+    made_there : (cause : Cause) (w : ℕ) (held : Option (T × ℕ)) (x : Row T) (d : T) (v : ℕ) → row_of old.rows k ≡ Some x → held ≡ None → MayRefuse old.cap (size_of old.rows) (size_of (with_first old.rows (row k d v))) cause →
+        ((was : ℕ) × IsUpdated Changes was w) → IsMade Changes Makes cause held w
+    made_there Memory w held x d v some none may given = none
+    made_there Length w held x d v some none may given = absurd (not_long old.cap (size_of old.rows) (size_of (with_first old.rows (row k d v))) (shorter old.rows k x some) may)
+    made_there Heavy w held x d v some none may given = told_as Heavy w held None none given
 
-  pub refused_new : (u : Shard T) (k w : ℕ) → None ≡ option_map (λ (r : Row T). r.weight) (row_of u.rows k) → length u.rows < most_rows u.cap → u.cap < weight_of u.rows + w → refusal u.cap (size_of (forget u.rows)) (size_of (with_first (forget u.rows) (row k tt w))) ≡ Some Heavy
-  refused_new u k w h short much = (λ i. refusal u.cap (size-forget u.rows i) (size-new u.rows k w (plain_none u.rows k (no_row u.rows k h)) i)) ∙ refusal_weight u.cap (size_of u.rows) (and_row (size_of u.rows) w) (inr short) much
+    made_row : (o : Option (Row T)) (r : RefusedUpdate T) → row_of old.rows k ≡ o → UpdatesRow Changes Makes old k o (Err r) new → IsMade Changes Makes r.cause r.held r.weight
+    made_row (Some x) r e h = made_there r.cause r.weight r.held x h.0 (max h.1.0 1) e h.1.1.1.1.0.1 h.1.1.1.0 (x.weight, (x.value, (h.0, (h.1.0, (h.1.1.0, h.1.1.1.1.0.0)))))
+    made_row None r e h = made_new r.cause r.weight r.held h.0
 
-  pub refused_row_of : (u : Shard T) (k w old : ℕ) → IsShard u → Some old ≡ option_map (λ (r : Row T). r.weight) (row_of u.rows k) → u.cap + old < weight_of u.rows + w → refusal u.cap (size_of (forget u.rows)) (size_of (with_first (forget u.rows) (row k tt w))) ≡ Some Heavy
-  refused_row_of u k w old valid h much =
-      let r = has_row u.rows k old h in
-      let at = at_row u.rows k r.0 valid.keys r.1.0 in
-      same_refusal u.cap u.rows (with_first u.rows (row k r.0.value w)) (with_first (forget u.rows) (row k tt w)) (first-forget u.rows (row k r.0.value w))
-      ∙ refusal_weight u.cap (size_of u.rows) (size_of (with_first u.rows (row k r.0.value w))) (inl (omega (arith, length-first u.rows k r.0 at r.0.value w))) (omega (arith, weight-first u.rows k r.0 at r.0.value w, r.1.1, much))
+    -- one for want of memory leaves everything
+    new_same : (o : Option (Row T)) (r : RefusedUpdate T) → row_of old.rows k ≡ o → r.cause ≡ Memory → UpdatesRow Changes Makes old k o (Err r) new → new ≡ old
+    new_same (Some x) r e memory h =
+        let may = subst (MayRefuse old.cap (size_of old.rows) (size_of (with_first old.rows (row k h.0 (max h.1.0 1))))) memory h.1.1.1.0 in
+        absurd (omega (arith, may.1, shorter old.rows k x e))
+    new_same None r e memory h = h.1
 
-  fits : (u : Shard T) (k w : ℕ) → None ≡ option_map (λ (r : Row T). r.weight) (row_of u.rows k) → refusal u.cap (size_of (forget u.rows)) (size_of (with_first (forget u.rows) (row k tt w))) ≡ refusal u.cap (size_of u.rows) (and_row (size_of u.rows) w)
-  fits u k w h = λ i. refusal u.cap (size-forget u.rows i) (size-new u.rows k w (plain_none u.rows k (no_row u.rows k h)) i)
+    pub same_update : (r : RefusedUpdate T) → r.cause ≡ Memory → UpdatesOrAdmits Changes Makes old k (Err r) new → new ≡ old
+    same_update r memory h = new_same (row_of old.rows k) r refl memory h
 
-  pub fits_new : (u : Shard T) (k w : ℕ) → None ≡ option_map (λ (r : Row T). r.weight) (row_of u.rows k) → length u.rows < most_rows u.cap → weight_of u.rows + w ≤ u.cap → refusal u.cap (size_of (forget u.rows)) (size_of (with_first (forget u.rows) (row k tt w))) ≡ None
-  fits_new u k w h short light = fits u k w h ∙ refusal_none u.cap (size_of u.rows) (and_row (size_of u.rows) w) (inr short) light
-
-  pub fits_row_of : (u : Shard T) (k w old : ℕ) → IsShard u → Some old ≡ option_map (λ (r : Row T). r.weight) (row_of u.rows k) → weight_of u.rows + w ≤ u.cap + old → refusal u.cap (size_of (forget u.rows)) (size_of (with_first (forget u.rows) (row k tt w))) ≡ None
-  fits_row_of u k w old valid h light =
-      let r = has_row u.rows k old h in
-      let at = at_row u.rows k r.0 valid.keys r.1.0 in
-      same_refusal u.cap u.rows (with_first u.rows (row k r.0.value w)) (with_first (forget u.rows) (row k tt w)) (first-forget u.rows (row k r.0.value w))
-      ∙ refusal_none u.cap (size_of u.rows) (size_of (with_first u.rows (row k r.0.value w))) (inl (omega (arith, length-first u.rows k r.0 at r.0.value w))) (omega (arith, weight-first u.rows k r.0 at r.0.value w, r.1.1, light))
-
-  -- a key that has a row: no list that its new row leads is longer
-  shorter : (rows : List (Row T)) (k : ℕ) (x : Row T) → row_of rows k ≡ Some x → suc (length (without rows k)) ≤ length rows
-  shorter [] k x e = absurd (cc)
-  shorter (r ∷ rows) k x e =
-      cond_both (eqb r.key k) (Some r) (row_of rows k) (λ o. o ≡ Some x → suc (length (without (r ∷ rows) k)) ≤ length (r ∷ rows))
-      (λ here _. let n : length (without (r ∷ rows) k) ≡ length (without rows k) = ap (λ b. length (cond (not b) (r ∷ without rows k) (without rows k))) here in omega (arith, n, length-without-le k rows))
-      (λ there h. let n : length (without (r ∷ rows) k) ≡ suc (length (without rows k)) = ap (λ b. length (cond (not b) (r ∷ without rows k) (without rows k))) there in omega (arith, n, shorter rows k x h)) e
-
-  -- a refused `update_or_admit`, looked up by the weight that is noted
-  module _ (Changes : T → ℕ → ℕ → T → Type 0) (Makes : T × ℕ → Type 0) (old new : Shard T) (k w : ℕ) where
-    abbrev pub looked_up : Option Cause
-    looked_up = refusal old.cap (size_of (forget new.rows)) (size_of (with_first (forget new.rows) (row k tt w)))
-
-    abbrev Gives : ℕ → Type 0
-    Gives w = (was : ℕ) × IsUpdated Changes was w
-
-    as_new : row_of old.rows k ≡ None → new ≡ old → looked_up ≡ refusal old.cap (size_of old.rows) (and_row (size_of old.rows) w)
-    as_new none same = (λ i. refusal old.cap (size_of (forget (same i).rows)) (size_of (with_first (forget (same i).rows) (row k tt w))))
-        ∙ (λ i. refusal old.cap (size-forget old.rows i) (size-new old.rows k w (plain_none old.rows k none) i))
-
-    found_full : row_of old.rows k ≡ None → new ≡ old → is_full old.cap (size_of old.rows) ≡ true → looked_up ≡ Some Length
-    found_full none same full = as_new none same ∙ refusal_length old.cap (size_of old.rows) (and_row (size_of old.rows) w) (omega arith) (leb-true (most_rows old.cap) (length old.rows) full)
-
-    found_heavy : (made : T × ℕ) → row_of old.rows k ≡ None → new ≡ old → w ≡ max made.1 1 → refusal old.cap (size_of old.rows) (and_row (size_of old.rows) (max made.1 1)) ≡ Some Heavy → looked_up ≡ Some Heavy
-    found_heavy made none same is h = as_new none same ∙ (λ i. refusal old.cap (size_of old.rows) (and_row (size_of old.rows) (is i))) ∙ h
-
-    noted_made : (held : Option (T × ℕ)) (made : T × ℕ) → held ≡ Some made → IsNoted Gives Heavy held (Some w) → w ≡ max made.1 1
-    noted_made held made e noted = let n : Some w ≡ Some (max made.1 1) = subst (λ (x : Option (T × ℕ)). IsNoted Gives Heavy x (Some w)) e noted in cc
-
-    same_cause : (one other : Cause) → looked_up ≡ Some one → looked_up ≡ Some other → other ≡ one
-    same_cause one other f g = let e : Some one ≡ Some other = sym f ∙ g in cc
-
-    told_as : (cause cause' : Cause) (held held' : Option (T × ℕ)) → cause ≡ cause' → held ≡ held' → IsMade Changes Makes cause' held' w → IsMade Changes Makes cause held w
-    told_as cause cause' held held' c h m = subst (λ (x : Cause). IsMade Changes Makes x held w) (sym c) (subst (λ (x : Option (T × ℕ)). IsMade Changes Makes cause' x w) (sym h) m)
-
-    new_made : (why cause : Cause) (held : Option (T × ℕ)) → row_of old.rows k ≡ None → new ≡ old → RefusesNew Makes old why held → IsNoted Gives why held (Some w) → looked_up ≡ Some cause → IsMade Changes Makes cause held w
-    new_made Memory cause held none same h noted f = absurd (cc)
-    new_made Length cause held none same h noted f = told_as cause Length held held (same_cause Length cause (found_full none same h.0) f) refl (h.1, cc)
-    new_made Heavy cause held none same h noted f =
-        let is = noted_made held h.0 h.1.1.0 noted in
-        told_as cause Heavy held (Some h.0) (same_cause Heavy cause (found_heavy h.0 none same is h.1.1.1) f) h.1.1.0 (h.1.0, is)
-
-    row_made : (why cause : Cause) (held : Option (T × ℕ)) (x : Row T) (d : T) (v : ℕ) → row_of old.rows k ≡ Some x → forget new.rows ≡ forget old.rows → held ≡ None →
-        MayRefuse old.cap (size_of old.rows) (size_of (with_first old.rows (row k d v))) why → IsNoted Gives why held (Some w) → looked_up ≡ Some cause → IsMade Changes Makes cause held w
-    row_made Memory cause held x d v some same e may noted f = absurd (cc)
-    row_made Length cause held x d v some same e may noted f = absurd (not_long old.cap (size_of old.rows) (size_of (with_first old.rows (row k d v))) (shorter old.rows k x some) may)
-    row_made Heavy cause held x d v some same e may noted f = told_as cause cause held None refl e (by_cause cause f)
-      where
-        given : ∥ Gives w ∥₁
-        given = subst (λ (x : Option (T × ℕ)). IsNoted Gives Heavy x (Some w)) e noted
-
-        by_cause : (cause : Cause) → looked_up ≡ Some cause → IsMade Changes Makes cause None w
-        by_cause Memory f = refl
-        by_cause Length f = absurd (not_long old.cap (size_of (forget new.rows)) (size_of (with_first (forget new.rows) (row k tt w)))
-            (subst (λ (l : List Plain). length (with_first l (row k tt w)) ≤ length l) (sym same) (let n = length-forget old.rows in let m = length-forget (without old.rows k) in let q = ap length (without-forget old.rows k) in omega (arith, n, m, q, shorter old.rows k x some))) f)
-        by_cause Heavy f = given
-
-    made_row : (o : Option (Row T)) (r : Handed (Option (T × ℕ))) (cause : Cause) → row_of old.rows k ≡ o → forget new.rows ≡ forget old.rows → UpdatesRow Changes Makes old k o (Err r) new → IsNoted Gives r.cause r.held (Some w) → looked_up ≡ Some cause → IsMade Changes Makes cause r.held w
-    made_row (Some x) r cause n same h noted f = row_made r.cause cause r.held x h.0 (max h.1.0 1) n same h.1.1.1.1.0 h.1.1.1.0 noted f
-    made_row None r cause n same h noted f = new_made r.cause cause r.held n h.1 h.0 noted f
-
-    -- what was handed back, where the refusal was found
-    pub made_of : (r : Handed (Option (T × ℕ))) (cause : Cause) → UpdatesOrAdmits Changes Makes old k (Err r) new → IsNoted Gives r.cause r.held (Some w) → looked_up ≡ Some cause → IsMade Changes Makes cause r.held w
-    made_of r cause h noted f = made_row (row_of old.rows k) r cause refl (refused_update Changes Makes old new k r h) h noted f
-
-    new_none : (why : Cause) (held : Option (T × ℕ)) → row_of old.rows k ≡ None → new ≡ old → RefusesNew Makes old why held → IsNoted Gives why held (Some w) → looked_up ≡ None → held ≡ None
-    new_none Memory held none same h noted f = h.1
-    new_none Length held none same h noted f = h.1
-    new_none Heavy held none same h noted f = absurd (let e : None ≡ Some Heavy = sym f ∙ found_heavy h.0 none same (noted_made held h.0 h.1.1.0 noted) h.1.1.1 in cc)
-
-    none_row : (o : Option (Row T)) (r : Handed (Option (T × ℕ))) → row_of old.rows k ≡ o → UpdatesRow Changes Makes old k o (Err r) new → IsNoted Gives r.cause r.held (Some w) → looked_up ≡ None → r.held ≡ None
-    none_row (Some x) r n h noted f = h.1.1.1.1.0
-    none_row None r n h noted f = new_none r.cause r.held n h.1 h.0 noted f
-
-    -- and where it was not
-    pub none_held : (r : Handed (Option (T × ℕ))) → UpdatesOrAdmits Changes Makes old k (Err r) new → IsNoted Gives r.cause r.held (Some w) → looked_up ≡ None → r.held ≡ None
-    none_held r h noted f = none_row (row_of old.rows k) r refl h noted f
-
-  pub noted_as : (Gives : ℕ → Type 0) (cause : Cause) (held : Option (T × ℕ)) (n m : Option ℕ) → n ≡ m → IsNoted Gives cause held n → IsNoted Gives cause held m
-  noted_as Gives cause held n m e h = subst (λ (x : Option ℕ). IsNoted Gives cause held x) e h
-
-  -- and where no weight is noted
-  module _ (Changes : T → ℕ → ℕ → T → Type 0) (Makes : T × ℕ → Type 0) (Gives : ℕ → Type 0) (old new : Shard T) (k : ℕ) where
-    new_unnoted : (why : Cause) (held : Option (T × ℕ)) → RefusesNew Makes old why held → IsNoted Gives why held None → held ≡ None
-    new_unnoted Memory held h noted = h.1
-    new_unnoted Length held h noted = h.1
-    new_unnoted Heavy held h noted = absurd (let e : None ≡ Some (max h.0.1 1) = subst (λ (x : Option (T × ℕ)). IsNoted Gives Heavy x None) h.1.1.0 noted in cc)
-
-    unnoted_row : (o : Option (Row T)) (r : Handed (Option (T × ℕ))) → UpdatesRow Changes Makes old k o (Err r) new → IsNoted Gives r.cause r.held None → r.held ≡ None
-    unnoted_row (Some x) r h noted = h.1.1.1.1.0
-    unnoted_row None r h noted = new_unnoted r.cause r.held h.0 noted
-
-    pub unnoted_held : (r : Handed (Option (T × ℕ))) → UpdatesOrAdmits Changes Makes old k (Err r) new → IsNoted Gives r.cause r.held None → r.held ≡ None
-    unnoted_held r h noted = unnoted_row (row_of old.rows k) r h noted
+    -- what is handed back of it, and the weight that the called closure gave
+    pub made_of : (r : RefusedUpdate T) (back : Handed (Option (T × ℕ))) → back.cause ≡ r.cause → back.held ≡ r.held → UpdatesOrAdmits Changes Makes old k (Err r) new → IsMade Changes Makes back.cause back.held r.weight
+    made_of r back cause held h = subst (λ (x : Cause). IsMade Changes Makes x back.held r.weight) (sym cause) (told_as r.cause r.weight back.held r.held held (made_row (row_of old.rows k) r refl h))

@@ -1,6 +1,7 @@
 -- A call that is made and noted keeps the history legal.
 use Rattle.std.proofs.Common.{◌≡◌, ℕ, ◌%◌, ◌<◌, List, [], ◌∷◌, ◌++◌, map, Option, Some, None, refl, sym, ap, ◌∙◌, subst}
 use Rattle.lru_rules.specs.Limits.{cap_of}
+use Rattle.lru_hands.proofs.Hands.{map_snoc}
 use Rattle.lru_journals.specs.declared.entry.Entry.{Entry}
 use Rattle.lru_journals.specs.declared.entry.Call.{Call}
 use Rattle.lru_journals.specs.declared.entry.Reply.{Reply}
@@ -27,10 +28,6 @@ left_snoc cap rows (x ∷ es) e = left_snoc cap (called cap rows x.call).rows es
 answers_snoc : (cap : ℕ) (rows : List Plain) (es : List Entry) (e : Entry) → answers cap rows (es ++ e ∷ []) ≡ answers cap rows es ++ (called cap (left_by cap rows es) e.call).reply ∷ []
 answers_snoc cap rows [] e = refl
 answers_snoc cap rows (x ∷ es) e = λ i. (called cap rows x.call).reply ∷ answers_snoc cap (called cap rows x.call).rows es e i
-
-pub map_snoc : {A B : Type 0} (f : A → B) (xs : List A) (x : A) → map f (xs ++ x ∷ []) ≡ map f xs ++ f x ∷ []
-map_snoc f [] x = refl
-map_snoc f (y ∷ ys) x = λ i. f y ∷ map_snoc f ys x i
 
 told_more : (n s : ℕ) (rows rows' : List Plain) (es : List Entry) (e : Entry) → home n s e.call ≡ s → called (cap_of n) rows e.call ≡ step rows' e.reply → Told n s rows es → Told n s rows' (es ++ e ∷ [])
 told_more n s rows rows' es e of_shard stands t = record {

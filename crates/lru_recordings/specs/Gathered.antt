@@ -4,7 +4,8 @@ use Rattle.atomic_table.specs.Table.{Me}
 use Rattle.lru_journals.specs.declared.entry.Stamp.{Stamp}
 use Rattle.lru_journals.specs.declared.entry.Hand.{Hand}
 use Rattle.lru_journals.specs.declared.entry.Entry.{Entry}
-use Rattle.lru_journals.specs.Ties.{hand, Among}
+use Rattle.lru_hands.specs.Hands.{Among}
+use Rattle.lru_journals.specs.Ties.{hand}
 use Rattle.lru_journals.specs.Stamps.{stamps_in, TurnsRise}
 
 -- how many places are empty

@@ -2,4 +2,3 @@ pub mod Plain
 pub mod Histories
 pub mod Replies
 pub mod Gathered
-pub mod Given

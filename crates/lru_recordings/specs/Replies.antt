@@ -65,4 +65,4 @@ abbrev pub IsMade : {T : Type 0} → (T → ℕ → ℕ → T → Type 0) → (T
 IsMade Changes Makes Memory held w = held ≡ None
 IsMade Changes Makes Length held w = (held ≡ None) × (w ≡ 0)
 IsMade Changes Makes Heavy (Some made) w = Makes made × (w ≡ max made.1 1)
-IsMade Changes Makes Heavy None w = ∥ ((was : ℕ) × IsUpdated Changes was w) ∥₁
+IsMade Changes Makes Heavy None w = (was : ℕ) × IsUpdated Changes was w

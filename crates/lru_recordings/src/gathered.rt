@@ -1,6 +1,7 @@
 //! Shards taken out of their locks: each is put at the place of its number, and then all go in order.
 ghost use Rattle.std.specs.Prelude.{◌≡◌, ◌+◌, ◌<◌, ◌≤◌, [], ◌∷◌, ◌++◌, map, option_map, Some, vec_len, vec_capacity, IfOk};
 ghost use Rattle.lru_rules.specs.Limits.{cap_of};
+ghost use Rattle.lru_rules.specs.Shards.{IsOwn, AreOwn};
 ghost use Rattle.lru_journals.specs.Stamps.{TurnsRise};
 ghost use Rattle.lru_journals.specs.Ties.{hand};
 ghost use Rattle.lru_journals.specs.Tied.{IsBook};
@@ -29,6 +30,7 @@ pub struct Kept<T, const N: usize> {
     pub ghost right: { replies history.items ≡ answers (cap_of N) [] history.items },
     pub ghost homes: { map (λ e. home N number e.call) history.items ≡ map (λ _. number) history.items },
     pub ghost rising: { TurnsRise history.items },
+    pub ghost own: { IsOwn N number unit },
 }
 
 /// The units and the histories of the first shards, in their order.
@@ -42,6 +44,8 @@ pub struct Gathered<T, const N: usize> {
     pub ghost right: { map replies (lists_of histories.items) ≡ map (answers (cap_of N) []) (lists_of histories.items) },
     pub ghost homes: { homes_from N 0 (lists_of histories.items) ≡ shards_from 0 (lists_of histories.items) },
     pub ghost rising: { EachRises (lists_of histories.items) },
+    pub ghost own: { AreOwn N units.items },
+    pub ghost same_count: { vec_len units ≡ vec_len histories },
 }
 
 impl<T: Drop, const N: usize> Gathered<T, N> {
@@ -98,11 +102,13 @@ fn place<T: Drop, B: Registry, const N: usize>(
     } = journal;
     tie.join(book, token);
     tie.look(book, names);
-    slots[number] = Some(Kept {
+    let _weight = unit.used_weight();
+    let kept = Kept {
         number,
         unit,
         history,
-    });
+    };
+    slots[number] = Some(kept);
 }
 
 // Takes all shards out of their locks, and puts each at its place.

@@ -3,6 +3,5 @@
 #![tactic(auto)]
 
 pub mod gathered;
-mod given;
 pub mod recording;
 mod replies;

@@ -11,17 +11,12 @@ ghost use Rattle.lru_recordings.specs.Plain.{forget};
 ghost use Rattle.lru_recordings.specs.Histories.{left_by, answers, replies, home, IsEviction};
 ghost use Rattle.lru_recordings.specs.Replies.{refused, weighed, paired, increments, IsGiven, IsMade};
 
-use crate::given::update_or_admit;
-use crate::replies::{admitted, incremented, inserted, new_weight, paired, set, weighed};
+use crate::replies::{admitted, incremented, inserted, new_weight, paired, refused, set, weighed};
 use lru_journals::entry::{Call, Reply};
 use lru_journals::journal::{Journal, Seat};
 use lru_journals::tie::{Registry, Tie, Token};
 use lru_shard::unit::{Cause, LruUnit, Refused};
 use std::alloc::{AllocError, Global};
-use std::marker::Brand;
-
-// The most rows that any shard has.
-const MOST_ROWS: usize = 4294967293;
 
 /// A shard, and its calls so far.
 #[derive(Drop)]
@@ -77,29 +72,6 @@ fn cloned_last<T: Clone>(unit: &LruUnit<T>) -> Result<Option<(T, usize)>, AllocE
         return Ok(None);
     };
     Ok(Some((data.clone()?, weight)))
-}
-
-// Why a key is refused this weight under the shard's cap, whatever memory there is, as far as it is.
-fn refusal_of<T>(unit: &LruUnit<T>, cap: usize, key: u64, weight: usize) -> Option<Cause>
-    requires { unit.now.cap ≡ cap }
-    ensures why { refusal unit.now.cap (size_of (forget unit.now.rows)) (size_of (with_first (forget unit.now.rows) (row key tt weight))) ≡ result }
-    ensures noted { IfSome result (λ cause. refused cause ≡ Some (Reply.Refused cause)) }
-{
-    let used = unit.used_weight();
-    let Some(old) = unit.peek_weight(key) else {
-        return if unit.len() >= cap.min(MOST_ROWS) {
-            Some(Cause::Length)
-        } else if weight > cap - used {
-            Some(Cause::Weight)
-        } else {
-            None
-        };
-    };
-    if weight > cap - (used - old) {
-        Some(Cause::Weight)
-    } else {
-        None
-    }
 }
 
 impl<T: Drop, B: Registry, const N: usize> Recording<T, B, N> {
@@ -376,7 +348,7 @@ impl<T: Drop, B: Registry, const N: usize> Recording<T, B, N> {
 
     /// Updates a key's data and weight, or admits what `admit_data` gives, puts the row first, and answers the weight that the
     /// key had. The weight that the called closure gives, at least 1, is noted. A refused update keeps what `update` did to
-    /// the data; a refused admission hands back what was made. Want of memory is not noted.
+    /// the data; a refused admission hands back what was made. Want of memory is not noted, and changes nothing.
     pub fn update_or_admit<U, A>(
         &mut self,
         tie: &Tie,
@@ -394,6 +366,7 @@ impl<T: Drop, B: Registry, const N: usize> Recording<T, B, N> {
         requires admit_data { A.IsAlwaysCallable admit_data }
         ensures ok { IfOk result (λ was. (w : _) × (IsGiven (Updates (U.post update)) (A.post admit_data) was w × GetsReceipt seat.old.receipts.items self.old.journal.number (Call.UpdateOrAdmit key w) (Some (weighed was)) seat.new.receipts.items)) }
         ensures err { IfErr result (λ r. (w : _) × (IsMade (Updates (U.post update)) (A.post admit_data) r.cause r.held w × GetsReceipt seat.old.receipts.items self.old.journal.number (Call.UpdateOrAdmit key w) (refused r.cause) seat.new.receipts.items)) }
+        ensures kept { IfErr result (λ r. r.cause ≡ Cause.Memory → self.new.unit ≡ self.old.unit) }
         ensures same { (self.new.journal.number ≡ self.old.journal.number) × (seat.new.number ≡ seat.old.number) }
     {
         let Recording { unit, journal } = self;
@@ -403,29 +376,17 @@ impl<T: Drop, B: Registry, const N: usize> Recording<T, B, N> {
                 held: None,
             });
         }
-        let answer = update_or_admit::<Brand, T, U, A>(unit, key, update, admit_data);
-        let (Refused { held, .. }, weight) = match answer {
+        match unit.update_or_admit(key, update, admit_data) {
             Ok((was, weight)) => {
                 journal.note(tie, seat, Call::UpdateOrAdmit { key, weight }, weighed(was));
-                return Ok(was);
+                Ok(was)
             }
-            Err(refusal) => refusal,
-        };
-        let Some(weight) = weight else {
-            return Err(Refused {
-                cause: Cause::Memory,
-                held,
-            });
-        };
-        // No proof knows which weight of those that the closure may give it gave, so the refusal is looked up again.
-        let Some(cause) = refusal_of(unit, usize::MAX / N, key, weight) else {
-            return Err(Refused {
-                cause: Cause::Memory,
-                held,
-            });
-        };
-        let call = Call::UpdateOrAdmit { key, weight };
-        journal.note(tie, seat, call, Reply::Refused(cause));
-        Err(Refused { cause, held })
+            Err(refusal) => {
+                let weight = refusal.weight;
+                let call = Call::UpdateOrAdmit { key, weight };
+                journal.note_reply(tie, seat, call, refused(refusal.cause));
+                Err(refusal.untold())
+            }
+        }
     }
 }

@@ -1,3 +1,5 @@
 pub mod Limits
 pub mod Draws
+pub mod Victims
 pub mod ShardCalls
+pub mod Shards

@@ -1,7 +1,8 @@
 //! When an order is over its limits, which shards an eviction looks at, and what a refused growth leaves of one.
-ghost use Rattle.std.specs.Prelude.{◌≡◌, ◌+◌, ◌%◌, ◌<◌, ◌≤◌};
+ghost use Rattle.std.specs.Prelude.{◌≡◌, ◌+◌, ◌-◌, ◌%◌, ◌<◌, ◌≤◌, min};
 ghost use Rattle.lru_rules.specs.Draws.{drawn_shards};
 ghost use Rattle.lru_rules.specs.Limits.{is_past};
+ghost use Rattle.lru_rules.specs.Victims.{longer_of};
 
 use rand::RngExt;
 use rand_core::Rng;
@@ -23,6 +24,44 @@ pub fn is_past(limit: usize, watermark: Option<usize>, weight: usize, len: usize
             None => false,
             Some(most) => len > most,
         }
+}
+
+/// What an `evict_to_limit` that others may come between read at its start: the limits, and the weight and the length, which go
+/// down by what it evicts.
+#[derive(Clone, Copy)]
+pub struct Readings {
+    /// The sum of the weights of all rows, less what was evicted.
+    pub weight: usize,
+    /// The number of all rows, less what was evicted.
+    pub len: usize,
+    /// The weight above which the order is over.
+    pub weight_limit: usize,
+    /// The length above which it is over, if there is one.
+    pub watermark: Option<usize>,
+}
+
+impl Readings {
+    /// Whether what is left of the values first read and these values are both past one limit.
+    #[inline(always)]
+    pub fn is_past(&self, weight: usize, len: usize) -> bool
+        ensures { result ≡ is_past self.now.weight_limit self.now.watermark (min self.now.weight weight) (min self.now.len len) }
+    {
+        is_past(
+            self.weight_limit,
+            self.watermark,
+            self.weight.min(weight),
+            self.len.min(len),
+        )
+    }
+
+    /// A row of this weight was evicted.
+    #[inline(always)]
+    pub fn evicted(&mut self, weight: usize)
+        ensures { self.new ≡ record self.old { weight = self.old.weight - weight; len = self.old.len - 1 } }
+    {
+        self.weight = self.weight.saturating_sub(weight);
+        self.len = self.len.saturating_sub(1);
+    }
 }
 
 /// The place that lies so many steps on, in a circle of `count` places.
@@ -55,4 +94,12 @@ pub fn drawn_shards<R: Rng, const N: usize>(rng: &mut R) -> (usize, usize)
     let a = rng.random_range(0..N);
     let b = rng.random_range(0..N);
     (a, b)
+}
+
+/// Which of two shards gives up a row: the longer one, or the first where they are as long.
+#[inline(always)]
+pub fn longer_of(a: usize, b: usize, len_a: usize, len_b: usize) -> usize
+    ensures { result ≡ longer_of a b len_a len_b }
+{
+    if len_a >= len_b { a } else { b }
 }

@@ -5,6 +5,15 @@ ghost use Rattle.lru_shard.specs.Shard.{IsShard};
 
 use lru_shard::unit::LruUnit;
 
+/// What a sharded order that threads shared leaves.
+#[derive(Drop)]
+pub struct Units<T> {
+    /// The shards, in their order.
+    pub units: Vec<LruUnit<T>>,
+    /// What was counted of them.
+    pub totals: Totals,
+}
+
 /// The weight and the number of some rows.
 #[derive(Clone, Copy, Debug, PartialEq, Eq)]
 pub struct Totals {

@@ -1,6 +1,7 @@
 pub mod TurnLaws
 pub mod MessageLaws
 pub mod PostLaws
+pub mod SenderLaws
 pub mod ActorKeeps
 pub mod WorldKeeps
 pub mod LawKeeps

@@ -221,7 +221,7 @@ module _ {K : Type 0} where
     follows QueryWeight = same rows d
 
   -- what may want room depends on the map at the message's hash alone
-  pub wants_same : (rows : List (Row K)) (f g : ℕ → Option ℕ) → ((h : ℕ) → f h ≡ g h) → (msg : LruMsg K) → MayWantRoom f rows msg → MayWantRoom g rows msg
+  pub wants_same : (rows : List (Row K)) (f g : ℕ → Option ℕ) → ((h : ℕ) → f h ≡ g h) → (msg : LruMsg K) → MayWantRoom (Unit {0}) f rows msg → MayWantRoom (Unit {0}) g rows msg
   wants_same rows f g same (Admit h _ _) w = sym (same h) ∙ w
   wants_same rows f g same (IncrementWeight h _ _ _) w = sym (same h) ∙ w
   wants_same rows f g same (Promote _) w = w

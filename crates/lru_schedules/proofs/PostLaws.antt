@@ -3,8 +3,8 @@ use Rattle.std.proofs.Common.{◌≡◌, ℕ, ◌+◌, ◌-◌, ltb, List, [], �
 use Rattle.std.specs.Prelude.{◌⊎◌, slice_get}
 use Rattle.std.proofs.lemmas.Bool.{cond-false, le-ltb}
 use Rattle.lru_mailbox.specs.Mail.{Post, posted, urged, served, moved_up}
-use Rattle.lru_actors.specs.declared.message.LruMsg.{LruMsg}
 use Rattle.lru_actors.specs.declared.message.LruMsg.TheVariants.{Evict}
+use Rattle.lru_schedules.specs.Turns.{Sent}
 
 module _ {A : Type 0} where
   -- an item of a list with one item more
@@ -30,28 +30,28 @@ nowhere i e = cc
 
 module _ {K : Type 0} where
   -- wherever `Evict` waits, the mailbox knows that place
-  abbrev pub IsKnown : Post (LruMsg K) → Type 0
-  IsKnown p = (i : ℕ) → slice_get p.waiting i ≡ Some Evict → p.evict ≡ Some i
+  abbrev pub IsKnown : Post (Sent K) → Type 0
+  IsKnown p = (i : ℕ) (x : Sent K) → slice_get p.waiting i ≡ Some x → x.msg ≡ Evict → p.evict ≡ Some i
 
-  pub known_posted : (p : Post (LruMsg K)) (msg : LruMsg K) → (msg ≡ Evict → ⊥) → IsKnown p → IsKnown (posted p msg)
-  known_posted p msg other k i e = elim (get_more p.waiting msg i Evict e) [
-    | inl old ↦ k i old
-    | inr new ↦ absurd (other new.1)
+  pub known_posted : (p : Post (Sent K)) (m : Sent K) → (m.msg ≡ Evict → ⊥) → IsKnown p → IsKnown (posted p m)
+  known_posted p m other k i x e is = elim (get_more p.waiting m i x e) [
+    | inl old ↦ k i x old is
+    | inr new ↦ absurd (other (ap (λ (y : Sent K). y.msg) new.1 ∙ is))
   ]
 
-  pub known_urged : (p : Post (LruMsg K)) → p.evict ≡ None → IsKnown p → IsKnown (urged p Evict)
-  known_urged p none k i e = elim (get_more p.waiting Evict i Evict e) [
-    | inl old ↦ absurd (nowhere i (sym none ∙ k i old))
+  pub known_urged : (p : Post (Sent K)) (m : Sent K) → p.evict ≡ None → IsKnown p → IsKnown (urged p m)
+  known_urged p m none k i x e is = elim (get_more p.waiting m i x e) [
+    | inl old ↦ absurd (nowhere i (sym none ∙ k i x old is))
     | inr new ↦ ap (λ j. Some j) (sym new.0)
   ]
 
-  pub known_served : (n : ℕ) (p : Post (LruMsg K)) → IsKnown p → IsKnown (served n p)
-  known_served n p k i e =
-      ap (moved_up n) (k (n + i) (get_dropped n p.waiting i Evict e))
+  pub known_served : (n : ℕ) (p : Post (Sent K)) → IsKnown p → IsKnown (served n p)
+  known_served n p k i x e is =
+      ap (moved_up n) (k (n + i) x (get_dropped n p.waiting i x e) is)
       ∙ cond-false (ltb (n + i) n) None (Some (n + i - n)) (le-ltb (n + i) n (omega arith)) ∙ ap (λ j. Some j) (let q : n + i - n ≡ i = omega arith in q)
 
-  pub one_place : (p : Post (LruMsg K)) → IsKnown p → (i j : ℕ) → slice_get p.waiting i ≡ Some Evict → slice_get p.waiting j ≡ Some Evict → i ≡ j
-  one_place p k i j a b = same_place i j (sym (k i a) ∙ k j b)
+  pub one_place : (p : Post (Sent K)) → IsKnown p → (i j : ℕ) (x y : Sent K) → slice_get p.waiting i ≡ Some x → slice_get p.waiting j ≡ Some y → x.msg ≡ Evict → y.msg ≡ Evict → i ≡ j
+  one_place p k i j x y a b ea eb = same_place i j (sym (k i x a ea) ∙ k j y b eb)
     where
       same_place : (i j : ℕ) → Some i ≡ Some j → i ≡ j
       same_place i j q = cc

@@ -1,5 +1,5 @@
 -- What holds of the world, kept by each event.
-use Rattle.std.proofs.Common.{◌≡◌, ◌≢◌, ℕ, ◌+◌, ◌%◌, ◌^◌, cond, eqb, zero, suc, Bool, true, false, List, [], ◌∷◌, ◌++◌, length, map, Some, None, refl, sym, ap, ◌∙◌, arith, subst, inl, inr, append-nil, length-append}
+use Rattle.std.proofs.Common.{◌≡◌, ◌≢◌, ℕ, ◌+◌, ◌%◌, ◌^◌, ◌<◌, cond, eqb, zero, suc, Bool, true, false, List, [], ◌∷◌, ◌++◌, length, map, Some, None, refl, sym, ap, ◌∙◌, arith, subst, inl, inr, append-nil, length-append}
 use Rattle.std.specs.Prelude.{◌⊎◌, Option, filter, slice_get, slice_set, sum_by, option_to_list}
 use Rattle.std.proofs.lemmas.Bool.{cond-true, cond-false, eq-eqb, ne_eqb}
 use Rattle.std.proofs.lemmas.List.{map-append}
@@ -7,12 +7,11 @@ use Rattle.std.proofs.lemmas.List.Sums.{sum_by-cons}
 use Rattle.std.proofs.lemmas.List.Elements.{filter-append}
 use Rattle.std.proofs.Math.Nat.{mod-add-mod}
 use Rattle.lru_dispatch.specs.Queue.{Queue, dispatched}
-use Rattle.lru_actors.specs.declared.message.LruMsg.{LruMsg}
 use Rattle.lru_actors.specs.declared.effect.Effect.{Effect}
 use Rattle.lru_actors.specs.Messages.{State, evicted_of}
 use Rattle.lru_actors.specs.Processing.{queued, Processes}
-use Rattle.lru_schedules.specs.Turns.{turn, leaving}
-use Rattle.lru_schedules.specs.World.{Actor, PutsPair, IsSameQueue, itself, rows_of}
+use Rattle.lru_schedules.specs.Turns.{Sent, turn, leaving}
+use Rattle.lru_schedules.specs.World.{Actor, PutsPair, IsSameQueue, itself, AtAnyTime, rows_of}
 
 pub not_both : true ≡ false → ⊥
 not_both e = cc
@@ -31,6 +30,17 @@ module _ {A : Type 0} where
     | inl h ↦ inl (ap suc h.0, h.1)
     | inr h ↦ inr ((λ q. h.0 (omega (arith, q))), h.1)
   ]
+
+  pub length_set : (xs : List A) (s : ℕ) (b : A) → length (slice_set xs s b) ≡ length xs
+  length_set [] s b = refl
+  length_set (x ∷ xs) zero b = refl
+  length_set (x ∷ xs) (suc s) b = ap suc (length_set xs s b)
+
+  -- what stands at a place of a list
+  pub at_place : (xs : List A) (s : ℕ) → s < length xs → (a : A) × (slice_get xs s ≡ Some a)
+  at_place [] s h = absurd (omega arith)
+  at_place (x ∷ xs) zero h = (x, refl)
+  at_place (x ∷ xs) (suc s) h = at_place xs s (omega arith)
 
   pub sum_set : (f : A → ℕ) (xs : List A) (s : ℕ) (a b : A) → slice_get xs s ≡ Some a → sum_by f (slice_set xs s b) + f a ≡ sum_by f xs + f b
   sum_set f [] s a b e = cc
@@ -112,9 +122,9 @@ module _ {K : Type 0} where
   pairs_follow q q' None e = none_follows q q' e
   pairs_follow q q' (Some p) e = one_follows q q' p q.closed refl e
 
-  module _ (IsClone : K → K → Type 0) (a : Actor K) (msg : LruMsg K) (e : Effect K) (new : State K) (look : ℕ → Option ℕ) (q q' : Queue K) where
-    pub leaving_follow : Processes PutsPair IsSameQueue itself IsClone a.state a.look q msg e new look q' → Joins q (leaving (rows_of a) (turn msg e)) q'
+  module _ (IsClone : K → K → Type 0) (a : Actor K) (x : Sent K) (e : Effect K) (new : State K) (look : ℕ → Option ℕ) (q q' : Queue K) where
+    pub leaving_follow : Processes PutsPair IsSameQueue itself IsClone AtAnyTime a.state a.look q x.msg e new look q' → Joins q (leaving (rows_of a) (turn x e)) q'
     leaving_follow p = elim p [
-      | inl s ↦ subst (λ ps. Joins q ps q') (sym (cond-false e.refused [] (option_to_list (evicted_of (rows_of a) msg)) s.done.refused)) (pairs_follow q q' (evicted_of (rows_of a) msg) s.queue_is)
-      | inr t ↦ subst (λ ps. Joins q ps q') (sym (cond-true e.refused [] (option_to_list (evicted_of (rows_of a) msg)) t.refused.refused)) (none_follows q q' t.queue_is)
+      | inl s ↦ subst (λ ps. Joins q ps q') (sym (cond-false e.refused [] (option_to_list (evicted_of (rows_of a) x.msg)) s.done.refused)) (pairs_follow q q' (evicted_of (rows_of a) x.msg) s.queue_is)
+      | inr t ↦ subst (λ ps. Joins q ps q') (sym (cond-true e.refused [] (option_to_list (evicted_of (rows_of a) x.msg)) t.refused.refused)) (none_follows q q' t.queue_is)
     ]

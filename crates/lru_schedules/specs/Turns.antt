@@ -1,5 +1,5 @@
--- The messages that one actor consumed, in order, and what they leave. A turn is a message with the effect that it had.
-use Rattle.std.specs.Prelude.{◌≡◌, ℕ, ◌+◌, ◌⊎◌, ◌==◌, ◌&&◌, not, Bool, true, false, List, [], ◌∷◌, ◌++◌, count_by, fold, Option, None, option_to_list, option_map, if◌then◌else◌}
+-- The messages that one actor consumed, in order, and what they leave. A turn is a message with its sender and the effect that it had.
+use Rattle.std.specs.Prelude.{◌≡◌, ℕ, ◌+◌, ◌⊎◌, ◌==◌, ◌&&◌, not, Bool, true, false, List, [], ◌∷◌, ◌++◌, count_by, filter, fold, map, Option, None, option_to_list, option_map, if◌then◌else◌}
 use Rattle.std.specs.Option.{option_map_or}
 use Rattle.lru_shard.specs.Row.{Row, row_of, is_held, last_row}
 use Rattle.lru_shard.specs.Shard.{shard}
@@ -9,13 +9,35 @@ use Rattle.lru_actors.specs.declared.effect.Effect.{Effect}
 use Rattle.lru_actors.specs.Messages.{consumed, evicted_of, refusal_of, MayBeRefused, Replies}
 use Rattle.lru_actors.specs.Processing.{MayWantRoom}
 
+-- a message with the number of its sender; an eviction worker's has none
+pub record Sent (K : Type 0) : Type 0 where
+  pub by : Option ℕ
+  pub msg : LruMsg K
+
 pub record Turn (K : Type 0) : Type 0 where
+  pub by : Option ℕ
   pub msg : LruMsg K
   pub effect : Effect K
 
 module _ {K : Type 0} where
-  abbrev pub turn : LruMsg K → Effect K → Turn K
-  turn msg effect = record { msg = msg; effect = effect }
+  abbrev pub sent : Option ℕ → LruMsg K → Sent K
+  sent by msg = record { by = by; msg = msg }
+
+  abbrev pub turn : Sent K → Effect K → Turn K
+  turn x effect = record { by = x.by; msg = x.msg; effect = effect }
+
+  -- the message that was consumed, with its sender
+  abbrev pub sent_of : Turn K → Sent K
+  sent_of t = sent t.by t.msg
+
+  -- the turns of messages whose effects are these, in order
+  abbrev pub turns_of : List (Sent K) → List (Effect K) → List (Turn K)
+  turns_of (x ∷ xs) (e ∷ es) = turn x e ∷ turns_of xs es
+  turns_of _ _ = []
+
+  -- the messages of one sender, in order
+  abbrev pub messages_of : ℕ → List (Sent K) → List (LruMsg K)
+  messages_of by xs = map (λ (x : Sent K). x.msg) (filter (λ x. option_map_or (λ number. number == by) x.by false) xs)
 
   -- the rows after a turn; a refused message changes none
   abbrev pub rows_after : List (Row K) → Turn K → List (Row K)
@@ -45,7 +67,7 @@ module _ {K : Type 0} where
   abbrev pub IsAllowed : ℕ → List (Row K) → Turn K → Type 0
   IsAllowed cap rows t =
       ((t.effect.refused ≡ false) × (refusal_of (shard rows cap) t.msg ≡ None))
-      ⊎ ((t.effect.refused ≡ true) × (MayBeRefused (shard rows cap) t.msg ⊎ MayWantRoom (weight_in rows) rows t.msg))
+      ⊎ ((t.effect.refused ≡ true) × (MayBeRefused (shard rows cap) t.msg ⊎ MayWantRoom (Unit {0}) (weight_in rows) rows t.msg))
 
   abbrev pub AreAllowed : ℕ → List (Row K) → List (Turn K) → Type 0
   AreAllowed cap rows [] = Unit {0}

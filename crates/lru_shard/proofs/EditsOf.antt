@@ -5,6 +5,7 @@ use Rattle.std.specs.Option.{option_map_or}
 use Rattle.std.proofs.lemmas.Bool.{cases_eq, cond_both}
 use Rattle.std.proofs.lemmas.List.Sums.{sum_by-take-le}
 use Rattle.lru_shard.specs.declared.unit.Refused.{Refused}
+use Rattle.lru_shard.specs.declared.unit.RefusedUpdate.{RefusedUpdate}
 use Rattle.lru_shard.specs.declared.unit.Cause.{Cause}
 use Rattle.lru_shard.specs.Row.{Row, row, row_of, is_held, times, with_first, with_last, without, without_last, with_weight, with_value, weight_of}
 use Rattle.lru_shard.specs.Shard.{Shard, shard, IsShard}
@@ -69,13 +70,13 @@ module _ {T : Type 0} where
   pub edits_increment : (Makes : T → Type 0) (a : Shard T) (k delta : ℕ) (most : Option ℕ) (answer : Result (ℕ × ℕ × Bool) Cause) (b : Shard T) → IncrementsWeight Makes a k delta most answer b → Edit k a b
   edits_increment Makes a k delta most answer b h = edits_row Makes a k delta most (row_of a.rows k) answer b h
 
-  edits_updated : (Changes : T → ℕ → ℕ → T → Type 0) (Makes : T × ℕ → Type 0) (a : Shard T) (k : ℕ) (o : Option (Row T)) (answer : Result (Option ℕ × ℕ) (Refused (Option (T × ℕ)))) (b : Shard T) → UpdatesRow Changes Makes a k o answer b → Edit k a b
+  edits_updated : (Changes : T → ℕ → ℕ → T → Type 0) (Makes : T × ℕ → Type 0) (a : Shard T) (k : ℕ) (o : Option (Row T)) (answer : Result (Option ℕ × ℕ) (RefusedUpdate T)) (b : Shard T) → UpdatesRow Changes Makes a k o answer b → Edit k a b
   edits_updated Changes Makes a k (Some r) (Ok answer) b h = put_first k a b (row k h.0 (max h.1.0 1)) refl h.1.1.1.1.left
   edits_updated Changes Makes a k (Some r) (Err refused) b h = to_rows k a b (with_value a.rows k h.0) (λ j lt. inl (omega (arith, lt, times-with_value a.rows k h.0 j))) h.1.1.1.1.1
   edits_updated Changes Makes a k None (Ok answer) b h = put_first k a b (row k h.0.0 (max h.0.1 1)) refl h.1.1.1.left
   edits_updated Changes Makes a k None (Err refused) b h = same_edit k a b h.1
 
-  pub edits_update : (Changes : T → ℕ → ℕ → T → Type 0) (Makes : T × ℕ → Type 0) (a : Shard T) (k : ℕ) (answer : Result (Option ℕ × ℕ) (Refused (Option (T × ℕ)))) (b : Shard T) → UpdatesOrAdmits Changes Makes a k answer b → Edit k a b
+  pub edits_update : (Changes : T → ℕ → ℕ → T → Type 0) (Makes : T × ℕ → Type 0) (a : Shard T) (k : ℕ) (answer : Result (Option ℕ × ℕ) (RefusedUpdate T)) (b : Shard T) → UpdatesOrAdmits Changes Makes a k answer b → Edit k a b
   edits_update Changes Makes a k answer b h = edits_updated Changes Makes a k (row_of a.rows k) answer b h
 
   pub edits_remove : (a : Shard T) (k : ℕ) (b : Shard T) → b ≡ shard (without a.rows k) a.cap → Edit k a b

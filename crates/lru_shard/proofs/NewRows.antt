@@ -7,6 +7,7 @@ use Rattle.lru_shard.specs.declared.slots.Held.{Held}
 use Rattle.lru_shard.specs.declared.unit.Cause.{Cause}
 use Rattle.lru_shard.specs.declared.unit.Cause.TheVariants.{Memory, Weight, Length}
 use Rattle.lru_shard.specs.declared.unit.Refused.{Refused}
+use Rattle.lru_shard.specs.declared.unit.RefusedUpdate.{RefusedUpdate}
 use Rattle.lru_shard.specs.Representation.Slots.{held_at}
 use Rattle.lru_shard.specs.Representation.Table.{look_in, rows_of, IsKept}
 use Rattle.lru_shard.specs.Row.{row, row_of, with_first, with_last, with_weight}
@@ -46,10 +47,10 @@ module _ (cap : ℕ) (s : Size) (light : s.weight ≤ cap) where
 
 module _ {T : Type 0} where
   -- before any data are made a new row is refused as one that weighs nothing is
-  pub refuses_given : (Makes : T × ℕ → Type 0) (s : Shard T) (cause : Cause) (held : Option (T × ℕ)) → (size_of s.rows).weight ≤ s.cap → MayRefuse s.cap (size_of s.rows) (and_row (size_of s.rows) 0) cause → held ≡ None → RefusesNew Makes s cause held
-  refuses_given Makes s Memory held light may none = (not_full s.cap (size_of s.rows) light may.0, none)
-  refuses_given Makes s Weight held light may none = absurd (not_heavy s.cap (size_of s.rows) light may)
-  refuses_given Makes s Length held light may none = (full_of s.cap (size_of s.rows) light may, none)
+  pub refuses_given : (Makes : T × ℕ → Type 0) (s : Shard T) (cause : Cause) (told : ℕ) (held : Option (T × ℕ)) → (size_of s.rows).weight ≤ s.cap → MayRefuse s.cap (size_of s.rows) (and_row (size_of s.rows) 0) cause → told ≡ 0 → held ≡ None → RefusesNew Makes s cause told held
+  refuses_given Makes s Memory told held light may zero none = (not_full s.cap (size_of s.rows) light may.0, (zero, none))
+  refuses_given Makes s Weight told held light may zero none = absurd (not_heavy s.cap (size_of s.rows) light may)
+  refuses_given Makes s Length told held light may zero none = (full_of s.cap (size_of s.rows) light may, (zero, none))
 
   module _ (place : ℕ → Option ℕ) (slots : List (Option (Held T))) (order : Linked ℕ) (used cap : ℕ) (kept : IsKept place slots order used cap)
       (old : Shard T) (view : shard (rows_of (look_in place slots) order.live) cap ≡ old) where
@@ -76,7 +77,7 @@ module _ {T : Type 0} where
     })
 
     -- the weight of a row that takes its place as one that weighs nothing is known only later
-    pub may_held : (cause : Cause) → MayRefuse cap (size_of (rows_of (look_in place slots) order.live)) (and_row (size_of (rows_of (look_in place slots) order.live)) 0) cause → {D : Type 0} (r : Refused D) → r.cause ≡ cause →
+    pub may_held : (cause : Cause) → MayRefuse cap (size_of (rows_of (look_in place slots) order.live)) (and_row (size_of (rows_of (look_in place slots) order.live)) 0) cause → (r : RefusedUpdate T) → r.cause ≡ cause →
         MayRefuse old.cap (size_of old.rows) (and_row (size_of old.rows) 0) r.cause
     may_held cause may r is = subst (MayRefuse old.cap (size_of old.rows) (and_row (size_of old.rows) 0)) (sym is) (may_old 0 cause may)
 

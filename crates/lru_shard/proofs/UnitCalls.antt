@@ -13,7 +13,7 @@ use Rattle.lru_shard.specs.Representation.Table.{row_at, rows_of, IsUnit}
 use Rattle.lru_shard.proofs.Refusals.{IsShard-front, refusal_none, refusal_weight, refusal_length, allowed_light, IsShard-allowed, IsShard-first}
 use Rattle.lru_shard.proofs.Edits.{last_row_push, without_last_push, with_weight-absent, IsAt, row_at_key, no_row, tailed-new, weight_at-absent, weight-without, length-without, weight-first, length-first, weight-with_weight, weight-with_value, with_weight-at, with_value-at, distinct-with_weight, distinct-with_value, distinct-without, distinct-last, size-first_new, size-last, first-new}
 use Rattle.lru_shard.proofs.Rows.{times_no, weight-append}
-use Rattle.lru_shard.specs.declared.unit.Refused.{Refused}
+use Rattle.lru_shard.specs.declared.unit.RefusedUpdate.{RefusedUpdate}
 use Rattle.lru_shard.specs.Unit.{tailed, weight_at, raised, started, AdmitsMade, IncrementsRow, IncrementsWeight, AdmitsGiven, RefusesNew, UpdatesRow, UpdatesOrAdmits}
 use Rattle.lru_shard.proofs.Tables.{Off, long, Shows, IsUnit-shown, at_here, here, promotes, stays, gone, live-without, absent, new_first, new_last, last_rows, last_gone}
 use Rattle.std.proofs.lemmas.List.{length-map}
@@ -343,9 +343,9 @@ module _ {T : Type 0} where
     updates w w_is h = subst (λ o. UpdatesRow Changes Makes s k o (Ok (Some r.weight, w)) new) (sym there_row)
         (d, (given, (changes, ((refl, w_is), subst (λ v. Accepts s new (with_first s.rows (row k d v))) w_is h))))
 
-    pub updates_heavy : (refused : Refused (Option (T × ℕ))) → refused.cause ≡ Weight → refused.held ≡ None → (w : ℕ) → w ≡ max given 1 →
+    pub updates_heavy : (refused : RefusedUpdate T) → refused.cause ≡ Weight → (w : ℕ) → refused.weight ≡ w → refused.held ≡ None → w ≡ max given 1 →
         refusal s.cap (size_of s.rows) (size_of (with_first s.rows (row k d w))) ≡ Some Weight → new ≡ shard (with_value s.rows k d) s.cap → UpdatesOrAdmits Changes Makes s k (Err refused) new
-    updates_heavy refused cause held w w_is h left = subst (λ o. UpdatesRow Changes Makes s k o (Err refused) new) (sym there_row) (
+    updates_heavy refused cause w told held w_is h left = subst (λ o. UpdatesRow Changes Makes s k o (Err refused) new) (sym there_row) (
       d,
       (
         given,
@@ -354,20 +354,20 @@ module _ {T : Type 0} where
           (
             subst (MayRefuse s.cap (size_of s.rows) (size_of (with_first s.rows (row k d (max given 1))))) (sym cause)
                 (ap (λ v. refusal s.cap (size_of s.rows) (size_of (with_first s.rows (row k d v)))) (sym w_is) ∙ h),
-            (held, left),
+            ((told ∙ w_is, held), left),
           ),
         ),
       ),
     )
 
-  pub updates_new : (Changes : T → ℕ → ℕ → T → Type 0) (Makes : T × ℕ → Type 0) (s s' : Shard T) (k : ℕ) → s ≡ s' → row_of s'.rows k ≡ None → (answer : Result (Option ℕ × ℕ) (Refused (Option (T × ℕ)))) (new : Shard T) →
+  pub updates_new : (Changes : T → ℕ → ℕ → T → Type 0) (Makes : T × ℕ → Type 0) (s s' : Shard T) (k : ℕ) → s ≡ s' → row_of s'.rows k ≡ None → (answer : Result (Option ℕ × ℕ) (RefusedUpdate T)) (new : Shard T) →
       AdmitsGiven Makes s k answer new → UpdatesOrAdmits Changes Makes s' k answer new
   updates_new Changes Makes s s' k same none answer new h = subst (λ o. UpdatesRow Changes Makes s' k o answer new) (sym none) (subst (λ z. AdmitsGiven Makes z k answer new) same h)
 
   -- a new row whose weight is known only once its data are made
-  pub given_heavy : (Makes : T × ℕ → Type 0) (s : Shard T) (cause : Cause) (held : Option (T × ℕ)) (made : T × ℕ) → Makes made → cause ≡ Weight → held ≡ Some made →
-      refusal s.cap (size_of s.rows) (and_row (size_of s.rows) (max made.1 1)) ≡ Some Weight → RefusesNew Makes s cause held
-  given_heavy Makes s cause held made makes is_weight held_is h = subst (λ x. RefusesNew Makes s x held) (sym is_weight) (made, (makes, (held_is, h)))
+  pub given_heavy : (Makes : T × ℕ → Type 0) (s : Shard T) (cause : Cause) (told : ℕ) (held : Option (T × ℕ)) (made : T × ℕ) → Makes made → cause ≡ Weight → told ≡ max made.1 1 → held ≡ Some made →
+      refusal s.cap (size_of s.rows) (and_row (size_of s.rows) (max made.1 1)) ≡ Some Weight → RefusesNew Makes s cause told held
+  given_heavy Makes s cause told held made makes is_weight told_is held_is h = subst (λ x. RefusesNew Makes s x told held) (sym is_weight) (made, (makes, ((told_is, held_is), h)))
 
   pub given_fits : (Makes : T × ℕ → Type 0) (s : Shard T) (k : ℕ) (made : T × ℕ) (w : ℕ) (new : Shard T) → Makes made → w ≡ max made.1 1 → Accepts s new (with_first s.rows (row k made.0 w)) →
       AdmitsGiven Makes s k (Ok (None, w)) new

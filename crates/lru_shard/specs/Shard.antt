@@ -26,10 +26,6 @@ number_of Length = 3
 abbrev pub most_rows : ℕ → ℕ
 most_rows cap = min cap most_items
 
--- which of two shards gives up a row: the longer one, or the first where they are as long
-abbrev pub longer_of : ℕ → ℕ → ℕ → ℕ → ℕ
-longer_of a b len_a len_b = if nat_le len_b len_a then a else b
-
 -- how long and how heavy a list of rows is
 pub record Size : Type 0 where
   pub len : ℕ

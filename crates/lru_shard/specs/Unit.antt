@@ -4,6 +4,7 @@ use Rattle.std.specs.Option.{option_map_or}
 use Rattle.std.specs.List.{FoldsTo}
 use Rattle.std.specs.Borrow.{Bor, MutBor}
 use Rattle.lru_shard.specs.declared.unit.Refused.{Refused}
+use Rattle.lru_shard.specs.declared.unit.RefusedUpdate.{RefusedUpdate}
 use Rattle.lru_shard.specs.declared.unit.Cause.{Cause}
 use Rattle.lru_shard.specs.declared.unit.Cause.TheVariants.{Memory, Weight, Length}
 use Rattle.lru_shard.specs.Row.{Row, row, row_of, pair_of, is_held, without, with_first, with_last, with_weight, with_value}
@@ -92,35 +93,36 @@ module _ {T : Type 0} where
   abbrev pub IncrementsWeight : (T → Type 0) → Shard T → ℕ → ℕ → Option ℕ → Result (ℕ × ℕ × Bool) Cause → Shard T → Type 0
   IncrementsWeight Makes old k delta most answer new = IncrementsRow Makes old k delta most (row_of old.rows k) answer new
 
-  -- why `update_or_admit` of a missing key is refused, and what is handed back: Length and want of memory come before
-  -- the closure is called, Weight after it
-  abbrev pub RefusesNew : (T × ℕ → Type 0) → Shard T → Cause → Option (T × ℕ) → Type 0
-  RefusesNew Makes old Length held = IsTrue (is_full old.cap (size_of old.rows)) × (held ≡ None)
-  RefusesNew Makes old Memory held = IsFalse (is_full old.cap (size_of old.rows)) × (held ≡ None)
-  RefusesNew Makes old Weight held =
-      (made : T × ℕ) × (Makes made × ((held ≡ Some made)
+  -- why `update_or_admit` of a missing key is refused, which weight is told, and what is handed back: Length and want of
+  -- memory come before the closure is called, Weight after it
+  abbrev pub RefusesNew : (T × ℕ → Type 0) → Shard T → Cause → ℕ → Option (T × ℕ) → Type 0
+  RefusesNew Makes old Length told held = IsTrue (is_full old.cap (size_of old.rows)) × ((told ≡ 0) × (held ≡ None))
+  RefusesNew Makes old Memory told held = IsFalse (is_full old.cap (size_of old.rows)) × ((told ≡ 0) × (held ≡ None))
+  RefusesNew Makes old Weight told held =
+      (made : T × ℕ) × (Makes made × (((told ≡ max made.1 1) × (held ≡ Some made))
       × (refusal old.cap (size_of old.rows) (and_row (size_of old.rows) (max made.1 1)) ≡ Some Weight)))
 
   -- `update_or_admit` of a missing key: `Makes` says what the closure may give
-  abbrev pub AdmitsGiven : (T × ℕ → Type 0) → Shard T → ℕ → Result (Option ℕ × ℕ) (Refused (Option (T × ℕ))) → Shard T → Type 0
+  abbrev pub AdmitsGiven : (T × ℕ → Type 0) → Shard T → ℕ → Result (Option ℕ × ℕ) (RefusedUpdate T) → Shard T → Type 0
   AdmitsGiven Makes old k (Ok answer) new =
       (made : T × ℕ) × (Makes made
       × (((answer.0 ≡ None) × (answer.1 ≡ max made.1 1)) × Accepts old new (with_first old.rows (row k made.0 (max made.1 1)))))
-  AdmitsGiven Makes old k (Err refused) new = RefusesNew Makes old refused.cause refused.held × (new ≡ old)
+  AdmitsGiven Makes old k (Err refused) new = RefusesNew Makes old refused.cause refused.weight refused.held × (new ≡ old)
 
   -- `update_or_admit` of a row that is there, and where there is none. `Changes` says what `update` may make of the data
-  -- and the weight. A refused update keeps the data that it wrote, at the old weight and place
-  abbrev pub UpdatesRow : (T → ℕ → ℕ → T → Type 0) → (T × ℕ → Type 0) → Shard T → ℕ → Option (Row T) → Result (Option ℕ × ℕ) (Refused (Option (T × ℕ))) → Shard T → Type 0
+  -- and the weight. A refused update tells the weight that was given, and keeps the data that it wrote, at the old weight
+  -- and place
+  abbrev pub UpdatesRow : (T → ℕ → ℕ → T → Type 0) → (T × ℕ → Type 0) → Shard T → ℕ → Option (Row T) → Result (Option ℕ × ℕ) (RefusedUpdate T) → Shard T → Type 0
   UpdatesRow Changes Makes old k (Some r) (Ok answer) new =
       (d : T) × ((given : ℕ) × (Changes r.value r.weight given d
       × (((answer.0 ≡ Some r.weight) × (answer.1 ≡ max given 1)) × Accepts old new (with_first old.rows (row k d (max given 1))))))
   UpdatesRow Changes Makes old k (Some r) (Err refused) new =
       (d : T) × ((given : ℕ) × (Changes r.value r.weight given d
       × (MayRefuse old.cap (size_of old.rows) (size_of (with_first old.rows (row k d (max given 1)))) refused.cause
-      × ((refused.held ≡ None) × (new ≡ shard (with_value old.rows k d) old.cap)))))
+      × (((refused.weight ≡ max given 1) × (refused.held ≡ None)) × (new ≡ shard (with_value old.rows k d) old.cap)))))
   UpdatesRow Changes Makes old k None answer new = AdmitsGiven Makes old k answer new
 
-  abbrev pub UpdatesOrAdmits : (T → ℕ → ℕ → T → Type 0) → (T × ℕ → Type 0) → Shard T → ℕ → Result (Option ℕ × ℕ) (Refused (Option (T × ℕ))) → Shard T → Type 0
+  abbrev pub UpdatesOrAdmits : (T → ℕ → ℕ → T → Type 0) → (T × ℕ → Type 0) → Shard T → ℕ → Result (Option ℕ × ℕ) (RefusedUpdate T) → Shard T → Type 0
   UpdatesOrAdmits Changes Makes old k answer new = UpdatesRow Changes Makes old k (row_of old.rows k) answer new
 
   -- `pull` of the row that a key has in `from`: it leaves `from` and goes first, and its weight is answered; or it is

@@ -51,6 +51,42 @@ impl<D> Refused<D> {
     }
 }
 
+/// A refused `update_or_admit`: why, and what the called closure gave.
+#[derive(Debug, Drop)]
+pub struct RefusedUpdate<T> {
+    /// Why the call was refused.
+    pub cause: Cause,
+    /// The weight that the called closure gave, at least 1; 0 where none was called.
+    pub weight: usize,
+    /// The data and the weight that `admit_data` gave, handed back.
+    pub held: Option<(T, usize)>,
+}
+
+impl<T> RefusedUpdate<T> {
+    fn new(cause: Cause, weight: usize, held: Option<(T, usize)>) -> Self
+        ensures cause { result.cause ≡ cause }
+        ensures weight { result.weight ≡ weight }
+        ensures held { result.held ≡ held }
+    {
+        RefusedUpdate {
+            cause,
+            weight,
+            held,
+        }
+    }
+
+    /// The refusal without the weight that was given.
+    pub fn untold(self) -> Refused<Option<(T, usize)>>
+        ensures cause { result.cause ≡ self.cause }
+        ensures held { result.held ≡ self.held }
+    {
+        Refused {
+            cause: self.cause,
+            held: self.held,
+        }
+    }
+}
+
 // The weight of a row that is there, with `delta` added.
 fn raised(weight: usize, delta: usize, max_weight: Option<usize>) -> usize
     ensures { result ≡ raised weight delta max_weight }
@@ -426,14 +462,15 @@ impl<T: Drop> LruUnit<T> {
     ///
     /// A new key is refused for Length or Memory before `admit_data` is called, and for Weight after it: then
     /// what it gave is handed back, and nothing changes. A present key is refused for Weight alone: it keeps
-    /// what `update` did to the data, at the old weight and place, and nothing is handed back.
+    /// what `update` did to the data, at the old weight and place, and nothing is handed back. The refusal tells
+    /// the weight that the called closure gave.
     #[inline(always)]
     pub fn update_or_admit<U, A>(
         &mut self,
         key: u64,
         update: U,
         admit_data: A,
-    ) -> Result<(Option<usize>, usize), Refused<Option<(T, usize)>>>
+    ) -> Result<(Option<usize>, usize), RefusedUpdate<T>>
     where
         U: FnOnce(&mut T, usize) -> usize + Drop,
         A: FnOnce() -> (T, usize) + Drop,
@@ -448,7 +485,7 @@ impl<T: Drop> LruUnit<T> {
         let weight = self.rows.update(place, update).max(1);
         let rest = self.used_weight - old;
         if weight > self.cap - rest {
-            return Err(Refused::new(Cause::Weight, None));
+            return Err(RefusedUpdate::new(Cause::Weight, weight, None));
         }
         self.rows.set_weight(place, weight);
         self.order.promote(place);
@@ -462,7 +499,7 @@ impl<T: Drop> LruUnit<T> {
         &mut self,
         key: u64,
         admit_data: A,
-    ) -> Result<(Option<usize>, usize), Refused<Option<(T, usize)>>>
+    ) -> Result<(Option<usize>, usize), RefusedUpdate<T>>
         requires absent { row_of self.old.rows key ≡ None }
         requires callable { A.IsAlwaysCallable admit_data }
         ensures { AdmitsGiven (A.post admit_data) self.old key result self.new }
@@ -477,13 +514,14 @@ impl<T: Drop> LruUnit<T> {
             false,
         ) {
             Ok(place) => place,
-            Err(cause) => return Err(Refused::new(cause, None)),
+            Err(cause) => return Err(RefusedUpdate::new(cause, 0, None)),
         };
         let (data, given) = admit_data();
         let weight = given.max(1);
         if weight > self.cap - self.used_weight {
             self.order.remove(place);
-            return Err(Refused::new(Cause::Weight, Some((data, given))));
+            let held = Some((data, given));
+            return Err(RefusedUpdate::new(Cause::Weight, weight, held));
         }
         self.rows.put(key, place, Held { data, weight });
         self.used_weight += weight;

@@ -21,10 +21,10 @@ static REFUSES_PAST_ITS_CAP: [Step; 9] = [
 #[rattlefmt::skip]
 static REFUSES_UPDATES: [Step; 7] = [
     (Call::Admit { key: 1, data: 5, weight: 6 }, "Ok(0)", "6: 1=5 6,"),
-    (Call::Update { key: 1, data: 7, weight: 11 }, "Err(Refused { cause: Weight, held: None }) false", "6: 1=7 6,"),
+    (Call::Update { key: 1, data: 7, weight: 11 }, "Err(RefusedUpdate { cause: Weight, weight: 11, held: None }) false", "6: 1=7 6,"),
     (Call::Peek { key: 1 }, "Some(7)", "6: 1=7 6,"),
     (Call::PeekWeight { key: 1 }, "Some(6)", "6: 1=7 6,"),
-    (Call::Update { key: 2, data: 9, weight: 5 }, "Err(Refused { cause: Weight, held: Some((9, 5)) }) true", "6: 1=7 6,"),
+    (Call::Update { key: 2, data: 9, weight: 5 }, "Err(RefusedUpdate { cause: Weight, weight: 5, held: Some((9, 5)) }) true", "6: 1=7 6,"),
     (Call::Peek { key: 2 }, "None", "6: 1=7 6,"),
     (Call::PeekWeight { key: 2 }, "None", "6: 1=7 6,"),
 ];
@@ -37,7 +37,7 @@ static REFUSES_A_ROW_TOO_MANY: [Step; 7] = [
     (Call::InsertTail { key: 1, data: 20, weight: 0 }, "Ok(false)", "0: 1=10 0,"),
     (Call::Admit { key: 2, data: 20, weight: 2 }, "Err(Refused { cause: Length, held: 20 })", "0: 1=10 0,"),
     (Call::Increment { key: 2, data: 20, delta: 2, most: None }, "Err(Length) false", "0: 1=10 0,"),
-    (Call::Update { key: 2, data: 20, weight: 2 }, "Err(Refused { cause: Length, held: None }) false", "0: 1=10 0,"),
+    (Call::Update { key: 2, data: 20, weight: 2 }, "Err(RefusedUpdate { cause: Length, weight: 0, held: None }) false", "0: 1=10 0,"),
     (Call::Update { key: 1, data: 11, weight: 0 }, "Ok((Some(0), 1)) false", "1: 1=11 1,"),
 ];
 

@@ -1,7 +1,10 @@
 //! The loop of an actor.
-ghost use Rattle.std.specs.Prelude.{◌≡◌, ◌<◌, ◌≤◌, [], map, length, vec_len, vec_capacity, nat_eq, IfOk};
+ghost use Rattle.std.specs.Prelude.{◌≡◌, ◌%◌, ◌^◌, ◌<◌, ◌≤◌, [], map, length, sum_by, vec_len, vec_capacity, nat_eq, IfOk};
+ghost use Rattle.std.specs.List.{zip};
 ghost use Rattle.std.specs.HashMap as hash;
+ghost use Rattle.lru_rules.specs.Limits.{cap_of};
 ghost use Rattle.lru_actors.specs.Processing.{ProcessesAll};
+ghost use Rattle.lru_world.specs.Batch.{is_evict, asked_by, replied, weight_taken, rows_taken, IsChange};
 
 use crate::callback::Gate;
 use crate::outlet::Outlet;
@@ -10,12 +13,13 @@ use lru_actors::effect::{Effect, Reply};
 use lru_actors::message::LruMsg;
 use lru_actors::process::process_batch;
 use lru_actors::state::ShardState;
+use lru_desks::DeskPutter;
 use lru_dispatch::Dispatch;
-use lru_ledgers::PutSeat;
+use lru_ledgers::{PutSeat, Registry};
 use lru_letters::{Letter, ReplyCell};
-use lru_tied::TiedPutter;
 use std::alloc::{AllocError, Global};
 use std::collections::HashMap;
+use std::marker::Brand;
 use std::sync::{Arc, Wait};
 use std::thread;
 
@@ -27,36 +31,44 @@ const MOST: usize = 64;
 struct Asked<K: Drop> {
     evicts: bool,
     cell: Option<Arc<ReplyCell<Reply<K>>, Global>>,
+    // what it is answered, once it was processed
+    reply: Option<Reply<K>>,
 }
 
 /// What one actor owns: its shard, and room for a batch.
 #[derive(Drop)]
-pub struct Actor<K: Drop> {
+pub struct Actor<K: Drop, B: Registry = Brand> {
     /// The number of its shard.
     pub shard: usize,
+    /// How many shards there are.
+    pub shards: usize,
     state: ShardState<K>,
-    seat: Option<PutSeat>,
+    seat: Option<PutSeat<B>>,
     letters: Vec<Letter<K>>,
     asked: Vec<Asked<K>>,
     batch: Vec<LruMsg<K>>,
     effects: Vec<Effect<K>>,
+    ghost capped: { state.shard.cap ≡ cap_of shards },
 }
 
-impl<K: Clone + Drop> Actor<K> {
-    /// The actor of this shard, which is empty, with room for `capacity` rows whose weights may sum up to `cap`. Where
-    /// evicted pairs go into a box it puts them with a seat.
+impl<K: Clone + Drop, B: Registry> Actor<K, B> {
+    /// The actor of one of so many shards, which is empty, with room for `capacity` rows. Their weights may sum up to what
+    /// all shards together leave to each. Where evicted pairs go into a box it puts them with a seat.
     pub fn new(
         alloc: Global,
         shard: usize,
+        shards: usize,
         capacity: usize,
-        cap: usize,
-        seat: Option<PutSeat>,
+        seat: Option<PutSeat<B>>,
     ) -> Result<Self, AllocError>
-        ensures { IfOk result (λ actor. actor.shard ≡ shard) }
+        requires { 0 < shards }
+        ensures shard { IfOk result (λ actor. actor.shard ≡ shard) }
+        ensures shards { IfOk result (λ actor. actor.shards ≡ shards) }
     {
         Ok(Actor {
             shard,
-            state: ShardState::with_capacity(alloc, capacity, cap)?,
+            shards,
+            state: ShardState::with_capacity(alloc, capacity, usize::MAX / shards)?,
             seat,
             letters: Vec::with_capacity(alloc, MOST)?,
             asked: Vec::with_capacity(alloc, MOST)?,
@@ -70,9 +82,11 @@ impl<K: Clone + Drop> Actor<K> {
     pub fn run<G: Gate, R: Wait>(
         self,
         rt: &R,
-        world: &World<K>,
+        world: &World<K, B>,
         gate: &Option<Arc<G, Global>>,
-    ) -> Option<PutSeat> {
+    ) -> Option<PutSeat<B>>
+        requires { self.shards ≡ vec_len world.now.shards }
+    {
         let mut actor = self;
         for _ in rt.forever() {
             if actor.shard >= world.shards.len() || !actor.serve(rt, world, gate) {
@@ -87,7 +101,7 @@ impl<K: Clone + Drop> Actor<K> {
     fn serve<G: Gate, R: Wait>(
         &mut self,
         rt: &R,
-        world: &World<K>,
+        world: &World<K, B>,
         gate: &Option<Arc<G, Global>>,
     ) -> bool
         requires { self.old.shard < vec_len world.now.shards }
@@ -107,7 +121,8 @@ impl<K: Clone + Drop> Actor<K> {
         take_apart(&mut self.letters, &mut self.batch, &mut self.asked);
         self.process(rt, world);
         let looks = self.effects.iter().any(|effect| effect.look);
-        reply_all(rt, &mut self.effects, &mut self.asked);
+        note_replies(&mut self.effects, &mut self.asked);
+        reply_all(rt, &mut self.asked);
         if looks && world.over_limit() {
             world.trigger.raise(rt);
         }
@@ -115,12 +130,15 @@ impl<K: Clone + Drop> Actor<K> {
     }
 
     // Processes the batch under the locks of the map and of the evicted pairs.
-    fn process<R: Wait>(&mut self, rt: &R, world: &World<K>)
+    fn process<R: Wait>(&mut self, rt: &R, world: &World<K, B>)
         requires shard { self.old.shard < vec_len world.now.shards }
         requires few { vec_len self.old.batch ≤ 64 }
         requires none { self.old.effects.items ≡ [] }
         requires room { 64 ≤ vec_capacity self.old.effects }
-        ensures { self.new.shard ≡ self.old.shard }
+        requires asked { map (λ a. a.evicts) self.old.asked.items ≡ map is_evict self.old.batch.items }
+        ensures shard { self.new.shard ≡ self.old.shard }
+        ensures asked { self.new.asked ≡ self.old.asked }
+        ensures effects { vec_len self.new.effects ≤ vec_len self.old.asked }
     {
         let mut weights = world.shards[self.shard].map.write(rt);
         match &world.outlet {
@@ -134,19 +152,19 @@ impl<K: Clone + Drop> Actor<K> {
                 }
             }
             Outlet::Ledger(ledger) => {
-                let mut lent = ledger.lend(rt);
-                let (Some(tied), Some(seat)) = (&mut *lent, &self.seat) else {
+                let Some(mut seat) = self.seat.take() else {
                     return;
                 };
-                let putter = seat.number;
-                let mut putter = TiedPutter {
-                    ledger: tied,
-                    putter,
+                let mut lent = ledger.lend(rt);
+                let mut putter = DeskPutter {
+                    desk: &mut *lent,
+                    seat: &mut seat,
                 };
                 let change = self.batch_through(&mut *weights, &mut putter);
                 world.count(self.shard, &change);
                 drop(putter);
                 drop(lent);
+                self.seat = Some(seat);
                 if change.evicted_len != 0 {
                     ledger.wake();
                 }
@@ -154,7 +172,8 @@ impl<K: Clone + Drop> Actor<K> {
         }
     }
 
-    // Processes the batch. Each message has its effect, in order.
+    // Processes the batch. Each message has its effect, in order, and the change is that of the shard and of the pairs that
+    // were evicted.
     fn batch_through<D: Dispatch<K>>(
         &mut self,
         weights: &mut HashMap<u64, usize>,
@@ -163,7 +182,10 @@ impl<K: Clone + Drop> Actor<K> {
         requires few { vec_len self.old.batch ≤ 64 }
         requires none { self.old.effects.items ≡ [] }
         requires room { 64 ≤ vec_capacity self.old.effects }
-        ensures processed { ProcessesAll D.Puts D.IsSame D.queue K.is_clone self.old.state (hash.get nat_eq weights.old) dispatch.old self.old.batch.items self.new.effects.items self.new.state (hash.get nat_eq weights.new) dispatch.new }
+        requires asked { map (λ a. a.evicts) self.old.asked.items ≡ map is_evict self.old.batch.items }
+        ensures processed { ProcessesAll D.Puts D.IsSame D.queue K.is_clone D.MayRefuse self.old.state (hash.get nat_eq weights.old) dispatch.old self.old.batch.items self.new.effects.items self.new.state (hash.get nat_eq weights.new) dispatch.new }
+        ensures change { IsChange self.old.state self.old.batch.items self.new.effects.items self.new.state result }
+        ensures effects { vec_len self.new.effects ≤ vec_len self.old.asked }
         ensures shard { self.new.shard ≡ self.old.shard }
         ensures seat { self.new.seat ≡ self.old.seat }
         ensures asked { self.new.asked ≡ self.old.asked }
@@ -225,6 +247,7 @@ fn take_apart<K: Drop>(
     requires batch_fits { vec_len letters.old ≤ vec_capacity batch.old }
     requires asked_fit { vec_len letters.old ≤ vec_capacity asked.old }
     ensures messages { batch.new.items ≡ map (λ l. l.message) letters.old.items }
+    ensures asked { asked.new.items ≡ map asked_by letters.old.items }
     ensures as_many { vec_len batch.new ≡ vec_len letters.old }
 {
     // The last one is at hand, so the first is made the last.
@@ -232,36 +255,66 @@ fn take_apart<K: Drop>(
     while let Some(letter) = letters.pop() {
         let Letter { message, cell } = letter;
         asked.push_reserved(Asked {
-            evicts: matches!(message, LruMsg::Evict),
+            evicts: is_evict(&message),
             cell,
+            reply: None,
         });
         batch.push_reserved(message);
     }
 }
 
+// Whether a message asks for an eviction.
+fn is_evict<K>(message: &LruMsg<K>) -> bool
+    ensures { result ≡ is_evict message.now }
+{
+    matches!(message, LruMsg::Evict)
+}
+
+// The weight of the row that a message's eviction took, and how many rows it took.
+fn taken_by<K: Drop>(asked: &Asked<K>, effect: &Effect<K>) -> (usize, usize)
+    ensures { result ≡ (weight_taken (asked.now, effect.now), rows_taken (asked.now, effect.now)) }
+{
+    if !asked.evicts {
+        return (0, 0);
+    }
+    (
+        effect.weight_before.saturating_sub(effect.weight_after),
+        effect.len_before.saturating_sub(effect.len_after),
+    )
+}
+
 // The weight of the rows that evictions took, and how many they are, modulo 2^64.
-fn evicted_in<K: Drop>(effects: &[Effect<K>], asked: &[Asked<K>]) -> (usize, usize) {
+fn evicted_in<K: Drop>(effects: &Vec<Effect<K>>, asked: &Vec<Asked<K>>) -> (usize, usize)
+    requires { vec_len effects.now ≡ vec_len asked.now }
+    ensures weight { result.0 ≡ sum_by weight_taken (zip asked.now.items effects.now.items) % 2 ^ 64 }
+    ensures len { result.1 ≡ sum_by rows_taken (zip asked.now.items effects.now.items) % 2 ^ 64 }
+{
     let mut weight = 0usize;
     let mut len = 0usize;
-    for (effect, asked) in effects.iter().zip(asked) {
-        if asked.evicts {
-            weight = weight.wrapping_add(effect.weight_before.wrapping_sub(effect.weight_after));
-            len = len.wrapping_add(effect.len_before.wrapping_sub(effect.len_after));
-        }
+    for place in 0..effects.len() {
+        let (taken_weight, taken_len) = taken_by(&asked[place], &effects[place]);
+        weight = weight.wrapping_add(taken_weight);
+        len = len.wrapping_add(taken_len);
     }
     (weight, len)
 }
 
+// Notes for each who asked what the effect of its message answers, and empties the effects.
+fn note_replies<K: Drop>(effects: &mut Vec<Effect<K>>, asked: &mut Vec<Asked<K>>)
+    requires { vec_len effects.old ≤ vec_len asked.old }
+    ensures { asked.new.items ≡ replied asked.old.items effects.old.items }
+{
+    while let Some(effect) = effects.pop() {
+        let asked = &mut asked[effects.len()];
+        asked.reply = effect.reply;
+    }
+}
+
 // Gives the replies, in order, to those who asked.
-fn reply_all<K: Drop, R: Wait>(rt: &R, effects: &mut Vec<Effect<K>>, asked: &mut Vec<Asked<K>>) {
-    effects.reverse();
+fn reply_all<K: Drop, R: Wait>(rt: &R, asked: &mut Vec<Asked<K>>) {
     asked.reverse();
     while let Some(asked) = asked.pop() {
-        let reply = match effects.pop() {
-            Some(effect) => effect.reply,
-            None => None,
-        };
-        answer(rt, asked.cell, reply);
+        answer(rt, asked.cell, asked.reply);
     }
 }
 

@@ -1,16 +1,17 @@
 //! Where evicted pairs wait for those who take them.
-use lru_ledgers::{LedgerBox, TakeSeat};
+use lru_ledgers::{LedgerBox, Registry, TakeSeat};
 use lru_mailboxes::Mailbox;
 use std::alloc::Global;
+use std::marker::Brand;
 use std::sync::{Arc, Wait};
 
 /// Where evicted pairs wait: a mailbox, or a box that counts every pair.
 #[derive(Drop)]
-pub enum Outlet<K: Drop> {
+pub enum Outlet<K: Drop, B: Registry = Brand> {
     /// A mailbox of pairs.
     Mailbox(Mailbox<(K, usize)>),
     /// A box of pairs with their slips.
-    Ledger(Arc<LedgerBox<K>, Global>),
+    Ledger(Arc<LedgerBox<K, B>, Global>),
 }
 
 /// What a taker is answered.
@@ -24,9 +25,9 @@ pub enum Taken<K> {
     NoMemory,
 }
 
-impl<K: Drop> Outlet<K> {
+impl<K: Drop, B: Registry> Outlet<K, B> {
     /// Takes the first pair. It waits while there is none and one may come. Of a box it takes with a seat.
-    pub fn take(&self, rt: &impl Wait, seat: &mut Option<TakeSeat>) -> Taken<K> {
+    pub fn take(&self, rt: &impl Wait, seat: &mut Option<TakeSeat<B>>) -> Taken<K> {
         match self {
             Outlet::Mailbox(mailbox) => match mailbox.pop(rt) {
                 Some((key, weight)) => Taken::Pair(key, weight),

@@ -1,12 +1,13 @@
 //! The loops of eviction workers and callback workers.
 ghost use Rattle.std.specs.Prelude.{◌≡◌, ◌<◌, vec_len};
+ghost use Rattle.lru_rules.specs.Victims.{longer_of};
 
 use crate::callback::AsyncEvictionCallback;
 use crate::outlet::Taken;
 use crate::world::World;
 use lru_actors::message::LruMsg;
 use lru_actors::process::choose_victim;
-use lru_ledgers::TakeSeat;
+use lru_ledgers::{Registry, TakeSeat};
 use lru_letters::Letter;
 use rand::RngExt;
 use rand_core::Rng;
@@ -16,7 +17,7 @@ use std::thread;
 
 /// What an eviction worker does: it waits for the trigger, and then asks for evictions while a limit is passed. It ends
 /// once the trigger is stopped.
-pub fn evict<K: Drop, G: Rng + Drop, R: Wait>(rt: &R, world: &World<K>, mut rng: G)
+pub fn evict<K: Drop, G: Rng + Drop, R: Wait, B: Registry>(rt: &R, world: &World<K, B>, mut rng: G)
     requires { 0 < vec_len world.now.shards }
 {
     let mut seen = 0;
@@ -30,7 +31,7 @@ pub fn evict<K: Drop, G: Rng + Drop, R: Wait>(rt: &R, world: &World<K>, mut rng:
 }
 
 // Asks for evictions while a limit is passed and no stop is raised.
-fn evict_while_over<K: Drop, G: Rng, R: Wait>(rt: &R, world: &World<K>, rng: &mut G)
+fn evict_while_over<K: Drop, G: Rng, R: Wait, B: Registry>(rt: &R, world: &World<K, B>, rng: &mut G)
     requires { 0 < vec_len world.now.shards }
 {
     for _ in rt.forever() {
@@ -43,7 +44,7 @@ fn evict_while_over<K: Drop, G: Rng, R: Wait>(rt: &R, world: &World<K>, rng: &mu
 }
 
 // Asks the longer one of two drawn shards for an eviction. It may refuse; then the next look asks again.
-fn ask_one<K: Drop, G: Rng, R: Wait>(rt: &R, world: &World<K>, rng: &mut G)
+fn ask_one<K: Drop, G: Rng, R: Wait, B: Registry>(rt: &R, world: &World<K, B>, rng: &mut G)
     requires { 0 < vec_len world.now.shards }
 {
     let count = world.shards.len();
@@ -54,22 +55,45 @@ fn ask_one<K: Drop, G: Rng, R: Wait>(rt: &R, world: &World<K>, rng: &mut G)
         let b = rng.random_range(0..count);
         (a, b)
     };
-    let len_a = world.shards[a].len.load(Ordering::SeqCst);
-    let len_b = world.shards[b].len.load(Ordering::SeqCst);
-    let victim = choose_victim(a, b, len_a, len_b);
+    let victim = longer(look_at(world, a), look_at(world, b));
     let _answer = world.shards[victim]
         .mailbox
         .push_evict(rt, Letter::new(LruMsg::Evict));
 }
 
+// A shard that was drawn, and how many rows it is told to have.
+#[derive(Clone, Copy)]
+struct Drawn {
+    shard: usize,
+    len: usize,
+}
+
+// Looks at a shard.
+fn look_at<K: Drop, B: Registry>(world: &World<K, B>, shard: usize) -> Drawn
+    requires { shard < vec_len world.now.shards }
+    ensures { result.shard ≡ shard }
+{
+    Drawn {
+        shard,
+        len: world.shards[shard].len.load(Ordering::SeqCst),
+    }
+}
+
+// The longer one of two shards, the first where they are as long.
+fn longer(a: Drawn, b: Drawn) -> usize
+    ensures { result ≡ longer_of a.shard b.shard a.len b.len }
+{
+    choose_victim(a.shard, b.shard, a.len, b.len)
+}
+
 /// What a callback worker does: it takes pairs one at a time and calls the callback with each, until all is closed and
 /// empty. It gives its seat back.
-pub fn call_back<K: Drop, C: AsyncEvictionCallback<K>, R: Wait>(
+pub fn call_back<K: Drop, C: AsyncEvictionCallback<K>, R: Wait, B: Registry>(
     rt: &R,
-    world: &World<K>,
+    world: &World<K, B>,
     callback: &C,
-    seat: Option<TakeSeat>,
-) -> Option<TakeSeat>
+    seat: Option<TakeSeat<B>>,
+) -> Option<TakeSeat<B>>
     requires { C.ready callback.now }
 {
     let mut seat = seat;

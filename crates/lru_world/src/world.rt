@@ -1,12 +1,16 @@
 //! What actors, workers and callers share.
-ghost use Rattle.std.specs.Prelude.{◌≡◌, ◌+◌, ◌%◌, ◌^◌, ◌<◌, vec_len, IfOk};
+ghost use Rattle.std.specs.Prelude.{◌≡◌, ◌<◌, vec_len, IfOk};
 
 use crate::outlet::Outlet;
 use crate::trigger::Trigger;
+use lru_ledgers::Registry;
 use lru_letters::Letter;
 use lru_mailboxes::Mailbox;
+use lru_rules::counters::shift;
+use lru_rules::eviction::is_past;
 use std::alloc::{AllocError, Global};
 use std::collections::HashMap;
+use std::marker::Brand;
 use std::sync::atomic::{AtomicBool, AtomicU64, AtomicUsize, Ordering};
 use std::sync::{RwLock, Wait};
 
@@ -82,11 +86,11 @@ pub struct Change {
 
 /// What actors, workers and callers share.
 #[derive(Drop)]
-pub struct World<K: Drop> {
+pub struct World<K: Drop, B: Registry = Brand> {
     /// The shards.
     pub shards: Vec<ShardPlace<K>>,
     /// Where evicted pairs wait.
-    pub outlet: Outlet<K>,
+    pub outlet: Outlet<K, B>,
     /// What eviction workers wait for.
     pub trigger: Trigger,
     /// What all shards together are held to.
@@ -98,13 +102,6 @@ pub struct World<K: Drop> {
     stop: AtomicBool,
 }
 
-// What a sum modulo 2^64 grows by where one of its numbers changes.
-fn growth(before: usize, after: usize) -> usize
-    ensures { (before + result) % 2 ^ 64 ≡ after }
-{
-    after.wrapping_sub(before)
-}
-
 // Adds to a counter, in one step.
 fn add(counter: &AtomicUsize, amount: usize) {
     if amount != 0 {
@@ -112,14 +109,14 @@ fn add(counter: &AtomicUsize, amount: usize) {
     }
 }
 
-impl<K: Drop> World<K> {
+impl<K: Drop, B: Registry> World<K, B> {
     /// So many empty shards, each with room for `capacity` rows.
     pub fn new(
         alloc: Global,
         count: usize,
         capacity: usize,
         limits: Limits,
-        outlet: Outlet<K>,
+        outlet: Outlet<K, B>,
     ) -> Result<Self, AllocError>
         ensures count { IfOk result (λ world. vec_len world.shards ≡ count) }
         ensures limits { IfOk result (λ world. world.limits ≡ limits) }
@@ -142,13 +139,9 @@ impl<K: Drop> World<K> {
         requires { shard < vec_len self.now.shards }
     {
         let place = &self.shards[shard];
-        let rows = growth(change.len_before, change.len_after);
-        add(
-            &self.weight,
-            growth(change.weight_before, change.weight_after),
-        );
-        add(&self.len, rows);
-        add(&place.len, rows);
+        shift(&self.weight, change.weight_before, change.weight_after);
+        shift(&self.len, change.len_before, change.len_after);
+        shift(&place.len, change.len_before, change.len_after);
         add(&self.evicted_weight, change.evicted_weight);
         add(&self.evicted_len, change.evicted_len);
         place.refused.store(change.refused, Ordering::SeqCst);
@@ -176,11 +169,12 @@ impl<K: Drop> World<K> {
 
     /// Whether a limit is passed.
     pub fn over_limit(&self) -> bool {
-        self.weight() > self.limits.weight_limit
-            || match self.limits.len_watermark {
-                None => false,
-                Some(most) => self.len() > most,
-            }
+        is_past(
+            self.limits.weight_limit,
+            self.limits.len_watermark,
+            self.weight(),
+            self.len(),
+        )
     }
 
     /// Whether the stop was raised.

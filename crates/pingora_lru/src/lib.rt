@@ -3,12 +3,14 @@
 //! [`linked_list::LinkedList`] is the order of one shard, [`unit::LruUnit`] is one shard,
 //! [`lru_core::LruCore`] is N shards of one owner, and [`Lru`] is N shards for many threads;
 //! [`calls`] has the calls of a core as values, [`recorded`] an order that keeps the history of its calls, and
-//! [`tiered`] a hot and a cold core. Each stands in a small crate beneath; these are the names for users.
+//! [`tiered`] a hot and a cold core. [`totals`] has what orders for threads leave at their end. Each stands in a small
+//! crate beneath; these are the names for users.
 #![tactic(auto)]
 
 pub use lru_list::linked_list;
 pub use lru_locks::lru;
 pub use lru_locks::lru::Lru;
+pub use lru_rules::totals;
 pub use lru_runs::{calls, inclusion};
 pub use lru_shard::unit;
 pub use lru_tiers::tiered;

@@ -27,7 +27,7 @@ pub use lru_async::refusals::{BuildError, SendRefused};
 pub use lru_dispatch::{Dispatch, Putter};
 /// Messages on their way, with the cells for their replies.
 pub use lru_letters::{Letter, ReplyCell};
-/// The law over every schedule.
-pub use lru_schedules::schedule_law;
+/// The law over every schedule, and that a batch is so many of its events.
+pub use lru_schedules::{batch_law, schedule_law};
 /// What is called with each evicted pair, and what actors call before each message.
 pub use lru_world::callback::{AsyncEvictionCallback, Gate, NoGate};

@@ -18,10 +18,10 @@ loop-msg-preserved g c =
       (
         append_assoc before (msg ∷ []) _ ∙ ap (λ z. before ++ z) (sym (ap reverse c.in-Some.ensures.items ∙ reverse-append c.pop.new.self.items (msg ∷ []))) ∙ inv.1.0,
         (
-          subst (λ (es : List (Effect g.row.K.Denot)). ProcessesAll g.D.Dispatch.Puts g.D.Dispatch.IsSame g.D.Dispatch.queue g.K.Clone.is_clone c.args.state.now (hash.get nat_eq c.args.map.now) c.args.dispatch.now
+          subst (λ (es : List (Effect g.row.K.Denot)). ProcessesAll g.D.Dispatch.Puts g.D.Dispatch.IsSame g.D.Dispatch.queue g.K.Clone.is_clone g.D.Dispatch.MayRefuse c.args.state.now (hash.get nat_eq c.args.map.now) c.args.dispatch.now
               (before ++ msg ∷ []) es c.process_msg.new.state (hash.get nat_eq c.process_msg.new.map) c.process_msg.new.dispatch)
               (sym c.push_reserved.ensures.items)
-              (all_more g.D.Dispatch.Puts g.D.Dispatch.IsSame g.D.Dispatch.queue g.K.Clone.is_clone before _ _ _ _ _ _ _ _ _ _ msg _ inv.1.1.0 c.process_msg.ensures),
+              (all_more g.D.Dispatch.Puts g.D.Dispatch.IsSame g.D.Dispatch.queue g.K.Clone.is_clone g.D.Dispatch.MayRefuse before _ _ _ _ _ _ _ _ _ _ msg _ inv.1.1.0 c.process_msg.ensures),
           omega (arith, fits, c.push_reserved.ensures.len, c.push_reserved.ensures.capacity, c.in-Some.ensures.len),
         ),
       ),

@@ -9,7 +9,7 @@ use Rattle.lru_actors.proofs.process.process_batch.Given as goal
 abbrev pub invariant-loop-msg : goal.invariant-loop-msg
 invariant-loop-msg g l =
     (before : List (LruMsg g.row.K.Denot)) × ((before ++ reverse l.batch.items ≡ reverse l.initial.batch.items)
-    × (ProcessesAll g.D.Dispatch.Puts g.D.Dispatch.IsSame g.D.Dispatch.queue g.K.Clone.is_clone l.initial.state (hash.get nat_eq l.initial.map) l.initial.dispatch
+    × (ProcessesAll g.D.Dispatch.Puts g.D.Dispatch.IsSame g.D.Dispatch.queue g.K.Clone.is_clone g.D.Dispatch.MayRefuse l.initial.state (hash.get nat_eq l.initial.map) l.initial.dispatch
     before l.effects.items l.state (hash.get nat_eq l.map) l.dispatch
     × (vec_len l.effects + vec_len l.batch ≤ vec_capacity l.effects)))
 

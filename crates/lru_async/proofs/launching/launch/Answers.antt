@@ -21,3 +21,9 @@ start-requires-sync-C g c κs within = c.type_bounds.sync-C
 
 pub start-requires-sync-G : goal.start-requires-sync-G
 start-requires-sync-G g c κs within = c.type_bounds.sync-G
+
+pub start-requires-send-B : goal.start-requires-send-B
+start-requires-send-B g c κs within = c.type_bounds.send-B
+
+pub start-requires-sync-B : goal.start-requires-sync-B
+start-requires-sync-B g c κs within = c.type_bounds.sync-B

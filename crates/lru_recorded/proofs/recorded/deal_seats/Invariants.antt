@@ -1,6 +1,7 @@
 use Rattle.std.proofs.Common.{◌≡◌, ◌+◌, ◌-◌, [], map}
 use Rattle.std.specs.Prelude.{All}
-use Rattle.lru_journals.specs.Ties.{hand, up}
+use Rattle.lru_hands.specs.Hands.{up}
+use Rattle.lru_journals.specs.Ties.{hand}
 use Rattle.lru_recorded.proofs.recorded.deal_seats.Given as goal
 
 abbrev pub invariant-loop-number : goal.invariant-loop-number

@@ -1,5 +1,6 @@
 use Rattle.std.proofs.Common.{◌≡◌, ◌+◌, ◌-◌, [], vec_len}
-use Rattle.lru_journals.specs.Ties.{hand, up}
+use Rattle.lru_hands.specs.Hands.{up}
+use Rattle.lru_journals.specs.Ties.{hand}
 use Rattle.lru_recorded.proofs.recorded.deal_shards.Given as goal
 
 abbrev pub invariant-loop-number : goal.invariant-loop-number

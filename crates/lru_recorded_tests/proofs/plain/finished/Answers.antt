@@ -1,7 +1,7 @@
 use Rattle.std.proofs.Common.{◌≡◌, ◌<◌, ◌≤◌, length, vec_len, ap, sym, ◌∙◌, arith, rules, lit<}
 use Rattle.std.specs.Prelude.{slice_get}
-use Rattle.lru_journals.specs.Ties.{up}
-use Rattle.lru_recorded_tests.proofs.Numbers.{numbers_up}
+use Rattle.lru_hands.specs.Hands.{up}
+use Rattle.lru_hands.proofs.Hands.{in_order}
 use Rattle.lru_recorded_tests.proofs.plain.finished.Goals as goal
 
 pub finish-requires : goal.finish-requires
@@ -14,7 +14,7 @@ finish-requires g c =
       lit< tt,
       (
         lit< tt,
-        numbers_up (λ s. s.number) all c.args.count len (λ k below s e. c.loop-number.invariant k (omega (arith, below, len, long, end)) s (ap (λ l. slice_get l k) value ∙ e))
+        in_order (λ s. s.number) all c.args.count len (λ k below s e. c.loop-number.invariant k (omega (arith, below, len, long, end)) s (ap (λ l. slice_get l k) value ∙ e))
             ∙ ap (up 0) (sym c.requires),
       ),
     )

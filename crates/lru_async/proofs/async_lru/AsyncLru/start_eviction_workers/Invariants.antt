@@ -1,5 +1,9 @@
-use Rattle.std.proofs.Common.{◌≡◌}
+use Rattle.std.proofs.Common.{◌≡◌, ◌+◌, vec_len}
 use Rattle.lru_async.proofs.async_lru.AsyncLru.start_eviction_workers.Given as goal
 
 abbrev pub invariant-loop-number : goal.invariant-loop-number
-invariant-loop-number g l = l.self.world ≡ l.fn.self.world
+invariant-loop-number g l = record {
+  world : l.self.world ≡ l.fn.self.world;
+  started : vec_len l.self.eviction_workers ≡ vec_len l.fn.self.eviction_workers + l.number;
+  others : vec_len l.self.callback_workers ≡ vec_len l.fn.self.callback_workers;
+}

@@ -1,4 +1,5 @@
 -- The caller's type parameters stand in the same places as those of `launch`.
+use denote.Param.Send.{sendable}
 use Rattle.lru_async.proofs.builder.AsyncLruBuilder.build.Goals as goal
 
 pub launch-requires-send-K : goal.launch-requires-send-K
@@ -21,3 +22,9 @@ launch-requires-sync-C g c κs within = c.type_bounds.sync-C
 
 pub launch-requires-sync-G : goal.launch-requires-sync-G
 launch-requires-sync-G g c κs within = c.type_bounds.sync-G
+
+pub launch-requires-send-B : goal.launch-requires-send-B
+launch-requires-send-B g c κs within = search sendable
+
+pub launch-requires-sync-B : goal.launch-requires-sync-B
+launch-requires-sync-B g c κs within = search sendable

@@ -21,3 +21,9 @@ launch-requires-sync-C g c κs within = c.type_bounds.sync-C
 
 pub launch-requires-sync-G : goal.launch-requires-sync-G
 launch-requires-sync-G g c κs within = c.type_bounds.sync-G
+
+pub launch-requires-send-B : goal.launch-requires-send-B
+launch-requires-send-B g c κs within = c.type_bounds.send-B
+
+pub launch-requires-sync-B : goal.launch-requires-sync-B
+launch-requires-sync-B g c κs within = c.type_bounds.sync-B

@@ -1,5 +1,6 @@
 use Rattle.std.proofs.Common.{◌%◌, ◌<◌, Ok, Err, refl, arith}
 use Rattle.lru_rules.specs.ShardCalls.{UpdatesFrom}
+use Rattle.lru_rules.proofs.Told.{untold_from}
 use Rattle.lru_cores.proofs.Units.{fits, kept_by, acts}
 use Rattle.lru_shard.proofs.EditsOf.{edits_update}
 use Rattle.lru_cores.proofs.lru_core.LruCore.update_or_admit.Goals as goal
@@ -44,4 +45,4 @@ returns-in-Err g c =
     let i = c.self.inside in
     let lt : c.args.key % g.row.N < g.row.N = omega (arith, c.self.invariant.some) in
     let edit = edits_update _ _ c.index_mut-unit.result.now c.args.key c.update_or_admit-answer.result c.update_or_admit-answer.new.self c.update_or_admit-answer.ensures in
-    rw (← c.self.view_is) (acts g.row.N i.units.items i.totals.weight i.totals.len c.self.invariant (c.args.key % g.row.N) lt c.index_mut-unit.result.now c.index_mut-unit.ensures.value c.args.key refl c.update_or_admit-answer.new.self c.of-after.ensures.valid edit (λ a b. UpdatesFrom _ _ a c.args.key (Err c.in-Err.refused) b) c.in-Err.ensures i.weight_limit i.watermark i.evicted_weight i.evicted_len)
+    rw (← c.self.view_is) (acts g.row.N i.units.items i.totals.weight i.totals.len c.self.invariant (c.args.key % g.row.N) lt c.index_mut-unit.result.now c.index_mut-unit.ensures.value c.args.key refl c.update_or_admit-answer.new.self c.of-after.ensures.valid edit (λ a b. UpdatesFrom _ _ a c.args.key (Err c.untold.result) b) (untold_from _ _ c.index_mut-unit.result.now c.args.key c.in-Err.refused c.untold.result c.untold.ensures.cause c.untold.ensures.held c.update_or_admit-answer.new.self c.in-Err.ensures) i.weight_limit i.watermark i.evicted_weight i.evicted_len)

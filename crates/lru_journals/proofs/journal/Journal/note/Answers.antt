@@ -2,7 +2,8 @@ use Rattle.std.proofs.Common.{◌≡◌, ◌+◌, [], ◌∷◌, ◌++◌, lengt
 use Rattle.atomic_table.specs.Table.{Me}
 use Rattle.lru_journals.specs.declared.entry.Stamp.{Stamp}
 use Rattle.lru_journals.specs.declared.entry.Hand.{Hand}
-use Rattle.lru_journals.specs.Ties.{hand, Among}
+use Rattle.lru_hands.specs.Hands.{Among}
+use Rattle.lru_journals.specs.Ties.{hand}
 use Rattle.lru_journals.specs.Stamps.{entry, receipt, stamp, slip, stamps_in, slips_in, TurnsRise}
 use Rattle.lru_journals.proofs.Lists.{stamps_snoc, slips_snoc, rises_on, came_before}
 use Rattle.lru_journals.proofs.journal.Journal.note.Goals as goal

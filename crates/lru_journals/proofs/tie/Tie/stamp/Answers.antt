@@ -3,7 +3,8 @@ use mathlib.Core.Option.{some}
 use Rattle.atomic_table.specs.Table.{Me}
 use Rattle.lru_journals.specs.declared.entry.Stamp.{Stamp}
 use Rattle.lru_journals.specs.declared.entry.Hand.{Hand}
-use Rattle.lru_journals.specs.Ties.{Among, stamped, hand, HasSlips}
+use Rattle.lru_hands.specs.Hands.{Among}
+use Rattle.lru_journals.specs.Ties.{stamped, hand, HasSlips}
 use Rattle.lru_journals.proofs.Moves.{splits, joins, stamps, cuts_lend, cuts_parts, together}
 use Rattle.lru_journals.proofs.tie.Tie.stamp.Goals as goal
 

@@ -1,4 +1,4 @@
-use Rattle.std.proofs.Common.{ℕ, ap}
+use Rattle.std.proofs.Common.{ℕ, ap, ◌∙◌}
 use Rattle.lru_list.specs.Linked.{Linked}
 use Rattle.lru_shard.specs.Representation.Slots.{held}
 use Rattle.lru_shard.specs.Representation.Table.{place_in}
@@ -21,7 +21,7 @@ put-requires-clause-slot g c =
 pub returns-in-Err : goal.returns-in-Err
 returns-in-Err g c =
     let i = c.self.inside in (
-      refuses_given _ c.args.self.now c.new.result.cause c.new.result.held (light_old (place_in i.rows) i.rows.slots.items i.order i.used_weight i.cap c.self.invariant c.args.self.now c.self.view_is) (may_held (place_in i.rows) i.rows.slots.items i.order i.used_weight i.cap c.self.invariant c.args.self.now c.self.view_is c.in-Err.cause c.in-Err.ensures.refused c.new.result c.new.ensures.cause) c.new.ensures.held,
+      refuses_given _ c.args.self.now c.new.result.cause c.new.result.weight c.new.result.held (light_old (place_in i.rows) i.rows.slots.items i.order i.used_weight i.cap c.self.invariant c.args.self.now c.self.view_is) (may_held (place_in i.rows) i.rows.slots.items i.order i.used_weight i.cap c.self.invariant c.args.self.now c.self.view_is c.in-Err.cause c.in-Err.ensures.refused c.new.result c.new.ensures.cause) c.new.ensures.weight c.new.ensures.held,
       left_same (place_in i.rows) i.rows.slots.items i.order i.used_weight i.cap c.self.invariant c.args.self.now c.self.view_is (place_in c.take_place.new.rows) c.take_place.new.rows.slots.items c.in-Err.ensures.places c.in-Err.ensures.held c.in-Err.ensures.wide c.in-Err.ensures.few c.take_place.new.order c.in-Err.ensures.left,
     )
 
@@ -36,7 +36,7 @@ returns-then-weight-self g c =
     let i = c.self.inside in
     let made = c.admit_data-data.result in
     let back = undone i.order c.take_place.new.order c.remove.new.self c.args.key c.in-Ok.place c.in-Ok.ensures.pushed c.in-Ok.ensures.numbered c.in-Ok.ensures.place (ap (λ (o : Linked ℕ). o.live) c.remove.ensures.removes.1.2) in (
-      given_heavy _ c.args.self.now c.new-then-weight-self.result.cause c.new-then-weight-self.result.held made c.admit_data-data.ensures c.new-then-weight-self.ensures.cause c.new-then-weight-self.ensures.held
+      given_heavy _ c.args.self.now c.new-then-weight-self.result.cause c.new-then-weight-self.result.weight c.new-then-weight-self.result.held made c.admit_data-data.ensures c.new-then-weight-self.ensures.cause (c.new-then-weight-self.ensures.weight ∙ c.max-weight.ensures) c.new-then-weight-self.ensures.held
           (heavy_given (place_in i.rows) i.rows.slots.items i.order i.used_weight i.cap c.self.invariant c.args.self.now c.self.view_is c.in-Ok.ensures.allowed made.1 c.max-weight.result c.max-weight.ensures c.if-weight-self.true),
       live_same (place_in i.rows) i.rows.slots.items i.order i.used_weight i.cap c.self.invariant c.args.self.now c.self.view_is (place_in c.take_place.new.rows) c.take_place.new.rows.slots.items c.in-Ok.ensures.places c.in-Ok.ensures.held c.in-Ok.ensures.wide c.in-Ok.ensures.few c.remove.new.self back,
     )

@@ -34,7 +34,7 @@ pub returns-then-weight-self : goal.returns-then-weight-self
 returns-then-weight-self g c =
     let i = c.self.inside in
     let changed = c.update.ensures.slots c.held.result.now c.held.ensures in
-    updates_heavy _ _ c.args.self.now c.args.key (row c.args.key c.held.result.now.«data» c.held.result.now.weight) (row_there (place_in i.rows) i.rows.slots.items i.order i.used_weight i.cap c.self.invariant c.args.self.now c.self.view_is c.args.key c.in-Some.place c.in-Some.ensures c.held.result.now c.held.ensures) changed.0 c.update.result changed.1.0 _ c.new.result c.new.ensures.cause c.new.ensures.held c.max-weight.result c.max-weight.ensures
+    updates_heavy _ _ c.args.self.now c.args.key (row c.args.key c.held.result.now.«data» c.held.result.now.weight) (row_there (place_in i.rows) i.rows.slots.items i.order i.used_weight i.cap c.self.invariant c.args.self.now c.self.view_is c.args.key c.in-Some.place c.in-Some.ensures c.held.result.now c.held.ensures) changed.0 c.update.result changed.1.0 _ c.new.result c.new.ensures.cause c.max-weight.result c.new.ensures.weight c.new.ensures.held c.max-weight.ensures
     (heavy_there (place_in i.rows) i.rows.slots.items i.order i.used_weight i.cap c.self.invariant c.args.self.now c.self.view_is c.args.key c.in-Some.place c.in-Some.ensures c.held.result.now c.held.ensures c.max-weight.result c.if-weight-self.true changed.0) (left_with_value (place_in i.rows) i.rows.slots.items i.order i.used_weight i.cap c.self.invariant c.args.self.now c.self.view_is c.args.key c.in-Some.place c.in-Some.ensures c.held.result.now c.held.ensures (held changed.0 c.held.result.now.weight) (place_in c.update.new.self) (ap (hash.get nat_eq) c.update.ensures.places) c.update.new.self.slots.items changed.1.1 refl)
 
 pub promote-requires : goal.promote-requires

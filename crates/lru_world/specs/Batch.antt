@@ -1,0 +1,47 @@
+-- A batch of an actor: what is kept of its letters, who is answered what, and what it changed.
+use Rattle.std.specs.Prelude.{◌≡◌, ℕ, ◌-◌, ◌%◌, ◌^◌, Bool, true, false, List, [], ◌∷◌, length, map, sum_by, None, if◌then◌else◌}
+use Rattle.lru_shard.specs.Row.{Row, weight_of}
+use Rattle.lru_actors.specs.declared.message.LruMsg.{LruMsg}
+use Rattle.lru_actors.specs.declared.message.LruMsg.TheVariants.{Evict}
+use Rattle.lru_actors.specs.declared.effect.Effect.{Effect}
+use Rattle.lru_actors.specs.Messages.{State}
+use Rattle.lru_letters.specs.declared.letter.Letter.{Letter}
+use Rattle.lru_schedules.specs.Turns.{sent, turns_of, evictions}
+use Rattle.lru_world.specs.declared.actor.Asked.{Asked}
+use Rattle.lru_world.specs.declared.world.Change.{Change}
+
+module _ {K : Type 0} where
+  abbrev pub is_evict : LruMsg K → Bool
+  is_evict Evict = true
+  is_evict _ = false
+
+  -- what is kept of a letter, before its message is processed
+  abbrev pub asked_by : Letter K → Asked K
+  asked_by l = record { evicts = is_evict l.message; cell = l.cell; reply = None }
+
+  -- those who asked, each with the reply of the effect of its own message
+  abbrev pub replied : List (Asked K) → List (Effect K) → List (Asked K)
+  replied asked [] = asked
+  replied [] (e ∷ es) = []
+  replied (a ∷ later) (e ∷ es) = record a { reply = e.reply } ∷ replied later es
+
+  -- the weight of the row that a message's eviction took, and how many rows it took
+  abbrev pub weight_taken : Asked K × Effect K → ℕ
+  weight_taken p = if p.0.evicts then p.1.weight_before - p.1.weight_after else 0
+
+  abbrev pub rows_taken : Asked K × Effect K → ℕ
+  rows_taken p = if p.0.evicts then p.1.len_before - p.1.len_after else 0
+
+  -- the pairs that a batch evicts, in order: those of the law's turns
+  abbrev pub pairs_evicted : List (Row K) → List (LruMsg K) → List (Effect K) → List (K × ℕ)
+  pairs_evicted rows msgs effects = evictions rows (turns_of (map (λ m. sent None m) msgs) effects)
+
+  -- how a batch changed a shard, and what it evicted
+  pub record IsChange (old : State K) (msgs : List (LruMsg K)) (effects : List (Effect K)) (new : State K) (c : Change) : Type 0 where
+    pub weight_before : c.weight_before ≡ weight_of old.shard.rows
+    pub weight_after : c.weight_after ≡ weight_of new.shard.rows
+    pub len_before : c.len_before ≡ length old.shard.rows
+    pub len_after : c.len_after ≡ length new.shard.rows
+    pub evicted_weight : c.evicted_weight ≡ sum_by (λ (p : K × ℕ). p.1) (pairs_evicted old.shard.rows msgs effects) % 2 ^ 64
+    pub evicted_len : c.evicted_len ≡ length (pairs_evicted old.shard.rows msgs effects) % 2 ^ 64
+    pub refused : c.refused ≡ new.refused
