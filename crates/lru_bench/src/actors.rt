@@ -1,15 +1,18 @@
-//! Messages through an actor's shard, in batches of 1 and of 64, beside the calls of a shard of one owner.
-ghost use Rattle.std.specs.Prelude.{◌<◌};
+//! Messages through an actor's shard, in batches of 1 and of 64, beside the calls of a shard of one owner; and pairs through
+//! a box.
+ghost use Rattle.std.specs.Prelude.{◌≡◌, ◌<◌};
 
 use crate::trace;
 use crate::watch::Watch;
 use pingora_lru::unit::LruUnit;
 use pingora_lru_async::async_lru::{Effect, LruMsg, ShardState, process_batch};
-use pingora_lru_async::mailbox::MailState;
+use pingora_lru_async::mailbox::{Blanks, LedgerBox, MailState, Registry};
 use std::alloc::{AllocError, Global};
 use std::collections::HashMap;
 use std::io;
+use std::marker::Brand;
 use std::rt::Clock;
+use std::sync::Wait;
 use std::time::Instant;
 
 const CALLS: usize = 1_000_000;
@@ -110,8 +113,39 @@ fn time<R: Print + Clock>(
     watch.tell(rt, what.as_str(), done, keys.len(), start)
 }
 
-/// Admits so many rows and promotes a million times, by a shard's own calls and by messages.
-pub fn measure<R: Print + Clock>(rt: &R, alloc: Global, watch: Watch, rows: u32) -> io::Result<()>
+// Puts a million pairs into a box, and takes each out again.
+fn measure_box<B: Registry, R: Print + Clock + Wait>(
+    rt: &R,
+    alloc: Global,
+    watch: Watch,
+    blanks: Blanks,
+) -> io::Result<()>
+    requires tables { (blanks.puts.tie.table.shared.table_id ≡ B.puts) × (blanks.takes.tie.table.shared.table_id ≡ B.takes) }
+    requires counts { (B.putters ≡ blanks.putters) × (B.takers ≡ blanks.takers) }
+{
+    let (ledger, mut puts, mut takes) = LedgerBox::<u64, B>::new(alloc, blanks)?;
+    let (Some(putter), Some(taker)) = (puts.first_mut(), takes.first_mut()) else {
+        return Ok(());
+    };
+    let start = Instant::now(rt)?;
+    let mut done = 0usize;
+    for key in 0..CALLS as u64 {
+        let put = ledger.put(rt, putter, key, key, 1).is_ok();
+        if put && matches!(ledger.take(rt, taker), Ok(Some(_))) {
+            done = done.wrapping_add(1);
+        }
+    }
+    watch.tell(rt, "a box, put and take", done, CALLS, start)
+}
+
+/// Admits so many rows and promotes a million times, by a shard's own calls and by messages; and puts a million pairs into a
+/// box.
+pub fn measure<R: Print + Clock + Wait>(
+    rt: &R,
+    alloc: Global,
+    watch: Watch,
+    rows: u32,
+) -> io::Result<()>
     requires { 0 < rows }
 {
     let trace = trace::uniform_keys(alloc, 7, rows, CALLS)?;
@@ -125,5 +159,6 @@ pub fn measure<R: Print + Clock>(rt: &R, alloc: Global, watch: Watch, rows: u32)
         time(rt, alloc, watch, &mut actor, (&all, "admit"), size)?;
         time(rt, alloc, watch, &mut actor, (&trace, "promote"), size)?;
     }
-    Ok(())
+    let blanks = Blanks::new(alloc, 1, 1)?;
+    measure_box::<Brand, R>(rt, alloc, watch, blanks)
 }

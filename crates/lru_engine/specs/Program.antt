@@ -1,5 +1,5 @@
 -- The whole program: the core that it begins with, its random words, what it writes, and its status.
-use Rattle.std.specs.Prelude.{◌≡◌, ℕ, List, [], replicate, is_some, Option, if◌then◌else◌}
+use Rattle.std.specs.Prelude.{◌≡◌, ◌⊎◌, ℕ, List, [], codes, replicate, Some, None, is_some, Option, if◌then◌else◌}
 use Rattle.std.specs.List.{list_all}
 use Rattle.std.specs.Io.KnownBytes.{Appends}
 use Rattle.lru_snapshot.specs.declared.snapshot.Keyed.{Keyed}
@@ -8,7 +8,7 @@ use Rattle.lru_commands.specs.Commands.{Asked}
 use Rattle.pingora_lru.specs.Core.{Core}
 use Rattle.pingora_lru_files.specs.Stores.{Meaning}
 use Rattle.lru_replies.specs.Storing.{State}
-use Rattle.lru_replies.specs.Replies.{Serves}
+use Rattle.lru_replies.specs.Replies.{line, Serves}
 use Rattle.rand_core.specs.Stream.{Stream}
 use Rattle.rand_core.specs.Steps.{stream_of, steps_u32}
 use Rattle.rand_core.specs.Pcg32Seed.{pcg32_seed}
@@ -34,3 +34,16 @@ WritesFor m state lines old new last = (text : List ℕ) × (Serves m state line
 abbrev pub Runs : {F : Type 0} → Meaning F → Settings → F → List (Option Asked) → ℕ → Option (List ℕ) → Option (List ℕ) → F → Type 0
 Runs m settings folder lines status old new last =
     (status ≡ status_of lines) × WritesFor m (record { core = fresh settings; folder = folder; words = words_of settings.seed }) lines old new last
+
+-- where the input or the core finds no memory, and where a read fails
+abbrev pub memory_text : List ℕ
+memory_text = line (codes "error memory")
+
+abbrev pub input_text : List ℕ
+input_text = line (codes "error input")
+
+-- A run ends with status 1 only so: a write failed, or a read did and `error input` was written, or memory was wanted and
+-- `error memory` was. With arguments that are wrong nothing is read and no memory is asked for, so a write failed.
+abbrev pub GivesUp : Option Settings → Type 0 → Type 0 → Option (List ℕ) → Option (List ℕ) → Type 0
+GivesUp None read_failed write_failed old new = write_failed
+GivesUp (Some settings) read_failed write_failed old new = write_failed ⊎ (Appends old new memory_text ⊎ (read_failed × Appends old new input_text))

@@ -1,17 +1,20 @@
 //! The engine: all of the program but where its arguments and its streams come from.
-ghost use Rattle.std.specs.Prelude.{◌≡◌, ◌≢◌, ◌↔◌, List, ℕ, All, Some, None, IfOk, IfSome, IsSome, OnOk, map, option_map, is_some, string_bytes};
+ghost use Rattle.std.specs.Prelude.{◌≡◌, ◌≢◌, ◌↔◌, ◌⊎◌, List, ℕ, All, Some, None, IfOk, IfSome, IsNone, IsSome, OnErr, OnOk, map, option_map, is_some, string_bytes};
 ghost use Rattle.std.specs.List.{list_all};
 ghost use Rattle.std.specs.Io.Buffered.{writer_contents};
 ghost use Rattle.std.specs.Io.KnownBytes.{Appends};
 ghost use Rattle.lru_commands.specs.Commands.{asked, Possible, commands_of};
 ghost use Rattle.lru_commands.specs.Settings.{settings_of};
-ghost use Rattle.lru_replies.specs.Replies.{usage_text};
-ghost use Rattle.lru_engine.specs.Program.{fresh, WritesFor, Runs};
+ghost use Rattle.lru_replies.specs.Replies.{usage_text, error_line_text};
+ghost use Rattle.lru_engine.specs.Program.{fresh, memory_text, input_text, WritesFor, Runs, GivesUp};
 
 use log::Log;
 use lru_commands::command::{Command, commands};
 use lru_commands::settings::{Settings, settings_from};
 use lru_replies::replies::answer;
+use lru_streams::input::{Input, InputError};
+use lru_streams::output::Output;
+use lru_streams::pieces::{Piece, write_pieces};
 use pingora_lru::lru_core::LruCore;
 use pingora_lru_files::persistence::Folder;
 use pingora_lru_files::snapshot::Keyed;
@@ -19,10 +22,12 @@ use rand::rngs::StdRng;
 use rand_core::{Rng, SeedableRng};
 use std::alloc::{AllocError, Global};
 use std::io;
-use std::io::{BufWriter, ErrorKind, Read, Write};
+use std::io::{BufWriter, Write};
+
+const USAGE: &str = "usage: lru_tool LIMIT WATERMARK SEED\n";
 
 // Answers line after line, up to and with a bad one; whether there was none.
-fn serve<F: Folder, R: Rng, L: Log, W: Write>(
+fn serve<F: Folder, R: Rng, L: Log, W: Output>(
     core: &mut LruCore<Keyed, 2>,
     folder: &mut F,
     alloc: Global,
@@ -32,11 +37,12 @@ fn serve<F: Folder, R: Rng, L: Log, W: Write>(
     writer: &mut W,
 ) -> io::Result<bool>
     requires { All Possible (map (option_map asked) lines.items) }
-    ensures text { OnOk result (WritesFor (record { files = F.files; folders = F.folders; clock = F.clock; stopped_since = F.stopped_since; lost_since = F.lost_since; loose = F.loose; faults = F.faults; last_call = F.last_call; keeps = F.keeps })
+    ensures text { OnOk result (WritesFor F.meaning
         (record { core = core.old; folder = folder.old; words = R.stream rng.old })
         (map (option_map asked) lines.entry.items) (W.contents writer.old) (W.contents writer.new) folder.new) }
+    ensures failed { OnErr result (W.has_failed writer.new) }
     ensures good { IfOk result (λ good. good ≡ list_all is_some (map (option_map asked) lines.entry.items)) }
-    ensures kept { F.keeps folder.old ↔ F.keeps folder.new }
+    ensures kept { F.meaning.keeps folder.old ↔ F.meaning.keeps folder.new }
 {
     let count = lines.len();
     let mut rest = lines.into_iter();
@@ -46,7 +52,7 @@ fn serve<F: Folder, R: Rng, L: Log, W: Write>(
             None => {
                 // how many lines were taken, this one with them
                 let number = count - rest.len();
-                writeln!(writer, "error line {number}")?;
+                write_bad_line(writer, number)?;
                 return Ok(false);
             }
         }
@@ -54,11 +60,35 @@ fn serve<F: Folder, R: Rng, L: Log, W: Write>(
     Ok(true)
 }
 
-// Where the input or the core finds no memory. A write that fails has no status of its own.
-fn memory_error<W: Write>(writer: &mut W) -> u8
-    ensures { result ≡ 1 }
+fn write_bad_line<W: Output>(writer: &mut W, number: usize) -> io::Result<()>
+    ensures text { OnOk result (Appends (W.contents writer.old) (W.contents writer.new) (error_line_text number)) }
+    ensures failed { OnErr result (W.has_failed writer.new) }
 {
-    let _ = writeln!(writer, "error memory");
+    write_pieces(
+        writer,
+        &[
+            Piece::Text("error line "),
+            Piece::Number(number as u64),
+            Piece::Text("\n"),
+        ],
+    )
+}
+
+// Where the input or the core finds no memory. A write that fails has no status of its own.
+fn memory_error<W: Output>(writer: &mut W) -> u8
+    ensures status { result ≡ 1 }
+    ensures text { W.has_failed writer.new ⊎ Appends (W.contents writer.old) (W.contents writer.new) memory_text }
+{
+    let _ = write_pieces(writer, &[Piece::Text("error memory\n")]);
+    1
+}
+
+// Where a read fails.
+fn input_error<W: Output>(writer: &mut W) -> u8
+    ensures status { result ≡ 1 }
+    ensures text { W.has_failed writer.new ⊎ Appends (W.contents writer.old) (W.contents writer.new) input_text }
+{
+    let _ = write_pieces(writer, &[Piece::Text("error input\n")]);
     1
 }
 
@@ -67,9 +97,9 @@ fn memory_error<W: Write>(writer: &mut W) -> u8
 /// folder, a `load` reads it and removes its temp files, and both tell the log how that went.
 ///
 /// Wrong arguments: the usage line, and status 2, before anything is read. A bad line: its error after the
-/// replies before it, and status 2. A read that fails, input or core that find no memory, and a write that
-/// fails: status 1.
-pub fn run<F: Folder, L: Log, R: Read, W: Write>(
+/// replies before it, and status 2. A read that fails: `error input`, and status 1. Input or core that find no memory:
+/// `error memory`, and status 1. A write that fails: status 1. Nothing else has that status.
+pub fn run<F: Folder, L: Log, R: Input, W: Output>(
     alloc: Global,
     folder: &mut F,
     log: &L,
@@ -81,23 +111,22 @@ pub fn run<F: Folder, L: Log, R: Read, W: Write>(
     ensures unread { settings_of (map string_bytes arguments.now) ≡ None → reader.new ≡ reader.old }
     ensures unmoved { settings_of (map string_bytes arguments.now) ≡ None → folder.new ≡ folder.old }
     ensures served { IfSome (settings_of (map string_bytes arguments.now)) (λ settings. result ≢ 1 → IfSome (R.remaining reader.old) (λ input.
-        Runs (record { files = F.files; folders = F.folders; clock = F.clock; stopped_since = F.stopped_since; lost_since = F.lost_since; loose = F.loose; faults = F.faults; last_call = F.last_call; keeps = F.keeps })
+        Runs F.meaning
         settings folder.old (commands_of input) result (W.contents writer.old) (W.contents writer.new) folder.new)) }
-    ensures kept { F.keeps folder.old ↔ F.keeps folder.new }
+    ensures refused { result ≡ 1 → GivesUp (settings_of (map string_bytes arguments.now)) (R.has_failed reader.new) (W.has_failed writer.new) (W.contents writer.old) (W.contents writer.new) }
+    ensures kept { F.meaning.keeps folder.old ↔ F.meaning.keeps folder.new }
 {
     let Some(settings) = settings_from(arguments) else {
-        if let Err(_) = writeln!(writer, "usage: lru_tool LIMIT WATERMARK SEED") {
-            return 1;
-        }
-        return 2;
+        return match write_pieces(writer, &[Piece::Text(USAGE)]) {
+            Ok(()) => 2,
+            Err(_) => 1,
+        };
     };
     let mut input = Vec::new(alloc);
-    if let Err(error) = reader.read_to_end(&mut input) {
-        if error.kind() == ErrorKind::OutOfMemory {
-            return memory_error(writer);
-        }
-        let _ = writeln!(writer, "error input");
-        return 1;
+    match reader.read_all(&mut input) {
+        Ok(()) => {}
+        Err(InputError::Memory) => return memory_error(writer),
+        Err(InputError::Failed) => return input_error(writer),
     }
     let Ok(lines) = commands(alloc, &input) else {
         return memory_error(writer);
@@ -126,7 +155,7 @@ fn make_core(alloc: Global, settings: Settings) -> Result<LruCore<Keyed, 2>, All
 /// As `run`, through a buffer: replies are written many at a time. Answers the status, and the writer beneath, which has
 /// taken all of them. Where its last write fails the status is 1 and there is no writer; what it took is a beginning of
 /// the replies.
-pub fn run_buffered<F: Folder, L: Log, R: Read, W: Write + Drop>(
+pub fn run_buffered<F: Folder, L: Log, R: Input, W: Write + Drop>(
     alloc: Global,
     folder: &mut F,
     log: &L,
@@ -139,10 +168,10 @@ pub fn run_buffered<F: Folder, L: Log, R: Read, W: Write + Drop>(
     ensures unread { settings_of (map string_bytes arguments.now) ≡ None → reader.new ≡ reader.old }
     ensures unmoved { settings_of (map string_bytes arguments.now) ≡ None → folder.new ≡ folder.old }
     ensures served { IfSome (settings_of (map string_bytes arguments.now)) (λ settings. result.0 ≢ 1 → IfSome (R.remaining reader.old) (λ input.
-        IfSome result.1 (λ written. Runs (record { files = F.files; folders = F.folders; clock = F.clock; stopped_since = F.stopped_since; lost_since = F.lost_since; loose = F.loose; faults = F.faults; last_call = F.last_call; keeps = F.keeps })
+        IfSome result.1 (λ written. Runs F.meaning
         settings folder.old (commands_of input) result.0 (writer_contents W.contents writer) (W.contents written) folder.new))) }
     ensures whole { result.0 ≢ 1 → IsSome result.1 }
-    ensures kept { F.keeps folder.old ↔ F.keeps folder.new }
+    ensures kept { F.meaning.keeps folder.old ↔ F.meaning.keeps folder.new }
 {
     let mut buffered = writer;
     let status = run(alloc, folder, log, arguments, reader, &mut buffered);

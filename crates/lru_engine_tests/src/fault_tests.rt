@@ -1,8 +1,11 @@
 //! What the program does with wrong arguments, and where its input, its output or memory fails.
+ghost use Rattle.std.specs.Prelude.{⊤};
+
 use crate::run_tests::words;
 use log::sink::Discard;
 use lru_engine::arguments;
 use lru_engine::engine::run;
+use lru_streams::input::{Input, InputError, read_to_end};
 use pingora_lru_files::persistence::MemoryFolder;
 use std::alloc::{AllocError, Global};
 use std::env::{Env, FillError};
@@ -18,6 +21,14 @@ struct Broken {
 impl io::Read for Broken {
     fn read(&mut self, _: &mut [u8]) -> io::Result<usize> {
         Err(io::Error::from(self.kind))
+    }
+}
+
+impl Input for Broken {
+    ghost has_failed = { λ _. ⊤ };
+
+    fn read_all(&mut self, input: &mut Vec<u8>) -> Result<(), InputError> {
+        read_to_end(self, input)
     }
 }
 
@@ -53,7 +64,7 @@ impl Env for Given<'_> {
 }
 
 /// The status of a run with these arguments over an empty folder, whose input is this one, and what is written.
-fn run_given<R: io::Read + Drop>(
+fn run_given<R: Input + Drop>(
     alloc: Global,
     last: &[u8],
     mut reader: R,

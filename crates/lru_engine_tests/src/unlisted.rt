@@ -1,8 +1,6 @@
 //! A folder for tests, which cannot be listed.
-ghost use Rattle.std.specs.FinMap.{empty};
 ghost use Rattle.std.specs.Prelude.{◌≡◌, [], false, if◌then◌else◌};
-ghost use Rattle.std.specs.FinSet.{empty as nothing};
-ghost use Rattle.lru_folder.specs.declared.folder_call.FolderCall.TheVariants.{Make};
+ghost use Rattle.lru_folder.specs.Meaning.{without_meaning};
 ghost use Rattle.pingora_lru_files.specs.Folder.{Closed, Lost, Writing};
 
 use pingora_lru_files::persistence::{Folder, FolderFault, Listed};
@@ -32,25 +30,9 @@ impl Unlisted {
 }
 
 impl Folder for Unlisted {
-    ghost files = { λ _. empty };
-
-    ghost folders = { λ _. nothing };
+    ghost meaning = { without_meaning };
 
     ghost opened = { λ folder. if folder.is_read then Lost else (if folder.is_written then Writing [] else Closed) };
-
-    ghost clock = { λ _. 0 };
-
-    ghost stopped_since = { λ _ _ _. ⊥ };
-
-    ghost lost_since = { λ _ _ _. ⊥ };
-
-    ghost loose = { λ _ _. ⊥ };
-
-    ghost faults = { λ _. 0 };
-
-    ghost last_call = { λ _. Make };
-
-    ghost keeps = { λ _. ⊥ };
 
     ghost counts_now = { λ _ _ broken _. absurd broken };
 

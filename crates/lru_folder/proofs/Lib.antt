@@ -5,3 +5,4 @@ pub mod Moments
 pub mod CauseLemmas
 pub mod InOrderLemmas
 pub mod LossLemmas
+pub mod SparingLemmas

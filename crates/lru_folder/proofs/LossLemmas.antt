@@ -3,6 +3,7 @@ use Rattle.std.proofs.Common.{◌≡◌, ◌≢◌, inl, inr, ⊎_elim, ◌≤�
 use Rattle.std.specs.FinMap.{get, insert, remove}
 use Rattle.lru_folder.specs.Files.{Files, bytes_at, appended}
 use Rattle.lru_folder.specs.Losses.{IsSpread, LossStep, Loses, LosesOnly, IsFromStart, loss_of, loosened}
+use Rattle.lru_folder.specs.Meaning.{Meaning}
 use Rattle.lru_folder.proofs.FilesLemmas.{decide, get-insert_same, get-insert_other, get-remove_same, get-remove_other}
 
 -- a map with these bytes at a path, or with none there
@@ -73,38 +74,38 @@ spread-back path loose before files old m same less h = record {
 }
 
 -- Before the first call.
-pub loss_started : {F : Type 0} (clock : F → ℕ) (lost_since : F → ℕ → Files → Type 0) (R : Files → Files → Type 0) (old : F) → ((m : Files) → R m m)
-    → LosesOnly clock lost_since R old old
-loss_started clock lost_since R old same =
+pub loss_started : {F : Type 0} (meaning : Meaning F) (R : Files → Files → Type 0) (old : F) → ((m : Files) → R m m)
+    → LosesOnly meaning R old old
+loss_started meaning R old same =
     record { later = omega arith; each = λ m s. (m, (s, same m)); now = λ m s. (m, (s, same m)); before = λ t m le s. inl s }
 
 -- One call more, which adds only what is R of a map that a loss at the start could have left.
-pub loses_on : {F : Type 0} (clock : F → ℕ) (files : F → Files) (lost_since : F → ℕ → Files → Type 0) (loose : F → List ℕ → Type 0) (R : Files → Files → Type 0)
-    (step : LossStep) (old mid new : F) → clock mid ≤ clock new → LosesOnly clock lost_since R old mid → Loses clock files lost_since loose step mid new
-    → ((m : Files) → step.maps (loss_of clock files lost_since loose mid) m → IsFromStart clock lost_since R old m) → LosesOnly clock lost_since R old new
-loses_on clock files lost_since loose R step old mid new le so_far call here = record {
+pub loses_on : {F : Type 0} (meaning : Meaning F) (R : Files → Files → Type 0)
+    (step : LossStep) (old mid new : F) → meaning.clock mid ≤ meaning.clock new → LosesOnly meaning R old mid → Loses meaning step mid new
+    → ((m : Files) → step.maps (loss_of meaning mid) m → IsFromStart meaning R old m) → LosesOnly meaning R old new
+loses_on meaning R step old mid new le so_far call here = record {
   later = omega (arith, so_far.later, le);
-  each = λ m s. ⊎_elim (so_far.each m) (here m) (call.nothing_else (clock old) m so_far.later s);
+  each = λ m s. ⊎_elim (so_far.each m) (here m) (call.nothing_else (meaning.clock old) m so_far.later s);
   now = λ m s. ⊎_elim (so_far.now m) (here m) (call.now m s);
   before = λ t m earlier s. ⊎_elim (so_far.before t m earlier) (λ p. inr (here m p)) (call.nothing_else t m (omega (arith, earlier, so_far.later)) s);
 }
 
 -- One run after another.
-module _ {F : Type 0} (clock : F → ℕ) (lost_since : F → ℕ → Files → Type 0) (P Q R : Files → Files → Type 0) (old mid new : F)
-    (first : LosesOnly clock lost_since P old mid) (second : LosesOnly clock lost_since Q mid new)
+module _ {F : Type 0} (meaning : Meaning F) (P Q R : Files → Files → Type 0) (old mid new : F)
+    (first : LosesOnly meaning P old mid) (second : LosesOnly meaning Q mid new)
     (p : (was m : Files) → P was m → R was m) (both : (was then m : Files) → P was then → Q then m → R was m) where
-  early : (m : Files) → IsFromStart clock lost_since P old m → IsFromStart clock lost_since R old m
+  early : (m : Files) → IsFromStart meaning P old m → IsFromStart meaning R old m
   early m h = (h.0, (h.1.0, p h.0 m h.1.1))
 
-  late : (m : Files) → IsFromStart clock lost_since Q mid m → IsFromStart clock lost_since R old m
+  late : (m : Files) → IsFromStart meaning Q mid m → IsFromStart meaning R old m
   late m h =
       let was = first.now h.0 h.1.0 in
       (was.0, (was.1.0, both was.0 h.0 m was.1.1 h.1.1))
 
-  pub then_loses : LosesOnly clock lost_since R old new
+  pub then_loses : LosesOnly meaning R old new
   then_loses = record {
     later = omega (arith, first.later, second.later);
-    each = λ m s. ⊎_elim (λ before. early m (first.each m before)) (late m) (second.before (clock old) m first.later s);
+    each = λ m s. ⊎_elim (λ before. early m (first.each m before)) (late m) (second.before (meaning.clock old) m first.later s);
     now = λ m s. late m (second.now m s);
     before = λ t m le s. ⊎_elim (λ before. ⊎_elim inl (λ h. inr (early m h)) (first.before t m le before)) (λ h. inr (late m h)) (second.before t m (omega (arith, le, first.later)) s);
   }

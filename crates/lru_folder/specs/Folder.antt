@@ -3,6 +3,7 @@ use Rattle.std.specs.Prelude.{◌≡◌, ◌⊎◌, ◌<◌, ◌≤◌, ℕ, suc
 use Rattle.lru_folder.specs.declared.fault.FolderFault.{FolderFault}
 use Rattle.lru_folder.specs.declared.fault.FolderFault.TheVariants.{Io}
 use Rattle.lru_folder.specs.Files.{Files}
+use Rattle.lru_folder.specs.Meaning.{Meaning}
 
 -- The one open file: the path that is written, or the bytes that are left to read, or a file that is read at a place that is not known.
 pub data Opened : Type 0 where
@@ -37,19 +38,19 @@ pub record Reads (max : ℕ) (left piece rest : List ℕ) : Type 0 where
   pub end : 0 < max → piece ≡ [] → left ≡ []
 
 -- A call: what a stop since t could have left is what it could before the call, or a part of the call.
-pub record Passes {F : Type 0} (clock : F → ℕ) (stopped_since : F → ℕ → Files → Type 0) (files : F → Files) (part : Files → Files → Type 0) (old new : F) : Type 0 where
-  pub later : clock old ≤ clock new
-  pub nothing_else : (t : ℕ) (m : Files) → t ≤ clock old → stopped_since new t m → stopped_since old t m ⊎ part (files old) m
-  pub stays : (t : ℕ) (m : Files) → t ≤ clock old → stopped_since old t m → stopped_since new t m
-  pub leaves : part (files old) (files new)
+pub record Passes {F : Type 0} (meaning : Meaning F) (part : Files → Files → Type 0) (old new : F) : Type 0 where
+  pub later : meaning.clock old ≤ meaning.clock new
+  pub nothing_else : (t : ℕ) (m : Files) → t ≤ meaning.clock old → meaning.stopped_since new t m → meaning.stopped_since old t m ⊎ part (meaning.files old) m
+  pub stays : (t : ℕ) (m : Files) → t ≤ meaning.clock old → meaning.stopped_since old t m → meaning.stopped_since new t m
+  pub leaves : part (meaning.files old) (meaning.files new)
 
 -- Calls: what a stop at any moment since the first could leave has P, and so do the files now.
-pub record LeavesOnly {F : Type 0} (clock : F → ℕ) (stopped_since : F → ℕ → Files → Type 0) (files : F → Files) (P : Files → Type 0) (old new : F) : Type 0 where
-  pub later : clock old ≤ clock new
-  pub each : (m : Files) → stopped_since new (clock old) m → P m
-  pub now : P (files new)
+pub record LeavesOnly {F : Type 0} (meaning : Meaning F) (P : Files → Type 0) (old new : F) : Type 0 where
+  pub later : meaning.clock old ≤ meaning.clock new
+  pub each : (m : Files) → meaning.stopped_since new (meaning.clock old) m → P m
+  pub now : P (meaning.files new)
   -- for who began to look earlier
-  pub before : (t : ℕ) (m : Files) → t ≤ clock old → stopped_since new t m → stopped_since old t m ⊎ P m
+  pub before : (t : ℕ) (m : Files) → t ≤ meaning.clock old → meaning.stopped_since new t m → meaning.stopped_since old t m ⊎ P m
 
 -- the number of failures doesn't fall, and it rose where `Io` is told, and only there
 pub record HasCause {T : Type 0} (before now : ℕ) (result : Result T FolderFault) : Type 0 where

@@ -5,6 +5,7 @@ pub mod Places
 pub mod Listings
 pub mod Folder
 pub mod Meaning
+pub mod Sparing
 pub mod TextsFault
 pub mod Texts
 pub mod Blames

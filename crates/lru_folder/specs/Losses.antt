@@ -2,6 +2,7 @@
 use Rattle.std.specs.Prelude.{◌≡◌, ◌≢◌, ◌⊎◌, ◌≤◌, ℕ, List, is_some}
 use Rattle.std.specs.FinMap.{get}
 use Rattle.lru_folder.specs.Files.{Files, created, appended, renamed, removed}
+use Rattle.lru_folder.specs.Meaning.{Meaning}
 
 -- The spread of a map: the maps that differ from it at most in the bytes of loose paths, those that were written and not
 -- synced since.
@@ -67,31 +68,29 @@ abbrev pub looking : LossStep
 looking = record { maps = λ loss m. ⊥; loose = λ loss. loss.loose }
 
 -- what a folder may lose now
-abbrev pub loss_of : {F : Type 0} → (F → ℕ) → (F → Files) → (F → ℕ → Files → Type 0) → (F → List ℕ → Type 0) → F → Loss
-loss_of clock files lost_since loose folder = record { files = files folder; loose = loose folder; maps = lost_since folder (clock folder) }
+abbrev pub loss_of : {F : Type 0} → Meaning F → F → Loss
+loss_of meaning folder = record { files = meaning.files folder; loose = meaning.loose folder; maps = meaning.lost_since folder (meaning.clock folder) }
 
 -- A call: what a loss since t could have left is what it could before the call, or what the call adds.
-pub record Loses {F : Type 0} (clock : F → ℕ) (files : F → Files) (lost_since : F → ℕ → Files → Type 0) (loose : F → List ℕ → Type 0)
-    (step : LossStep) (old new : F) : Type 0 where
-  pub nothing_else : (t : ℕ) (m : Files) → t ≤ clock old → lost_since new t m → lost_since old t m ⊎ step.maps (loss_of clock files lost_since loose old) m
-  pub stays : (t : ℕ) (m : Files) → t ≤ clock old → lost_since old t m → lost_since new t m
-  pub now : (m : Files) → lost_since new (clock new) m → lost_since old (clock old) m ⊎ step.maps (loss_of clock files lost_since loose old) m
-  pub loosens : (q : List ℕ) → loose new q → step.loose (loss_of clock files lost_since loose old) q
+pub record Loses {F : Type 0} (meaning : Meaning F) (step : LossStep) (old new : F) : Type 0 where
+  pub nothing_else : (t : ℕ) (m : Files) → t ≤ meaning.clock old → meaning.lost_since new t m → meaning.lost_since old t m ⊎ step.maps (loss_of meaning old) m
+  pub stays : (t : ℕ) (m : Files) → t ≤ meaning.clock old → meaning.lost_since old t m → meaning.lost_since new t m
+  pub now : (m : Files) → meaning.lost_since new (meaning.clock new) m → meaning.lost_since old (meaning.clock old) m ⊎ step.maps (loss_of meaning old) m
+  pub loosens : (q : List ℕ) → meaning.loose new q → step.loose (loss_of meaning old) q
 
 -- After a sync of a path that is all: the spread of the map now, in which that path is not loose.
-pub record IsSynced {F : Type 0} (clock : F → ℕ) (files : F → Files) (lost_since : F → ℕ → Files → Type 0) (loose : F → List ℕ → Type 0)
-    (path : List ℕ) (old new : F) : Type 0 where
-  pub only : (m : Files) → lost_since new (clock new) m → IsSpread (firmed path (loose old)) (files old) m
-  pub firm : (q : List ℕ) → loose new q → firmed path (loose old) q
+pub record IsSynced {F : Type 0} (meaning : Meaning F) (path : List ℕ) (old new : F) : Type 0 where
+  pub only : (m : Files) → meaning.lost_since new (meaning.clock new) m → IsSpread (firmed path (meaning.loose old)) (meaning.files old) m
+  pub firm : (q : List ℕ) → meaning.loose new q → firmed path (meaning.loose old) q
 
 -- a map that a loss at the start could have left, of which this one is R
-abbrev pub IsFromStart : {F : Type 0} → (F → ℕ) → (F → ℕ → Files → Type 0) → (Files → Files → Type 0) → F → Files → Type 0
-IsFromStart clock lost_since R old m = (was : Files) × (lost_since old (clock old) was × R was m)
+abbrev pub IsFromStart : {F : Type 0} → Meaning F → (Files → Files → Type 0) → F → Files → Type 0
+IsFromStart meaning R old m = (was : Files) × (meaning.lost_since old (meaning.clock old) was × R was m)
 
 -- Calls: each map that a loss since the first of them could leave is R of one that a loss at the start could have left.
-pub record LosesOnly {F : Type 0} (clock : F → ℕ) (lost_since : F → ℕ → Files → Type 0) (R : Files → Files → Type 0) (old new : F) : Type 0 where
-  pub later : clock old ≤ clock new
-  pub each : (m : Files) → lost_since new (clock old) m → IsFromStart clock lost_since R old m
-  pub now : (m : Files) → lost_since new (clock new) m → IsFromStart clock lost_since R old m
+pub record LosesOnly {F : Type 0} (meaning : Meaning F) (R : Files → Files → Type 0) (old new : F) : Type 0 where
+  pub later : meaning.clock old ≤ meaning.clock new
+  pub each : (m : Files) → meaning.lost_since new (meaning.clock old) m → IsFromStart meaning R old m
+  pub now : (m : Files) → meaning.lost_since new (meaning.clock new) m → IsFromStart meaning R old m
   -- for who began to look earlier
-  pub before : (t : ℕ) (m : Files) → t ≤ clock old → lost_since new t m → lost_since old t m ⊎ IsFromStart clock lost_since R old m
+  pub before : (t : ℕ) (m : Files) → t ≤ meaning.clock old → meaning.lost_since new t m → meaning.lost_since old t m ⊎ IsFromStart meaning R old m

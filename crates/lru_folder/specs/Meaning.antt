@@ -1,6 +1,9 @@
 -- What a folder of some type means.
 use Rattle.std.specs.Prelude.{ℕ, List}
+use Rattle.std.specs.FinMap as map
+use Rattle.std.specs.FinSet as set
 use Rattle.lru_folder.specs.declared.folder_call.FolderCall.{FolderCall}
+use Rattle.lru_folder.specs.declared.folder_call.FolderCall.TheVariants.{Make}
 use Rattle.lru_folder.specs.Files.{Files}
 use Rattle.lru_folder.specs.Places.{Folders}
 
@@ -16,3 +19,17 @@ pub record Meaning (F : Type 0) : Type 1 where
   pub faults : F → ℕ
   pub last_call : F → FolderCall
   pub keeps : F → Type 0
+
+-- of a folder of which nothing is known: it never keeps its meaning
+abbrev pub without_meaning : {F : Type 0} → Meaning F
+without_meaning = record {
+  files = λ _. map.empty;
+  folders = λ _. set.empty;
+  clock = λ _. 0;
+  stopped_since = λ _ _ _. ⊥;
+  lost_since = λ _ _ _. ⊥;
+  loose = λ _ _. ⊥;
+  faults = λ _. 0;
+  last_call = λ _. Make;
+  keeps = λ _. ⊥;
+}

@@ -103,6 +103,37 @@ fn names_are_listed_in_byte_order(rt: HostRuntime) -> Result<(), Fail> {
     Ok(())
 }
 
+/// The calls of which the third finds nothing and the fifth fails: they count as the others do.
+static COUNTED: [(Asked<'static>, Result<(), FolderFault>); 5] = [
+    (Asked::Create("d/c"), Ok(())),
+    (Asked::Remove("d/a"), Ok(())),
+    (Asked::Remove("d/a"), NOT_FOUND),
+    (Asked::Make("e"), Ok(())),
+    (Asked::Create("d/f"), FAILED),
+];
+
+fn tells_paths_and_calls(alloc: Global) -> Result<bool, AllocError> {
+    let mut folder = MemoryFolder::new(alloc)
+        .with("d/b", b"1")?
+        .with("d/a", b"")?;
+    folder.fail_at(4, 0);
+    let before = folder.calls();
+    let answered = answer_so(&mut folder, &COUNTED);
+    let mut paths = String::new(alloc);
+    for path in &folder.paths()? {
+        write!(paths, "{path} ")?;
+    }
+    Ok(answered & (before == 0) & (folder.calls() == 5) & (paths.as_str() == "d/b d/c "))
+}
+
+#[test]
+fn a_folder_in_memory_tells_its_paths_and_how_many_calls_it_had(
+    rt: HostRuntime,
+) -> Result<(), Fail> {
+    assert!(rt; tells_paths_and_calls(rt.alloc())?);
+    Ok(())
+}
+
 /// Whether the five bytes of that file are read in pieces of at most two.
 fn is_read_in_pieces(folder: &mut MemoryFolder, path: &str) -> Result<bool, FolderFault> {
     let len = folder.open(path)?;

@@ -24,7 +24,8 @@ use std::{fs, io};
 ///
 /// From `create` until it has its name, or the next call that closes it, a file is locked: another such folder, in this
 /// process or not, neither creates nor removes it, and answers `Io`. `rename` syncs the folder of the new name, and answers
-/// `Io` where that fails, though the name is given. What is a link or a pipe is not opened. `create` of a path that is there
+/// `Io` where that fails, though the name is given. `make` syncs each folder that it makes into the one above it; one that
+/// is there it leaves as it is, also where a stop came between its making and its sync. What is a link or a pipe is not opened. `create` of a path that is there
 /// removes it first, so a stop between leaves no file there, where a folder's meaning leaves the old one or the empty one;
 /// saves create temp files alone.
 ///
@@ -98,6 +99,28 @@ fn folder_of(path: &str) -> &str {
 /// Syncs a folder, so that a loss of power keeps the names in it.
 fn sync_folder(rt: &impl Files, dir: &str) -> io::Result<()> {
     fs::open(rt, dir)?.sync_all()
+}
+
+/// Whether a folder of this path is there.
+fn is_folder(rt: &impl Files, dir: &str) -> bool {
+    match fs::metadata(rt, dir) {
+        Ok(found) => found.is_dir(),
+        Err(_) => false,
+    }
+}
+
+/// Makes a folder, if it is not there, and syncs the one above it then, so that a loss of power keeps the new name.
+fn make_one(rt: &impl Files, dir: &str) -> io::Result<()> {
+    match fs::create_dir(rt, dir) {
+        Ok(()) => sync_folder(rt, folder_of(dir)),
+        Err(error) => {
+            if error.kind() == ErrorKind::AlreadyExists && is_folder(rt, dir) {
+                Ok(())
+            } else {
+                Err(error)
+            }
+        }
+    }
 }
 
 /// Whether both tell of one file.
@@ -223,6 +246,19 @@ where
 }
 
 impl<R: Files + AllocGlobal + Clone + Drop> HostFolder<R> {
+    /// Makes a folder and its parents, from the first one on.
+    fn make_all(&self, dir: &str) -> io::Result<()> {
+        let mut path = String::new(self.rt.alloc());
+        for part in dir.split('/') {
+            path.push_str(part)?;
+            if !part.is_empty() {
+                make_one(&self.rt, &path)?;
+            }
+            path.push('/')?;
+        }
+        Ok(())
+    }
+
     /// The names in a folder as the system gives them, and how many are no UTF-8.
     fn names(&self, dir: &str) -> io::Result<(Vec<String>, usize)> {
         let mut names = Vec::new(self.rt.alloc());
@@ -249,29 +285,11 @@ impl<R: Files + Log + AllocGlobal + Clone + Drop> Folder for HostFolder<R>
 where
     R::File: Claim,
 {
-    ghost use Rattle.std.specs.FinMap as map;
-    ghost use Rattle.std.specs.FinSet as set;
-    ghost use Rattle.lru_folder.specs.declared.folder_call.FolderCall.TheVariants.{Make};
+    ghost use Rattle.lru_folder.specs.Meaning.{without_meaning};
 
-    ghost files = { λ _. map.empty };
-
-    ghost folders = { λ _. set.empty };
+    ghost meaning = { without_meaning };
 
     ghost opened = { λ h. h };
-
-    ghost clock = { λ _. 0 };
-
-    ghost stopped_since = { λ _ _ _. ⊥ };
-
-    ghost lost_since = { λ _ _ _. ⊥ };
-
-    ghost loose = { λ _ _. ⊥ };
-
-    ghost faults = { λ _. 0 };
-
-    ghost last_call = { λ _. Make };
-
-    ghost keeps = { λ _. ⊥ };
 
     ghost counts_now = { λ h t k le. absurd k };
 
@@ -281,7 +299,7 @@ where
 
     fn make(&mut self, dir: &str) -> Result<(), FolderFault> {
         shut(&mut self.file);
-        answer(&self.rt, "create", dir, fs::create_dir_all(&self.rt, dir))
+        answer(&self.rt, "create", dir, self.make_all(dir))
     }
 
     fn create(&mut self, path: &str) -> Result<(), FolderFault> {

@@ -1,6 +1,6 @@
 -- The temp files of a folder are there, each once.
 use Rattle.std.proofs.Common.{◌≡◌, ◌≢◌, ◌⊎◌, inl, inr, ℕ, Bool, true, false, cond, T, ◌&&◌, ◌||◌, ◌==◌, List, [], ◌∷◌, ◌++◌, length, drop, map, filter, Option, Some, None, refl, sym, ◌∙◌, ap, subst, arith, zero-add}
-use Rattle.std.specs.Prelude.{All, not, nat_eq, if◌then◌else◌, is_some, replicate, count_by, is_none, suc, zero, ◌+◌}
+use Rattle.std.specs.Prelude.{All, Contains, ◌<◌, ◌^◌, not, nat_eq, if◌then◌else◌, is_some, replicate, count_by, is_none, suc, zero, ◌+◌}
 use Rattle.std.specs.List.{filter_map, starts_with, list_any}
 use Rattle.std.specs.Ordering.{nat_cmp, eq_by_cmp, is_lt, is_eq}
 use Rattle.std.specs.declared.cmp.Ordering.TheVariants.{Equal}
@@ -11,16 +11,16 @@ use Rattle.std.specs.FinMap.Entries.{below_all}
 use Rattle.std.specs.Str.{is_utf8}
 use Rattle.std.proofs.lemmas.Bool.{true≢false}
 use Rattle.std.proofs.lemmas.Bool.Decides.{Decides-eqb}
-use Rattle.std.proofs.lemmas.List.Elements.{All-nil, All-cons, All-head, All-tail}
+use Rattle.std.proofs.lemmas.List.Elements.{All-nil, All-cons, All-head, All-tail, All-contains}
 use Rattle.std.proofs.lemmas.List.Sums.{sum_by-append}
 use Rattle.std.proofs.lemmas.Slice.Eq.{starts_is}
-use Rattle.lru_folder.specs.Names.{has_slash, is_temp_name, path_text}
+use Rattle.lru_folder.specs.Names.{has_slash, is_temp_name, path_text, shard_path, shard_text}
 use Rattle.lru_folder.specs.declared.listed.Listed.{Listed}
 use Rattle.lru_folder.specs.Listings.{name_of}
 use Rattle.lru_folder.specs.Files.{Files}
 use Rattle.lru_folder.specs.Places.{name_in, names_in, listing}
 use Rattle.lru_loading.specs.Cleanup.{AreThere, temp_paths, unreadable_count}
-use Rattle.lru_folder.proofs.NamesLemmas.{path_text-front}
+use Rattle.lru_folder.proofs.NamesLemmas.{path_text-front, path_text-injective, shard-is_temp_name}
 
 first_true : (a b c : Bool) → (a && b && c) ≡ true → a ≡ true
 first_true true b c e = refl
@@ -164,3 +164,26 @@ pub nameless_listed : (dir : List ℕ) (files : Files) (listed : List Listed) �
 nameless_listed dir files listed is =
     let names = names_in dir files in
     sym (unreadable_named listed) ∙ ap (count_by is_none) is ∙ unreadable (filter is_utf8 names) (count_by (λ name. not (is_utf8 name)) names)
+
+-- no shard's file is among them
+module _ (dir file_name : List ℕ) (s : ℕ) (small : s < 2 ^ 64) where
+  abbrev IsOther : List ℕ → Type 0
+  IsOther path = path ≢ shard_path dir file_name s
+
+  temp_name_other : (name : List ℕ) → is_temp_name file_name name ≡ true → IsOther (path_text dir name)
+  temp_name_other name temp same =
+      let is : name ≡ shard_text file_name s = path_text-injective dir name (shard_text file_name s) same in
+      true≢false (sym temp ∙ ap (is_temp_name file_name) is ∙ shard-is_temp_name file_name file_name s small)
+
+  temp_names_other : (names : List (List ℕ)) → All IsOther (map (path_text dir) (filter (is_temp_name file_name) names))
+  temp_names_other [] = All-nil IsOther
+  temp_names_other (name ∷ names) =
+      let rest = filter (is_temp_name file_name) names in
+      elim (is_temp_name file_name name) as (λ (b : Bool). is_temp_name file_name name ≡ b → All IsOther (map (path_text dir) (cond b (name ∷ rest) rest))) [
+        | true ↦ λ temp. All-cons IsOther (path_text dir name) (map (path_text dir) rest) (temp_name_other name temp) (temp_names_other names)
+        | false ↦ λ other. temp_names_other names
+      ] refl
+
+  pub shard-no_temp_path : (files : Files) → ¬ (Contains (temp_paths dir file_name files) (shard_path dir file_name s))
+  shard-no_temp_path files there =
+      All-contains IsOther (temp_paths dir file_name files) (shard_path dir file_name s) (temp_names_other (filter is_utf8 (names_in dir files))) there refl

@@ -1,5 +1,5 @@
 -- What a cleanup of temp files does.
-use Rattle.std.specs.Prelude.{◌≡◌, ◌≢◌, ◌⊎◌, ◌<◌, ℕ, Bool, List, [], ◌∷◌, ◌++◌, map, filter, count_by, replicate, All, Contains, IsTrue, not, Option, None, option_map, Result, is_ok, IfOk, MatchResult}
+use Rattle.std.specs.Prelude.{◌≡◌, ◌≢◌, ◌⊎◌, ◌<◌, ℕ, Bool, List, [], ◌∷◌, ◌++◌, map, filter, count_by, replicate, All, IsTrue, not, Option, None, option_map, Result, is_ok, IfOk, MatchResult}
 use Rattle.std.specs.List.{filter_map}
 use Rattle.std.specs.Result.{result_err}
 use Rattle.std.specs.Str.{is_utf8}
@@ -13,6 +13,7 @@ use Rattle.lru_folder.specs.Files.{Files}
 use Rattle.lru_folder.specs.Folder.{HasCause, InOrder}
 use Rattle.lru_folder.specs.Meaning.{Meaning}
 use Rattle.lru_folder.specs.Places.{can_list, names_in}
+use Rattle.lru_folder.specs.Sparing.{IsAsItWasBut, SparesAllBut}
 use Rattle.lru_folder.specs.Blames.{Blame, blame_of, ReadDir, ReadDirEntry, Remove}
 
 -- the paths of a folder's temp files, in byte order of their names
@@ -42,13 +43,16 @@ IsSettled rose new removal = MatchResult removal.answer (λ _. get new removal.p
 pub record RemovesEach (paths : List (List ℕ)) (rose : Type 0) (old new : Files) (removals : List Removal) : Type 0 where
   pub tried : map (λ (removal : Removal). removal.path) removals ≡ paths
   pub settled : All (IsSettled rose new) removals
-  pub others : (q : List ℕ) → (get new q ≡ get old q) ⊎ (Contains paths q × (get new q ≡ None))
+  pub others : IsAsItWasBut paths old new
 
 -- A removal, as the folder answered it.
 pub record RemovesOne {F : Type 0} (m : Meaning F) (number : ℕ) (removal : Removal) (old new : F) : Type 0 where
   pub done : IfOk removal.answer (λ _. get (m.files new) removal.path ≡ None)
   pub cause : HasCause (m.faults old) (m.faults new) removal.answer
   pub called : m.last_call new ≡ call.Remove
+  -- no other path changes at any moment
+  pub spares : SparesAllBut m (removal.path ∷ []) old new
+  pub kept : m.keeps new
 
 -- The temp files were tried one after another, in byte order of their names, and the report says how that went. Then it
 -- has a failure for each name that is no text.

@@ -7,3 +7,4 @@ pub use Rattle.lru_folder.specs.Folder
 pub use Rattle.lru_folder.specs.Names
 pub use Rattle.lru_folder.specs.Places
 pub use Rattle.lru_folder.specs.Meaning
+pub use Rattle.lru_folder.specs.Sparing

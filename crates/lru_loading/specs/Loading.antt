@@ -13,7 +13,8 @@ use Rattle.lru_folder.specs.declared.reports.ShardLoadReport.{ShardLoadReport}
 use Rattle.lru_folder.specs.Files.{Files}
 use Rattle.lru_folder.specs.Folder.{InOrder}
 use Rattle.lru_folder.specs.Meaning.{Meaning}
-use Rattle.lru_loading.specs.Cleanup.{IsCleanup}
+use Rattle.lru_folder.specs.Sparing.{SparesAllBut}
+use Rattle.lru_loading.specs.Cleanup.{IsCleanup, temp_paths}
 use Rattle.lru_folder.specs.Blames.{Blame, blame_of, failed_call, Open, Read}
 
 -- A shard's turn: its file is not there, or was not read, or its bytes were given to the closure, which answered.
@@ -116,6 +117,9 @@ pub record LoadsOne {F E : Type 0} (m : Meaning F) (dir file_name : List ℕ) (s
   pub later : m.faults old ≤ m.faults new
   pub files : m.files new ≡ m.files old
   pub places : m.folders new ≡ m.folders old
+  -- no path changes at any moment
+  pub spares : SparesAllBut m [] old new
+  pub kept : m.keeps new
 
 -- A load of some shards: each had its turn, from shard 0 up, and the report counts the turns and has the failures in their order.
 pub record IsLoad {C E : Type 0} (step : C → ℕ → Bor (List ℕ) → Result (Unit {0}) E → C → Type 0) (kept rose : Type 0) (files : Files) (dir file_name : List ℕ)
@@ -146,6 +150,8 @@ pub record LoadsAll {F C E : Type 0} (m : Meaning F) (step : C → ℕ → Bor (
   pub loaded : F
   pub in_order : m.keeps old → InOrder (LoadsOne m dir file_name) 0 load.turns old loaded
   pub cleaned : m.keeps old → MatchResult report.temp_cleanup (IsCleanup m dir file_name loaded new) (λ _. m.files new ≡ m.files loaded)
+  -- so at every moment all is as it was, but for temp files that are gone
+  pub spares : m.keeps old → SparesAllBut m (temp_paths dir file_name (m.files old)) old new
 
 -- A load of so many shards.
 pub record LoadsShards {F C E : Type 0} (m : Meaning F) (step : C → ℕ → Bor (List ℕ) → Result (Unit {0}) E → C → Type 0) (dir file_name : List ℕ) (shards : ℕ)

@@ -2,11 +2,12 @@
 ghost use Rattle.std.specs.Prelude.{◌≡◌, ◌↔◌, ◌+◌, ◌<◌, ◌≤◌, [], ◌∷◌, ◌++◌, List, IfOk, OnErr, count_by, filter, is_none, map, replicate, string_bytes, vec_capacity, vec_len};
 ghost use Rattle.std.specs.List.{filter_map};
 ghost use Rattle.lru_folder.specs.Blames.{blame_of, ReadDir, ReadDirEntry};
-ghost use Rattle.lru_loading.specs.Cleanup.{AreThere, IsCleanup, RemovesEach, RemovesOne, RemovesTemps, Removal, is_removed, removal_blame};
+ghost use Rattle.lru_loading.specs.Cleanup.{AreThere, IsCleanup, RemovesEach, RemovesOne, RemovesTemps, Removal, is_removed, removal_blame, temp_paths};
 ghost use Rattle.lru_folder.specs.Folder.{InOrder};
 ghost use Rattle.lru_folder.specs.Listings.{name_of};
 ghost use Rattle.lru_folder.specs.Names.{is_temp_name, path_text};
 ghost use Rattle.lru_folder.specs.Places.{listing};
+ghost use Rattle.lru_folder.specs.Sparing.{SparesAllBut};
 
 use lru_folder::errors::ShardFileError;
 use lru_folder::fault::FolderFault;
@@ -61,17 +62,18 @@ fn remove_each<F: Folder>(
     failures: &mut Vec<ShardFileError>,
 ) -> usize
     requires room { vec_len failures.old + vec_len paths ≤ vec_capacity failures.old }
-    requires there { F.keeps folder.old → AreThere (F.files folder.old) (map string_bytes paths.items) }
+    requires there { F.meaning.keeps folder.old → AreThere (F.meaning.files folder.old) (map string_bytes paths.items) }
     ensures removals { (removals : List Removal)
-        × (F.keeps folder.old → RemovesEach (map string_bytes paths.items) (F.faults folder.old < F.faults folder.new) (F.files folder.old) (F.files folder.new) removals)
-        × (F.keeps folder.old → InOrder (RemovesOne (record { files = F.files; folders = F.folders; clock = F.clock; stopped_since = F.stopped_since; lost_since = F.lost_since; loose = F.loose; faults = F.faults; last_call = F.last_call; keeps = F.keeps })) 0 removals folder.old folder.new)
+        × (F.meaning.keeps folder.old → RemovesEach (map string_bytes paths.items) (F.meaning.faults folder.old < F.meaning.faults folder.new) (F.meaning.files folder.old) (F.meaning.files folder.new) removals)
+        × (F.meaning.keeps folder.old → InOrder (RemovesOne F.meaning) 0 removals folder.old folder.new)
         × (result ≡ count_by is_removed removals)
         × (map blame_of failures.new.items ≡ map blame_of failures.old.items ++ filter_map removal_blame removals) }
+    ensures spares { F.meaning.keeps folder.old → SparesAllBut F.meaning (map string_bytes paths.items) folder.old folder.new }
     ensures room { vec_len failures.new ≤ vec_len failures.old + vec_len paths }
     ensures capacity { vec_capacity failures.old ≤ vec_capacity failures.new }
-    ensures later { F.keeps folder.old → F.faults folder.old ≤ F.faults folder.new }
-    ensures places { F.keeps folder.old → F.folders folder.new ≡ F.folders folder.old }
-    ensures kept { F.keeps folder.old ↔ F.keeps folder.new }
+    ensures later { F.meaning.keeps folder.old → F.meaning.faults folder.old ≤ F.meaning.faults folder.new }
+    ensures places { F.meaning.keeps folder.old → F.meaning.folders folder.new ≡ F.meaning.folders folder.old }
+    ensures kept { F.meaning.keeps folder.old ↔ F.meaning.keeps folder.new }
 {
     let mut removed_files = 0;
     for path in paths {
@@ -94,13 +96,14 @@ fn remove_listed<F: Folder>(
     file_name: &str,
     listed: &[Listed],
 ) -> Result<TempFileCleanupReport, AllocError>
-    requires { F.keeps folder.old → map name_of listed.now ≡ listing dir_path.now (F.files folder.old) }
-    ensures ok { F.keeps folder.old → IfOk result (RemovesTemps (record { files = F.files; folders = F.folders; clock = F.clock; stopped_since = F.stopped_since; lost_since = F.lost_since; loose = F.loose; faults = F.faults; last_call = F.last_call; keeps = F.keeps })
+    requires { F.meaning.keeps folder.old → map name_of listed.now ≡ listing dir_path.now (F.meaning.files folder.old) }
+    ensures ok { F.meaning.keeps folder.old → IfOk result (RemovesTemps F.meaning
         dir_path.now file_name.now folder.old folder.new) }
     ensures err { OnErr result (folder.new ≡ folder.old) }
-    ensures later { F.keeps folder.old → F.faults folder.old ≤ F.faults folder.new }
-    ensures places { F.keeps folder.old → F.folders folder.new ≡ F.folders folder.old }
-    ensures kept { F.keeps folder.old ↔ F.keeps folder.new }
+    ensures spares { F.meaning.keeps folder.old → SparesAllBut F.meaning (temp_paths dir_path.now file_name.now (F.meaning.files folder.old)) folder.old folder.new }
+    ensures later { F.meaning.keeps folder.old → F.meaning.faults folder.old ≤ F.meaning.faults folder.new }
+    ensures places { F.meaning.keeps folder.old → F.meaning.folders folder.new ≡ F.meaning.folders folder.old }
+    ensures kept { F.meaning.keeps folder.old ↔ F.meaning.keeps folder.new }
 {
     let TempFiles {
         paths,
@@ -139,12 +142,13 @@ pub(crate) fn remove_temp_files<F: Folder>(
     dir_path: &str,
     file_name: &str,
 ) -> Result<TempFileCleanupReport, AllocError>
-    ensures ok { F.keeps folder.old → IfOk result (IsCleanup (record { files = F.files; folders = F.folders; clock = F.clock; stopped_since = F.stopped_since; lost_since = F.lost_since; loose = F.loose; faults = F.faults; last_call = F.last_call; keeps = F.keeps })
+    ensures ok { F.meaning.keeps folder.old → IfOk result (IsCleanup F.meaning
         dir_path.now file_name.now folder.old folder.new) }
-    ensures err { F.keeps folder.old → OnErr result (F.files folder.new ≡ F.files folder.old) }
-    ensures later { F.keeps folder.old → F.faults folder.old ≤ F.faults folder.new }
-    ensures places { F.keeps folder.old → F.folders folder.new ≡ F.folders folder.old }
-    ensures kept { F.keeps folder.old ↔ F.keeps folder.new }
+    ensures err { F.meaning.keeps folder.old → OnErr result (F.meaning.files folder.new ≡ F.meaning.files folder.old) }
+    ensures spares { F.meaning.keeps folder.old → SparesAllBut F.meaning (temp_paths dir_path.now file_name.now (F.meaning.files folder.old)) folder.old folder.new }
+    ensures later { F.meaning.keeps folder.old → F.meaning.faults folder.old ≤ F.meaning.faults folder.new }
+    ensures places { F.meaning.keeps folder.old → F.meaning.folders folder.new ≡ F.meaning.folders folder.old }
+    ensures kept { F.meaning.keeps folder.old ↔ F.meaning.keeps folder.new }
 {
     match folder.list(dir_path) {
         Ok(listed) => remove_listed(alloc, folder, dir_path, file_name, &listed),

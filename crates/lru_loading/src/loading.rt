@@ -1,11 +1,12 @@
 // Shards loaded from their files.
-ghost use Rattle.std.specs.Prelude.{◌≡◌, ◌≢◌, ◌↔◌, ◌<◌, ◌≤◌, ℕ, List, false, length, IfOk, IfErr, IsErrAnd, Option, option_map, string_bytes, vec_len};
+ghost use Rattle.std.specs.Prelude.{◌≡◌, ◌≢◌, ◌↔◌, ◌<◌, ◌≤◌, ℕ, List, [], false, length, IfOk, IfErr, IsErrAnd, Option, option_map, string_bytes, vec_len};
 ghost use Rattle.lru_folder.specs.Blames.{failed_call};
 ghost use Rattle.std.specs.FinMap.{get};
 ghost use Rattle.lru_folder.specs.Folder.{IsReading, Reading};
 ghost use Rattle.lru_loading.specs.LoadingInside.{outcome_of, IfFolder, IsReadDeviceFault, IsReadFault};
 ghost use Rattle.lru_loading.specs.Loading.{IfIo, IsDeviceFault, IsTrueTurn, IsUnread, LoadsOne, LoadsShards, LoadTurn, TurnCalls};
 ghost use Rattle.lru_folder.specs.Names.{has_slash, shard_path};
+ghost use Rattle.lru_folder.specs.Sparing.{SparesAllBut};
 
 use crate::cleanup::remove_temp_files;
 use log::{Log, info, warn};
@@ -51,14 +52,15 @@ impl From<FolderFault> for ReadError {
 /// The bytes of the file that was just opened, of which there are so many, read in pieces.
 fn read_opened<F: Folder>(alloc: Global, folder: &mut F, len: u64) -> Result<Vec<u8>, ReadError>
     requires { IsReading (F.opened folder.old) }
-    ensures whole { F.keeps folder.old → (left : List ℕ) → F.opened folder.old ≡ Reading left → len ≡ length left → IfOk result (λ bytes. bytes.items ≡ left) }
-    ensures cause { F.keeps folder.old → IfErr result (IsReadFault (F.faults folder.old < F.faults folder.new)) }
-    ensures named { F.keeps folder.old → IfErr result (λ e. IfFolder e (F.last_call folder.new ≡ FolderCall.Read)) }
-    ensures told { F.keeps folder.old → F.faults folder.old < F.faults folder.new → IsErrAnd result IsReadDeviceFault }
-    ensures files { F.keeps folder.old → F.files folder.new ≡ F.files folder.old }
-    ensures later { F.keeps folder.old → F.faults folder.old ≤ F.faults folder.new }
-    ensures places { F.keeps folder.old → F.folders folder.new ≡ F.folders folder.old }
-    ensures kept { F.keeps folder.old ↔ F.keeps folder.new }
+    ensures whole { F.meaning.keeps folder.old → (left : List ℕ) → F.opened folder.old ≡ Reading left → len ≡ length left → IfOk result (λ bytes. bytes.items ≡ left) }
+    ensures cause { F.meaning.keeps folder.old → IfErr result (IsReadFault (F.meaning.faults folder.old < F.meaning.faults folder.new)) }
+    ensures named { F.meaning.keeps folder.old → IfErr result (λ e. IfFolder e (F.meaning.last_call folder.new ≡ FolderCall.Read)) }
+    ensures told { F.meaning.keeps folder.old → F.meaning.faults folder.old < F.meaning.faults folder.new → IsErrAnd result IsReadDeviceFault }
+    ensures files { F.meaning.keeps folder.old → F.meaning.files folder.new ≡ F.meaning.files folder.old }
+    ensures spares { F.meaning.keeps folder.old → SparesAllBut F.meaning [] folder.old folder.new }
+    ensures later { F.meaning.keeps folder.old → F.meaning.faults folder.old ≤ F.meaning.faults folder.new }
+    ensures places { F.meaning.keeps folder.old → F.meaning.folders folder.new ≡ F.meaning.folders folder.old }
+    ensures kept { F.meaning.keeps folder.old ↔ F.meaning.keeps folder.new }
 {
     let len = len as usize;
     let mut bytes = Vec::with_capacity(alloc, len)?;
@@ -80,14 +82,15 @@ fn read_shard<F: Folder, E>(
     file_name: &str,
     shard: usize,
 ) -> Result<Option<Vec<u8>>, ShardLoadFailure<E>>
-    ensures found { F.keeps folder.old → IfOk result (λ bytes. option_map (λ b. b.items) bytes ≡ get (F.files folder.old) (shard_path dir_path.now file_name.now shard)) }
-    ensures unread { IfErr result (IsUnread (F.keeps folder.old) (F.faults folder.old < F.faults folder.new) (shard_path dir_path.now file_name.now shard) shard) }
-    ensures named { F.keeps folder.old → IfErr result (λ f. IfIo f (λ e. F.last_call folder.new ≡ failed_call e)) }
-    ensures told { F.keeps folder.old → F.faults folder.old < F.faults folder.new → IsErrAnd result IsDeviceFault }
-    ensures files { F.keeps folder.old → F.files folder.new ≡ F.files folder.old }
-    ensures later { F.keeps folder.old → F.faults folder.old ≤ F.faults folder.new }
-    ensures places { F.keeps folder.old → F.folders folder.new ≡ F.folders folder.old }
-    ensures kept { F.keeps folder.old ↔ F.keeps folder.new }
+    ensures found { F.meaning.keeps folder.old → IfOk result (λ bytes. option_map (λ b. b.items) bytes ≡ get (F.meaning.files folder.old) (shard_path dir_path.now file_name.now shard)) }
+    ensures unread { IfErr result (IsUnread (F.meaning.keeps folder.old) (F.meaning.faults folder.old < F.meaning.faults folder.new) (shard_path dir_path.now file_name.now shard) shard) }
+    ensures named { F.meaning.keeps folder.old → IfErr result (λ f. IfIo f (λ e. F.meaning.last_call folder.new ≡ failed_call e)) }
+    ensures told { F.meaning.keeps folder.old → F.meaning.faults folder.old < F.meaning.faults folder.new → IsErrAnd result IsDeviceFault }
+    ensures files { F.meaning.keeps folder.old → F.meaning.files folder.new ≡ F.meaning.files folder.old }
+    ensures spares { F.meaning.keeps folder.old → SparesAllBut F.meaning [] folder.old folder.new }
+    ensures later { F.meaning.keeps folder.old → F.meaning.faults folder.old ≤ F.meaning.faults folder.new }
+    ensures places { F.meaning.keeps folder.old → F.meaning.folders folder.new ≡ F.meaning.folders folder.old }
+    ensures kept { F.meaning.keeps folder.old ↔ F.meaning.keeps folder.new }
 {
     let Ok(path) = shard_path(alloc, dir_path, file_name, shard) else {
         return Err(ShardLoadFailure::Memory { shard });
@@ -130,13 +133,13 @@ fn load_from_file<F: Folder, E, C: FnMut(usize, &[u8]) -> Result<(), E>>(
     ensures callable { C.IsAlwaysCallable deserialize.new }
     ensures turn { (turn : LoadTurn E) × (result ≡ outcome_of shard turn)
         × TurnCalls C.step shard deserialize.old turn deserialize.new
-        × IsTrueTurn (F.keeps folder.old) (F.faults folder.old < F.faults folder.new) (F.files folder.old) (shard_path dir_path.now file_name.now shard) shard turn
-        × (F.keeps folder.old → LoadsOne (record { files = F.files; folders = F.folders; clock = F.clock; stopped_since = F.stopped_since; lost_since = F.lost_since; loose = F.loose; faults = F.faults; last_call = F.last_call; keeps = F.keeps })
+        × IsTrueTurn (F.meaning.keeps folder.old) (F.meaning.faults folder.old < F.meaning.faults folder.new) (F.meaning.files folder.old) (shard_path dir_path.now file_name.now shard) shard turn
+        × (F.meaning.keeps folder.old → LoadsOne F.meaning
         dir_path.now file_name.now shard turn folder.old folder.new) }
-    ensures files { F.keeps folder.old → F.files folder.new ≡ F.files folder.old }
-    ensures later { F.keeps folder.old → F.faults folder.old ≤ F.faults folder.new }
-    ensures places { F.keeps folder.old → F.folders folder.new ≡ F.folders folder.old }
-    ensures kept { F.keeps folder.old ↔ F.keeps folder.new }
+    ensures files { F.meaning.keeps folder.old → F.meaning.files folder.new ≡ F.meaning.files folder.old }
+    ensures later { F.meaning.keeps folder.old → F.meaning.faults folder.old ≤ F.meaning.faults folder.new }
+    ensures places { F.meaning.keeps folder.old → F.meaning.folders folder.new ≡ F.meaning.folders folder.old }
+    ensures kept { F.meaning.keeps folder.old ↔ F.meaning.keeps folder.new }
 {
     let Some(bytes) = read_shard(alloc, folder, dir_path, file_name, shard)? else {
         return Ok(ShardLoad::Missing);
@@ -196,7 +199,7 @@ pub fn load_shards<F: Folder, L: Log, E: Display, C: FnMut(usize, &[u8]) -> Resu
     requires name { has_slash file_name.now ≡ false }
     requires callable { C.IsAlwaysCallable deserialize.old }
 
-    ensures loads { LoadsShards (record { files = F.files; folders = F.folders; clock = F.clock; stopped_since = F.stopped_since; lost_since = F.lost_since; loose = F.loose; faults = F.faults; last_call = F.last_call; keeps = F.keeps })
+    ensures loads { LoadsShards F.meaning
         C.step dir_path.now file_name.now shards deserialize.old folder.old result deserialize.new folder.new }
 
     ensures callable { C.IsAlwaysCallable deserialize.new }

@@ -1,6 +1,8 @@
 -- The files of a map, after a change of the map.
-use Rattle.std.proofs.Common.{◌≡◌, inl, inr, ℕ, true, false, cond, List, [], ◌∷◌, Option, Some, None, String, Vec, string_bytes, vec_len, refl, sym, ◌∙◌, ap}
+use Rattle.std.proofs.Common.{◌≡◌, inl, inr, ℕ, true, false, cond, List, [], ◌∷◌, Option, Some, None, Result, Ok, Err, is_ok, unwrap_or, ◌++◌, String, Vec, string_bytes, vec_len, refl, sym, ◌∙◌, ap}
+use Rattle.std.specs.Prelude.{OnOk, OnErr}
 use Rattle.std.specs.List.{AllZip}
+use Rattle.lru_folder.specs.Files.{Files, appended, moved, renamed}
 use Rattle.std.specs.Option.{option_map}
 use Rattle.std.specs.declared.alloc.Global.{Global}
 use Rattle.std.specs.Ordering.{nat_cmp, is_eq}
@@ -11,7 +13,7 @@ use Rattle.std.specs.Str.{bytes_eq}
 use Rattle.std.proofs.lemmas.Slice.Eq.{bytes_eq-Decides}
 use Rattle.std.proofs.lemmas.Bool.{false_from_ne_true}
 use Rattle.std.specs.FinMap.{find, get, insert, remove, get-from_entries}
-use Rattle.lru_folder.proofs.FilesLemmas.{decide, alike, get-insert_same, get-insert_other, get-remove_same, get-remove_other}
+use Rattle.lru_folder.proofs.FilesLemmas.{decide, alike, get-insert_same, get-insert_other, get-remove_same, get-remove_other, insert-remove}
 use Rattle.lru_memory_folder.specs.HeldInside.{entries_of, files_in}
 use Rattle.lru_memory_folder.specs.MadeInside.{texts_of}
 
@@ -29,6 +31,27 @@ find_entries (e ∷ es) q =
 -- a look-up in the map is one in its files
 pub get-files_in : (m : BTreeMap (String Global) (Vec ℕ Global)) (q : List ℕ) → get (files_in m.entries) q ≡ option_map items_of (get_by_text m q)
 get-files_in m q = get-from_entries nat_list_cmp_total (entries_of m.entries) q ∙ find_entries m.entries q
+
+-- bytes that a path has already
+pub insert-own : (m : Files) (path bytes : List ℕ) → get m path ≡ Some bytes → insert m path bytes ≡ m
+insert-own m path bytes here = alike _ _ (λ q. elim (decide q path) [
+  | inl e ↦ ap (get (insert m path bytes)) e ∙ get-insert_same m path bytes ∙ sym here ∙ sym (ap (get m) e)
+  | inr ne ↦ get-insert_other m path bytes q ne
+])
+
+-- a path that is given its bytes after it was put there
+pub insert-again : (m : Files) (path one two : List ℕ) → insert (insert m path one) path two ≡ insert m path two
+insert-again m path one two = alike _ _ (λ q. elim (decide q path) [
+  | inl e ↦ ap (get (insert (insert m path one) path two)) e ∙ get-insert_same (insert m path one) path two ∙ sym (ap (get (insert m path two)) e ∙ get-insert_same m path two)
+  | inr ne ↦ get-insert_other (insert m path one) path two q ne ∙ get-insert_other m path one q ne ∙ sym (get-insert_other m path two q ne)
+])
+
+-- a path that gives its name to itself
+pub renamed-own : (m : Files) (path : List ℕ) → renamed path path m ≡ m
+renamed-own m path = elim (get m path) as (λ o. get m path ≡ o → moved path o path m ≡ m) [
+  | None ↦ λ none. refl
+  | Some bytes ↦ λ here. insert-remove m path bytes ∙ insert-own m path bytes here
+] refl
 
 -- after a change at one path
 module _ (m n : BTreeMap (String Global) (Vec ℕ Global)) (path : List ℕ) (w : Option (Vec ℕ Global))
@@ -56,6 +79,24 @@ files_in-remove m n path changed = alike _ _ (λ q. elim (decide q path) [
   | inl e ↦ ap (get (files_in n.entries)) e ∙ at_path m n path None changed ∙ sym (ap (get (remove (files_in m.entries) path)) e ∙ get-remove_same (files_in m.entries) path)
   | inr ne ↦ elsewhere m n path None changed q ne ∙ sym (get-remove_other (files_in m.entries) path q ne)
 ])
+
+-- at a path that is there, bytes that are put in the place of its own
+module _ (m n : BTreeMap (String Global) (Vec ℕ Global)) (path : List ℕ) (old new : Vec ℕ Global) (here : Some old ≡ get_by_text m path)
+    (changed : (q : List ℕ) → get_by_text n q ≡ update bytes_eq (get_by_text m) path (Some new) q) where
+  held_here : get (files_in m.entries) path ≡ Some old.items
+  held_here = get-files_in m path ∙ ap (option_map items_of) (sym here)
+
+  pub extended : {T E : Type 0} (piece : List ℕ) (r : Result T E) → new.items ≡ cond (is_ok r) (old.items ++ piece) old.items
+      → OnOk r (files_in n.entries ≡ appended path piece (files_in m.entries))
+  extended piece (Err e) items = tt
+  extended piece (Ok x) items =
+      files_in-insert m n path new changed ∙ ap (λ b. insert (files_in m.entries) path b) (items ∙ ap (λ b. b ++ piece) (sym (ap (λ o. unwrap_or o []) held_here)))
+
+  pub not_extended : {T E : Type 0} (piece : List ℕ) (r : Result T E) → new.items ≡ cond (is_ok r) (old.items ++ piece) old.items
+      → OnErr r (files_in n.entries ≡ files_in m.entries)
+  not_extended piece (Ok x) items = tt
+  not_extended piece (Err e) items =
+      files_in-insert m n path new changed ∙ ap (λ b. insert (files_in m.entries) path b) items ∙ insert-own (files_in m.entries) path old.items held_here
 
 same_items : (xs ys : List ℕ) → AllZip (λ x y. y ≡ x) xs ys → ys ≡ xs
 same_items [] [] h = refl

@@ -7,3 +7,4 @@ pub mod JournalLemmas
 pub mod MemoryLemmas
 pub mod MemoryLosses
 pub mod ReplayLemmas
+pub mod KeptLemmas

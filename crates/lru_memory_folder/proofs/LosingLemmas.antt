@@ -1,12 +1,13 @@
 -- What one call more does to what a loss of power may leave.
-use Rattle.std.proofs.Common.{◌≡◌, ◌⊎◌, inl, inr, ⊎_elim, ◌≤◌, ℕ, zero, suc, List, [], ◌∷◌, ◌++◌, length, subst, arith}
+use Rattle.std.proofs.Common.{◌≡◌, ◌⊎◌, inl, inr, ⊎_elim, ◌≤◌, ℕ, zero, suc, List, [], ◌∷◌, ◌++◌, length, Option, Some, None, subst, arith}
+use Rattle.std.specs.FinMap.{get}
 use Rattle.lru_folder.specs.Files.{Files, created, appended, renamed, removed}
 use Rattle.lru_folder.specs.Losses.{IsSpread, Loss, loosened, firmed, handed_on}
 use Rattle.lru_folder.proofs.LossLemmas.{spread-more}
 use Rattle.lru_memory_folder.specs.declared.calls.End.{End}
 use Rattle.lru_memory_folder.specs.declared.calls.End.TheVariants.{Done, NotFound, Failed}
 use Rattle.lru_memory_folder.specs.Calls.{Deed, Creates, Writes, Renames, Removes, Syncs, Looks, Noted}
-use Rattle.lru_memory_folder.specs.Losing.{step_of, loose_after, maps_after, loss_after, loss_left, LostSince}
+use Rattle.lru_memory_folder.specs.Losing.{step_of, loose_moved, loose_after, maps_after, loss_after, loss_left, LostSince}
 use Rattle.lru_memory_folder.specs.LosingLaws.{CountsOwn, own_after}
 
 -- what a loss now could leave is what is left
@@ -37,15 +38,19 @@ split deed Done loss own m h = split_done deed loss own m h
 split deed NotFound loss own m h = h
 split deed (Failed part) loss own m h = h
 
-loosens_done : (deed : Deed) (loss : Loss) (q : List ℕ) → loose_after deed Done loss.loose q → (step_of deed).loose loss q
+moved_loosens : (from to : List ℕ) (there : Option (List ℕ)) (loose : List ℕ → Type 0) (q : List ℕ) → loose_moved there from to loose q → loose q ⊎ handed_on from to loose q
+moved_loosens from to None loose q h = inl h
+moved_loosens from to (Some bytes) loose q h = inr h
+
+loosens_done : (deed : Deed) (loss : Loss) (q : List ℕ) → loose_after deed Done loss.files loss.loose q → (step_of deed).loose loss q
 loosens_done (Creates path) loss q h = h
 loosens_done (Writes path piece) loss q h = h
-loosens_done (Renames from to) loss q h = inr h
+loosens_done (Renames from to) loss q h = moved_loosens from to (get loss.files from) loss.loose q h
 loosens_done (Removes path) loss q h = h.1
 loosens_done (Syncs path) loss q h = h.1
 loosens_done Looks loss q h = h
 
-loosens_failed : (deed : Deed) (loss : Loss) (q : List ℕ) → loose_after deed NotFound loss.loose q → (step_of deed).loose loss q
+loosens_failed : (deed : Deed) (loss : Loss) (q : List ℕ) → loose_after deed NotFound loss.files loss.loose q → (step_of deed).loose loss q
 loosens_failed (Creates path) loss q h = h
 loosens_failed (Writes path piece) loss q h = h
 loosens_failed (Renames from to) loss q h = inl h
@@ -53,7 +58,7 @@ loosens_failed (Removes path) loss q h = h
 loosens_failed (Syncs path) loss q h = h
 loosens_failed Looks loss q h = h
 
-pub loosens : (deed : Deed) (end : End) (loss : Loss) (q : List ℕ) → loose_after deed end loss.loose q → (step_of deed).loose loss q
+pub loosens : (deed : Deed) (end : End) (loss : Loss) (q : List ℕ) → loose_after deed end loss.files loss.loose q → (step_of deed).loose loss q
 loosens deed Done loss q h = loosens_done deed loss q h
 loosens deed NotFound loss q h = loosens_failed deed loss q h
 loosens deed (Failed part) loss q h = loosens_failed deed loss q h

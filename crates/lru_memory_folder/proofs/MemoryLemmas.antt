@@ -16,7 +16,7 @@ use Rattle.lru_memory_folder.specs.History.{History, files_left, with_call, end_
 use Rattle.lru_memory_folder.specs.OpenInside.{opened_in}
 use Rattle.lru_memory_folder.specs.Plans.{fate, MovesOn, IsMadeToFail, GoesAsPlanned}
 use Rattle.lru_memory_folder.proofs.CallsLemmas.{after-push, no_part, PartOf-ended, StoppedSince-push, StoppedSince-stays}
-use Rattle.lru_memory_folder.specs.Memory.{Memory, files_of, clock_of, stopped_since_of}
+use Rattle.lru_memory_folder.specs.Memory.{Memory, files_of, stopped_since_of, memory_meaning}
 
 -- the files after a call
 pub files_after : (h : History) (deed : Deed) (end : End) → files_left (with_call h deed end) ≡ effect (record { deed = deed; end = end }) (files_left h)
@@ -28,7 +28,7 @@ history m = record { begun = m.begun; calls = m.calls }
 
 -- time has gone on by that call
 noted_passes : (old new : Memory) (deed : Deed) (end : End) → history new ≡ with_call (history old) deed end
-    → Passes clock_of stopped_since_of files_of (PartOf deed) old new
+    → Passes memory_meaning (PartOf deed) old new
 noted_passes old new deed end is =
     let start = from_entries old.begun in
     let n : Noted = record { deed = deed; end = end } in
@@ -41,7 +41,7 @@ noted_passes old new deed end is =
       leaves = subst (PartOf deed (files_of old)) (sym (ap files_left is ∙ files_after (history old) deed end)) (PartOf-ended deed end (files_of old));
     }
 
-still_passes : (old new : Memory) (deed : Deed) → history new ≡ history old → Passes clock_of stopped_since_of files_of (PartOf deed) old new
+still_passes : (old new : Memory) (deed : Deed) → history new ≡ history old → Passes memory_meaning (PartOf deed) old new
 still_passes old new deed is =
     let stops : (t : ℕ) (m : Files) → stopped_since_of new t m ≡ stopped_since_of old t m = λ t m i. StoppedSince ((is i).calls) t (from_entries ((is i).begun)) m in
     record {
@@ -52,15 +52,15 @@ still_passes old new deed is =
     }
 
 goes_passes : {T : Type 0} (deed : Deed) (end : End) (old new : Memory) (result : Result T FolderFault) → Goes deed end (history old) (history new) result
-    → Passes clock_of stopped_since_of files_of (PartOf deed) old new
+    → Passes memory_meaning (PartOf deed) old new
 goes_passes deed end old new result (inl noted) = noted_passes old new deed end noted.0
 goes_passes deed end old new result (inr refused) = still_passes old new deed refused.0
 
 -- a call passes, however it goes
 pub passes : {T : Type 0} (deed : Memory → Deed) (end : End) (was old new : Memory) (result : Result T FolderFault) → was ≡ old
-    → Goes (deed was) end (history was) (history new) result → Passes clock_of stopped_since_of files_of (PartOf (deed old)) old new
+    → Goes (deed was) end (history was) (history new) result → Passes memory_meaning (PartOf (deed old)) old new
 passes deed end was old new result is goes =
-    subst (λ (m : Memory). Passes clock_of stopped_since_of files_of (PartOf (deed m)) m new) is (goes_passes (deed was) end was new result goes)
+    subst (λ (m : Memory). Passes memory_meaning (PartOf (deed m)) m new) is (goes_passes (deed was) end was new result goes)
 
 -- an answer tells how the call ended
 not_io : {T : Type 0} (found : Bool) (result : Result T FolderFault) → Tells (end_of None found) result → result ≡ Err fault.Io → ⊥

@@ -1,19 +1,16 @@
 -- One call more, made again.
-use Rattle.std.proofs.Common.{arith, length, ◌≡◌, ◌≢◌, ◌⊎◌, inl, inr, ⊎_elim, ℕ, false, List, [], ◌∷◌, ◌++◌, take, Option, Some, None, is_some, refl, sym, ◌∙◌, ap, subst}
-use Rattle.std.specs.Prelude.{IfSome, option_map}
-use Rattle.std.specs.FinMap.{from_entries, get, insert, remove}
+use Rattle.std.proofs.Common.{◌≡◌, ◌≢◌, inl, inr, ℕ, true, false, List, [], ◌∷◌, ◌++◌, take, Option, Some, None, is_some, refl, sym, ◌∙◌, ap, subst}
+use Rattle.std.specs.Prelude.{option_map}
+use Rattle.std.specs.FinMap.{get, insert, remove}
 use Rattle.lru_folder.specs.Files.{Files, bytes_at, created, appended, moved, renamed, removed}
-use Rattle.lru_folder.specs.Losses.{IsSpread, Loss, at_opening, loosened, firmed, handed_on}
+use Rattle.lru_folder.specs.Losses.{IsSpread, Loss, loosened, firmed, handed_on}
 use Rattle.lru_folder.proofs.FilesLemmas.{decide, get-insert_same, get-insert_other, get-remove_same, get-remove_other}
 use Rattle.lru_memory_folder.specs.declared.calls.End.{End}
 use Rattle.lru_memory_folder.specs.declared.calls.End.TheVariants.{Done, NotFound, Failed}
 use Rattle.lru_memory_folder.specs.Calls.{Deed, Creates, Writes, Renames, Removes, Syncs, Looks, Noted, ended}
-use Rattle.lru_memory_folder.specs.Losing.{loose_after, maps_after, loss_after, loss_left}
-use Rattle.lru_memory_folder.specs.LosingLaws.{own_left, opened_own, LostSince-now}
-use Rattle.lru_memory_folder.specs.Memory.{Memory, clock_of, lost_since_of, loss_now}
-use Rattle.lru_memory_folder.specs.History.{History, with_call}
-use Rattle.lru_memory_folder.specs.MarksInside.{put_some, marked, given_by, lost_after}
-use Rattle.lru_memory_folder.specs.ReplayInside.{IsSync, loss_in}
+use Rattle.lru_memory_folder.specs.Kept.{IsMarked}
+use Rattle.lru_memory_folder.specs.Losing.{loose_moved, loose_after, loss_after, loss_left}
+use Rattle.lru_memory_folder.specs.MarksInside.{put_some, marked, lost_after}
 
 -- a map with other bytes at a path, where both have some or neither has
 module _ (loose before : List ℕ → Type 0) (path : List ℕ) (was held lost : Files) (h : IsSpread before was lost)
@@ -109,23 +106,13 @@ give_spread loose from to bytes other was lost h here there = record {
 }
 
 rename_spread : (loose : List ℕ → Type 0) (from to : List ℕ) (was lost : Files) → IsSpread loose was lost
-    → IsSpread (handed_on from to loose) (renamed from to was) (given_by (get lost from) from to (renamed from to was) lost)
+    → IsSpread (loose_moved (get was from) from to loose) (renamed from to was) (renamed from to lost)
 rename_spread loose from to was lost h =
-    elim (get was from) as (λ o. get was from ≡ o → IsSpread (handed_on from to loose) (moved from o to was) (given_by (get lost from) from to (moved from o to was) lost)) [
-      | None ↦ λ none.
-          let gone = none_then (get lost from) (h.there from ∙ ap is_some none) in
-          let firm_from : IsSpread (firmed from loose) was lost = record {
-            there = h.there;
-            others = λ q firm. elim (decide q from) [
-              | inl e ↦ subst (λ p. get lost p ≡ get was p) (sym e) (gone ∙ sym none)
-              | inr ne ↦ h.others q (λ l. firm (ne, l))
-            ];
-          } in
-          subst (λ o. IsSpread (handed_on from to loose) was (given_by o from to was lost)) (sym gone)
-          (restore_spread (handed_on from to loose) (firmed from loose) to was lost firm_from (λ q ne l. inr (l.0, (ne, l.1))))
+    elim (get was from) as (λ o. get was from ≡ o → IsSpread (loose_moved o from to loose) (moved from o to was) (moved from (get lost from) to lost)) [
+      | None ↦ λ none. subst (λ o. IsSpread loose was (moved from o to lost)) (sym (none_then (get lost from) (h.there from ∙ ap is_some none))) h
       | Some bytes ↦ λ here.
           let other = some_then (get lost from) bytes (h.there from ∙ ap is_some here) in
-          subst (λ o. IsSpread (handed_on from to loose) (insert (remove was from) to bytes) (given_by o from to (insert (remove was from) to bytes) lost)) (sym other.1)
+          subst (λ o. IsSpread (handed_on from to loose) (insert (remove was from) to bytes) (moved from o to lost)) (sym other.1)
           (give_spread loose from to bytes other.0 was lost h here other.1)
     ] refl
 
@@ -133,7 +120,7 @@ some_not : (bytes : List ℕ) (o p : Option (List ℕ)) → o ≡ Some bytes →
 some_not bytes o p here none = absurd (let f : ⊥ = cc in f)
 
 spread_done : (deed : Deed) (byte : ℕ) (loose : List ℕ → Type 0) (was lost : Files) → IsSpread loose was lost
-    → IsSpread (loose_after deed Done loose) (ended deed Done was) (lost_after deed Done byte (ended deed Done was) lost)
+    → IsSpread (loose_after deed Done was loose) (ended deed Done was) (lost_after deed Done byte (ended deed Done was) lost)
 spread_done (Creates path) byte loose was lost h =
     mark_spread loose path byte was (created path was) lost h (λ q ne. get-insert_other was path [] q ne) (some_not [] (get (created path was) path) (get was path) (get-insert_same was path []))
 spread_done (Writes path piece) byte loose was lost h =
@@ -145,7 +132,7 @@ spread_done (Syncs path) byte loose was lost h = restore_spread (firmed path loo
 spread_done Looks byte loose was lost h = h
 
 spread_none : (deed : Deed) (byte : ℕ) (loose : List ℕ → Type 0) (was lost : Files) → IsSpread loose was lost
-    → IsSpread (loose_after deed NotFound loose) was (lost_after deed NotFound byte was lost)
+    → IsSpread (loose_after deed NotFound was loose) was (lost_after deed NotFound byte was lost)
 spread_none (Creates path) byte loose was lost h = mark_spread loose path byte was was lost h (λ q ne. refl) (λ none. none)
 spread_none (Writes path piece) byte loose was lost h = mark_spread loose path byte was was lost h (λ q ne. refl) (λ none. none)
 spread_none (Renames from to) byte loose was lost h = h
@@ -154,7 +141,7 @@ spread_none (Syncs path) byte loose was lost h = h
 spread_none Looks byte loose was lost h = h
 
 spread_failed : (deed : Deed) (part byte : ℕ) (loose : List ℕ → Type 0) (was lost : Files) → IsSpread loose was lost
-    → IsSpread (loose_after deed (Failed part) loose) (ended deed (Failed part) was) (lost_after deed (Failed part) byte (ended deed (Failed part) was) lost)
+    → IsSpread (loose_after deed (Failed part) was loose) (ended deed (Failed part) was) (lost_after deed (Failed part) byte (ended deed (Failed part) was) lost)
 spread_failed (Creates path) part byte loose was lost h = mark_spread loose path byte was was lost h (λ q ne. refl) (λ none. none)
 spread_failed (Writes path piece) part byte loose was lost h =
     mark_spread loose path byte was (appended path (take part piece) was) lost h (λ q ne. get-insert_other was path (bytes_at was path ++ take part piece) q ne)
@@ -166,80 +153,120 @@ spread_failed Looks part byte loose was lost h = h
 
 -- the marked map stays in the spread
 spread_after : (deed : Deed) (end : End) (byte : ℕ) (loose : List ℕ → Type 0) (was lost : Files) → IsSpread loose was lost
-    → IsSpread (loose_after deed end loose) (ended deed end was) (lost_after deed end byte (ended deed end was) lost)
+    → IsSpread (loose_after deed end was loose) (ended deed end was) (lost_after deed end byte (ended deed end was) lost)
 spread_after deed Done byte loose was lost h = spread_done deed byte loose was lost h
 spread_after deed NotFound byte loose was lost h = spread_none deed byte loose was lost h
 spread_after deed (Failed part) byte loose was lost h = spread_failed deed part byte loose was lost h
 
-still_done : (deed : Deed) (loss : Loss) (m : Files) → loss.maps m → IsSync deed Done ⊎ maps_after deed Done loss m
-still_done (Creates path) loss m h = inr (inl h)
-still_done (Writes path piece) loss m h = inr (inl h)
-still_done (Renames from to) loss m h = inr (inl h)
-still_done (Removes path) loss m h = inr (inl h)
-still_done (Syncs path) loss m h = inl tt
-still_done Looks loss m h = inr (inl h)
+-- the one byte at a path that may hold anything
+mark_marked : (loose : List ℕ → Type 0) (path : List ℕ) (byte : ℕ) (held lost : Files) → IsSpread (loosened path loose) held (marked path byte held lost)
+    → ((q bytes : List ℕ) → loose q → get lost q ≡ Some bytes → bytes ≡ byte ∷ [])
+    → (q bytes : List ℕ) → loosened path loose q → get (marked path byte held lost) q ≡ Some bytes → bytes ≡ byte ∷ []
+mark_marked loose path byte held lost spread old =
+    elim (get held path) as (λ o. get held path ≡ o → IsSpread (loosened path loose) held (put_some path (option_map (λ _. byte ∷ []) o) lost)
+    → (q bytes : List ℕ) → loosened path loose q → get (put_some path (option_map (λ _. byte ∷ []) o) lost) q ≡ Some bytes → bytes ≡ byte ∷ []) [
+      | None ↦ λ none s q bytes l here. elim l [
+        | inl e ↦
+            let gone : is_some (get held q) ≡ false = ap (λ p. is_some (get held p)) e ∙ ap is_some none in
+            let there : is_some (get held q) ≡ true = sym (s.there q) ∙ ap is_some here in
+            absurd (let f : ⊥ = cc in f)
+        | inr o ↦ old q bytes o here
+      ]
+      | Some had ↦ λ is s q bytes l here. elim (decide q path) [
+        | inl e ↦
+            let one : get (insert lost path (byte ∷ [])) q ≡ Some (byte ∷ []) = ap (get (insert lost path (byte ∷ []))) e ∙ get-insert_same lost path (byte ∷ []) in
+            cc
+        | inr ne ↦ elim l [
+          | inl e ↦ absurd (ne e)
+          | inr o ↦ old q bytes o (sym (get-insert_other lost path (byte ∷ []) q ne) ∙ here)
+        ]
+      ]
+    ] refl spread
 
--- what could be lost before a call can be lost after it, but for a sync
-still_lost : (deed : Deed) (end : End) (loss : Loss) (m : Files) → loss.maps m → IsSync deed end ⊎ maps_after deed end loss m
-still_lost deed Done loss m h = still_done deed loss m h
-still_lost deed NotFound loss m h = inr (inl h)
-still_lost deed (Failed part) loss m h = inr (inl h)
+-- at a path that was synced there is none
+restore_marked : (loose : List ℕ → Type 0) (path : List ℕ) (byte : ℕ) (had : Option (List ℕ)) (lost : Files) → ((q bytes : List ℕ) → loose q → get lost q ≡ Some bytes → bytes ≡ byte ∷ [])
+    → (q bytes : List ℕ) → firmed path loose q → get (put_some path had lost) q ≡ Some bytes → bytes ≡ byte ∷ []
+restore_marked loose path byte None lost old q bytes l here = old q bytes l.1 here
+restore_marked loose path byte (Some had) lost old q bytes l here = old q bytes l.1 (sym (get-insert_other lost path had q l.0) ∙ here)
 
--- what was chosen can still be lost
-chosen_after : {A : Type 0} (files : A → Files) (deed : Deed) (end : End) (loss : Loss) (lost : Files) (old new : Option A) → loss.maps lost
-    → (IsSync deed end → new ≡ None) → IfSome old (λ f. loss.maps (files f)) → IfSome new (λ f. (old ≡ Some f) ⊎ (files f ≡ lost)) → IfSome new (λ f. maps_after deed end loss (files f))
-chosen_after files deed end loss lost old None own sync before now = tt
-chosen_after {A} files deed end loss lost old (Some f) own sync before now =
-    let had : loss.maps (files f) = elim now [
-      | inl e ↦ subst (λ (o : Option A). IfSome o (λ g. loss.maps (files g))) e before
-      | inr e ↦ subst loss.maps (sym e) own
-    ] in
-    ⊎_elim (λ s. absurd (let e = sync s in let f : ⊥ = cc in f)) (λ m. m) (still_lost deed end loss (files f) had)
+give_marked : (loose : List ℕ → Type 0) (from to other : List ℕ) (byte : ℕ) (lost : Files) → get lost from ≡ Some other
+    → ((q bytes : List ℕ) → loose q → get lost q ≡ Some bytes → bytes ≡ byte ∷ [])
+    → (q bytes : List ℕ) → handed_on from to loose q → get (insert (remove lost from) to other) q ≡ Some bytes → bytes ≡ byte ∷ []
+give_marked loose from to other byte lost there old q bytes (inl l) here =
+    let one : other ≡ byte ∷ [] = old from other l.1 there in
+    let at : get (insert (remove lost from) to other) q ≡ Some other = ap (get (insert (remove lost from) to other)) l.0 ∙ get-insert_same (remove lost from) to other in
+    cc
+give_marked loose from to other byte lost there old q bytes (inr l) here =
+    old q bytes l.1.1 (sym (get-insert_other (remove lost from) to other q l.1.0 ∙ get-remove_other lost from q l.0) ∙ here)
+
+rename_marked : (loose : List ℕ → Type 0) (from to : List ℕ) (byte : ℕ) (was lost : Files) → IsSpread loose was lost
+    → ((q bytes : List ℕ) → loose q → get lost q ≡ Some bytes → bytes ≡ byte ∷ [])
+    → (q bytes : List ℕ) → loose_moved (get was from) from to loose q → get (renamed from to lost) q ≡ Some bytes → bytes ≡ byte ∷ []
+rename_marked loose from to byte was lost h old q bytes =
+    elim (get was from) as (λ o. get was from ≡ o → loose_moved o from to loose q → get (moved from (get lost from) to lost) q ≡ Some bytes → bytes ≡ byte ∷ []) [
+      | None ↦ λ none l. subst (λ o. get (moved from o to lost) q ≡ Some bytes → bytes ≡ byte ∷ []) (sym (none_then (get lost from) (h.there from ∙ ap is_some none))) (old q bytes l)
+      | Some had ↦ λ is l.
+          let other = some_then (get lost from) had (h.there from ∙ ap is_some is) in
+          subst (λ o. get (moved from o to lost) q ≡ Some bytes → bytes ≡ byte ∷ []) (sym other.1) (give_marked loose from to other.0 byte lost other.1 old q bytes l)
+    ] refl
+
+module _ (byte : ℕ) (loose : List ℕ → Type 0) (was lost : Files) (s : IsSpread loose was lost) (old : (q bytes : List ℕ) → loose q → get lost q ≡ Some bytes → bytes ≡ byte ∷ []) where
+  marked_done : (deed : Deed) (q bytes : List ℕ) → loose_after deed Done was loose q → get (lost_after deed Done byte (ended deed Done was) lost) q ≡ Some bytes → bytes ≡ byte ∷ []
+  marked_done (Creates path) = mark_marked loose path byte (created path was) lost (spread_done (Creates path) byte loose was lost s) old
+  marked_done (Writes path piece) = mark_marked loose path byte (appended path piece was) lost (spread_done (Writes path piece) byte loose was lost s) old
+  marked_done (Renames from to) = rename_marked loose from to byte was lost s old
+  marked_done (Removes path) = λ q bytes l here. old q bytes l.1 (sym (get-remove_other lost path q l.0) ∙ here)
+  marked_done (Syncs path) = restore_marked loose path byte (get was path) lost old
+  marked_done Looks = old
+
+  marked_none : (deed : Deed) (q bytes : List ℕ) → loose_after deed NotFound was loose q → get (lost_after deed NotFound byte was lost) q ≡ Some bytes → bytes ≡ byte ∷ []
+  marked_none (Creates path) = mark_marked loose path byte was lost (spread_none (Creates path) byte loose was lost s) old
+  marked_none (Writes path piece) = mark_marked loose path byte was lost (spread_none (Writes path piece) byte loose was lost s) old
+  marked_none (Renames from to) = old
+  marked_none (Removes path) = old
+  marked_none (Syncs path) = old
+  marked_none Looks = old
+
+  marked_failed : (part : ℕ) (deed : Deed) (q bytes : List ℕ) → loose_after deed (Failed part) was loose q
+      → get (lost_after deed (Failed part) byte (ended deed (Failed part) was) lost) q ≡ Some bytes → bytes ≡ byte ∷ []
+  marked_failed part (Creates path) = mark_marked loose path byte was lost (spread_failed (Creates path) part byte loose was lost s) old
+  marked_failed part (Writes path piece) =
+      mark_marked loose path byte (appended path (take part piece) was) lost (spread_failed (Writes path piece) part byte loose was lost s) old
+  marked_failed part (Renames from to) = old
+  marked_failed part (Removes path) = old
+  marked_failed part (Syncs path) = old
+  marked_failed part Looks = old
+
+  marked_after : (deed : Deed) (end : End) (q bytes : List ℕ) → loose_after deed end was loose q → get (lost_after deed end byte (ended deed end was) lost) q ≡ Some bytes → bytes ≡ byte ∷ []
+  marked_after deed Done = marked_done deed
+  marked_after deed NotFound = marked_none deed
+  marked_after deed (Failed part) = marked_failed part deed
+
+-- the marked map stays the one of the rule
+marks_after : (c : Noted) (byte : ℕ) (loss : Loss) (lost : Files) → IsMarked byte loss lost
+    → IsMarked byte (loss_after c loss) (lost_after c.deed c.end byte (ended c.deed c.end loss.files) lost)
+marks_after c byte loss lost h = record {
+  spread = spread_after c.deed c.end byte loss.loose loss.files lost h.spread;
+  marked = marked_after byte loss.loose loss.files lost h.spread h.marked c.deed c.end;
+}
 
 -- one call more, behind the others
-files-push : (cs : List Noted) (c : Noted) (loss : Loss) → (loss_left (cs ++ c ∷ []) loss).files ≡ (loss_after c (loss_left cs loss)).files
+pub files-push : (cs : List Noted) (c : Noted) (loss : Loss) → (loss_left (cs ++ c ∷ []) loss).files ≡ (loss_after c (loss_left cs loss)).files
 files-push [] c loss = refl
 files-push (d ∷ cs) c loss = files-push cs c (loss_after d loss)
 
-spread-push : (cs : List Noted) (c : Noted) (loss : Loss) (m : Files) → IsSpread (loss_after c (loss_left cs loss)).loose (loss_after c (loss_left cs loss)).files m
-    → IsSpread (loss_left (cs ++ c ∷ []) loss).loose (loss_left (cs ++ c ∷ []) loss).files m
-spread-push [] c loss m h = h
-spread-push (d ∷ cs) c loss m h = spread-push cs c (loss_after d loss) m h
+marks-push : (cs : List Noted) (c : Noted) (byte : ℕ) (loss : Loss) (m : Files) → IsMarked byte (loss_after c (loss_left cs loss)) m → IsMarked byte (loss_left (cs ++ c ∷ []) loss) m
+marks-push [] c byte loss m h = h
+marks-push (d ∷ cs) c byte loss m h = marks-push cs c byte (loss_after d loss) m h
 
-maps-push : (cs : List Noted) (c : Noted) (loss : Loss) (m : Files) → (loss_after c (loss_left cs loss)).maps m → (loss_left (cs ++ c ∷ []) loss).maps m
-maps-push [] c loss m h = h
-maps-push (d ∷ cs) c loss m h = maps-push cs c (loss_after d loss) m h
+module _ (cs : List Noted) (c : Noted) (start : Loss) where
+  pub replay_held : (was new : Files) → was ≡ (loss_left cs start).files → new ≡ ended c.deed c.end was → new ≡ (loss_left (cs ++ c ∷ []) start).files
+  replay_held was new is done = done ∙ ap (ended c.deed c.end) is ∙ sym (files-push cs c start)
 
-module _ (h : History) (deed : Deed) (end : End) where
-  abbrev start : Loss
-  start = at_opening (from_entries h.begun)
-
-  abbrev noted : Noted
-  noted = record { deed = deed; end = end }
-
-  pub replay_held : (was new : Files) → was ≡ (loss_in h).files → new ≡ ended deed end was → new ≡ (loss_in (with_call h deed end)).files
-  replay_held was new is done = done ∙ ap (ended deed end) is ∙ sym (files-push h.calls noted start)
-
-  pub replay_lost : (byte : ℕ) (was new lost left : Files) → was ≡ (loss_in h).files → new ≡ ended deed end was → left ≡ lost_after deed end byte new lost
-      → IsSpread (loss_in h).loose (loss_in h).files lost → IsSpread (loss_in (with_call h deed end)).loose (loss_in (with_call h deed end)).files left
-  replay_lost byte was new lost left is done lost_is s =
-      spread-push h.calls noted start left
-      (subst (λ (l : Files). IsSpread (loose_after deed end (loss_in h).loose) (ended deed end (loss_in h).files) l)
-      (sym (lost_is ∙ ap (λ (f : Files). lost_after deed end byte f lost) (done ∙ ap (ended deed end) is)))
-      (spread_after deed end byte (loss_in h).loose (loss_in h).files lost s))
-
-  pub replay_chosen : {A : Type 0} (files : A → Files) (lost : Files) (old new : Option A) → IsSpread (loss_in h).loose (loss_in h).files lost → (IsSync deed end → new ≡ None)
-      → IfSome old (λ f. (loss_in h).maps (files f)) → IfSome new (λ f. (old ≡ Some f) ⊎ (files f ≡ lost)) → IfSome new (λ f. (loss_in (with_call h deed end)).maps (files f))
-  replay_chosen {A} files lost old new s sync before now =
-      go new (chosen_after files deed end (loss_in h) lost old new (own_left h.calls start (opened_own (from_entries h.begun)) lost s) sync before now)
-    where
-      go : (n : Option A) → IfSome n (λ f. maps_after deed end (loss_in h) (files f)) → IfSome n (λ f. (loss_in (with_call h deed end)).maps (files f))
-      go None h' = tt
-      go (Some f) h' = maps-push h.calls noted start (files f) h'
-
--- in the end
-pub spread_counts : (h : History) (m : Files) → IsSpread (loss_in h).loose (loss_in h).files m → (loss_in h).maps m
-spread_counts h m s = own_left h.calls (at_opening (from_entries h.begun)) (opened_own (from_entries h.begun)) m s
-
-pub lost_now : (m : Memory) (f : Files) → (loss_now m).maps f → lost_since_of m (clock_of m) f
-lost_now m f h = LostSince-now m.calls (length m.calls) (at_opening (from_entries m.begun)) f (omega arith) h
+  pub replay_lost : (byte : ℕ) (was new lost left : Files) → was ≡ (loss_left cs start).files → new ≡ ended c.deed c.end was → left ≡ lost_after c.deed c.end byte new lost
+      → IsMarked byte (loss_left cs start) lost → IsMarked byte (loss_left (cs ++ c ∷ []) start) left
+  replay_lost byte was new lost left is done lost_is h =
+      marks-push cs c byte start left
+      (subst (λ (l : Files). IsMarked byte (loss_after c (loss_left cs start)) l)
+      (sym (lost_is ∙ ap (λ (f : Files). lost_after c.deed c.end byte f lost) (done ∙ ap (ended c.deed c.end) is)))
+      (marks_after c byte (loss_left cs start) lost h))

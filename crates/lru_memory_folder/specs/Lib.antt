@@ -1,5 +1,6 @@
 pub mod Calls
 pub mod Losing
+pub mod Kept
 pub mod Memory
 pub mod Plans
 pub mod History

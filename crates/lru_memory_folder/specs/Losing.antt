@@ -1,5 +1,6 @@
 -- What a loss of power may leave of the calls of a folder in memory.
-use Rattle.std.specs.Prelude.{◌⊎◌, ℕ, zero, suc, List, [], ◌∷◌}
+use Rattle.std.specs.Prelude.{◌⊎◌, ℕ, zero, suc, List, [], ◌∷◌, Option, Some, None}
+use Rattle.std.specs.FinMap.{get}
 use Rattle.lru_folder.specs.Files.{Files}
 use Rattle.lru_folder.specs.Losses.{IsSpread, Loss, LossStep, creating, writing, renaming, removing, looking, loosened, firmed, handed_on}
 use Rattle.lru_memory_folder.specs.declared.calls.End.{End}
@@ -15,14 +16,19 @@ step_of (Removes path) = removing path
 step_of (Syncs path) = looking
 step_of Looks = looking
 
+-- a rename of a path that is not there changes nothing
+abbrev pub loose_moved : Option (List ℕ) → List ℕ → List ℕ → (List ℕ → Type 0) → List ℕ → Type 0
+loose_moved None from to loose = loose
+loose_moved (Some bytes) from to loose = handed_on from to loose
+
 -- the loose paths after the whole of a call, and after one that failed
-abbrev pub loose_done : Deed → (List ℕ → Type 0) → List ℕ → Type 0
-loose_done (Creates path) loose = loosened path loose
-loose_done (Writes path piece) loose = loosened path loose
-loose_done (Renames from to) loose = handed_on from to loose
-loose_done (Removes path) loose = firmed path loose
-loose_done (Syncs path) loose = firmed path loose
-loose_done Looks loose = loose
+abbrev pub loose_done : Deed → Files → (List ℕ → Type 0) → List ℕ → Type 0
+loose_done (Creates path) files loose = loosened path loose
+loose_done (Writes path piece) files loose = loosened path loose
+loose_done (Renames from to) files loose = loose_moved (get files from) from to loose
+loose_done (Removes path) files loose = firmed path loose
+loose_done (Syncs path) files loose = firmed path loose
+loose_done Looks files loose = loose
 
 abbrev pub loose_failed : Deed → (List ℕ → Type 0) → List ℕ → Type 0
 loose_failed (Creates path) loose = loosened path loose
@@ -32,10 +38,10 @@ loose_failed (Removes path) loose = loose
 loose_failed (Syncs path) loose = loose
 loose_failed Looks loose = loose
 
-abbrev pub loose_after : Deed → End → (List ℕ → Type 0) → List ℕ → Type 0
-loose_after deed Done loose = loose_done deed loose
-loose_after deed NotFound loose = loose_failed deed loose
-loose_after deed (Failed part) loose = loose_failed deed loose
+abbrev pub loose_after : Deed → End → Files → (List ℕ → Type 0) → List ℕ → Type 0
+loose_after deed Done files loose = loose_done deed files loose
+loose_after deed NotFound files loose = loose_failed deed loose
+loose_after deed (Failed part) files loose = loose_failed deed loose
 
 -- The maps that a loss may leave after a call: those before it and what it adds, but after the whole of a sync the spread
 -- of the map alone.
@@ -58,7 +64,7 @@ maps_after deed (Failed part) loss = maps_failed deed loss
 abbrev pub loss_after : Noted → Loss → Loss
 loss_after noted loss = record {
   files = effect noted loss.files;
-  loose = loose_after noted.deed noted.end loss.loose;
+  loose = loose_after noted.deed noted.end loss.files loss.loose;
   maps = maps_after noted.deed noted.end loss;
 }
 

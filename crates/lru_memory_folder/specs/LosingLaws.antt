@@ -1,14 +1,14 @@
 -- The spread of the map now is among what a loss of power may leave.
-use Rattle.std.proofs.Common.{◌≡◌, inl, inr, ⊎_elim, ◌≤◌, ℕ, zero, suc, List, [], ◌∷◌, length, take, is_some, refl, sym, ◌∙◌, ap, subst, arith}
+use Rattle.std.proofs.Common.{◌≡◌, ◌⊎◌, inl, inr, ⊎_elim, ◌≤◌, ℕ, zero, suc, List, [], ◌∷◌, length, take, Option, Some, None, is_some, refl, sym, ◌∙◌, ap, subst, arith}
 use Rattle.std.specs.FinMap.{get}
-use Rattle.lru_folder.specs.Files.{Files}
-use Rattle.lru_folder.specs.Losses.{IsSpread, IsOverwritten, Loss, loosened}
+use Rattle.lru_folder.specs.Files.{Files, moved}
+use Rattle.lru_folder.specs.Losses.{IsSpread, IsOverwritten, Loss, loosened, handed_on}
 use Rattle.lru_folder.proofs.FilesLemmas.{decide, alike}
 use Rattle.lru_folder.proofs.LossLemmas.{put_back, get-put_back_same, get-put_back_other, spread-back, spread-appended}
 use Rattle.lru_memory_folder.specs.declared.calls.End.{End}
 use Rattle.lru_memory_folder.specs.declared.calls.End.TheVariants.{Done, NotFound, Failed}
 use Rattle.lru_memory_folder.specs.Calls.{Deed, Creates, Writes, Renames, Removes, Syncs, Looks, Noted, after}
-use Rattle.lru_memory_folder.specs.Losing.{loss_after, loss_left, LostSince}
+use Rattle.lru_memory_folder.specs.Losing.{loose_moved, loss_after, loss_left, LostSince}
 
 -- at its opening a folder loses nothing
 pub opened_own : (files m : Files) → IsSpread (λ q. ⊥) files m → m ≡ files
@@ -36,10 +36,16 @@ overwritten path loss own m h =
       ),
     )
 
+-- a rename of a path that is there spreads its map, and another adds nothing
+own_moved : (from to : List ℕ) (there : Option (List ℕ)) (loss : Loss) → CountsOwn loss → (m : Files) → IsSpread (loose_moved there from to loss.loose) (moved from there to loss.files) m
+    → loss.maps m ⊎ IsSpread (handed_on from to loss.loose) (moved from there to loss.files) m
+own_moved from to None loss own m h = inl (own m h)
+own_moved from to (Some bytes) loss own m h = inr h
+
 own_done : (deed : Deed) (loss : Loss) → CountsOwn loss → CountsOwn (loss_after (record { deed = deed; end = Done }) loss)
 own_done (Creates path) loss own m h = inr (inr h)
 own_done (Writes path piece) loss own m h = inr (inr h)
-own_done (Renames from to) loss own m h = inr h
+own_done (Renames from to) loss own m h = own_moved from to (get loss.files from) loss own m h
 own_done (Removes path) loss own m h = inr h
 own_done (Syncs path) loss own m h = h
 own_done Looks loss own m h = inl (own m h)

@@ -1,7 +1,7 @@
 -- The files that a loss of power leaves where it puts one byte into each loose path.
 use Rattle.std.specs.Prelude.{ℕ, List, [], ◌∷◌, Option, Some, None, option_map}
-use Rattle.std.specs.FinMap.{get, insert, remove}
-use Rattle.lru_folder.specs.Files.{Files, removed}
+use Rattle.std.specs.FinMap.{get, insert}
+use Rattle.lru_folder.specs.Files.{Files, removed, renamed}
 use Rattle.lru_memory_folder.specs.declared.calls.End.{End}
 use Rattle.lru_memory_folder.specs.declared.calls.End.TheVariants.{Done, NotFound, Failed}
 use Rattle.lru_memory_folder.specs.Calls.{Deed, Creates, Writes, Renames, Removes, Syncs, Looks}
@@ -15,16 +15,11 @@ put_some path (Some bytes) m = insert m path bytes
 abbrev pub marked : List ℕ → ℕ → Files → Files → Files
 marked path byte held lost = put_some path (option_map (λ _. byte ∷ []) (get held path)) lost
 
--- A name that is there is given away with its bytes; else the other name has those of the file.
-abbrev pub given_by : Option (List ℕ) → List ℕ → List ℕ → Files → Files → Files
-given_by None from to held lost = put_some to (get held to) lost
-given_by (Some bytes) from to held lost = insert (remove lost from) to bytes
-
 -- What a loss leaves after a call: of what it left before, and of the files after the call.
 abbrev pub lost_done : Deed → ℕ → Files → Files → Files
 lost_done (Creates path) byte held lost = marked path byte held lost
 lost_done (Writes path piece) byte held lost = marked path byte held lost
-lost_done (Renames from to) byte held lost = given_by (get lost from) from to held lost
+lost_done (Renames from to) byte held lost = renamed from to lost
 lost_done (Removes path) byte held lost = removed path lost
 lost_done (Syncs path) byte held lost = put_some path (get held path) lost
 lost_done Looks byte held lost = lost

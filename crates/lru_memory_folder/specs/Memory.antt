@@ -4,10 +4,12 @@ use Rattle.std.specs.FinMap.{from_entries}
 use Rattle.std.specs.FinSet.{from_list}
 use Rattle.lru_memory_folder.specs.declared.calls.Plan.{Plan}
 use Rattle.lru_memory_folder.specs.Calls.{Noted, after, failures, StoppedSince}
+use Rattle.lru_memory_folder.specs.Kept.{kept}
 use Rattle.lru_memory_folder.specs.Losing.{loss_left, LostSince}
 use Rattle.lru_folder.specs.Files.{Files}
 use Rattle.lru_folder.specs.Losses.{Loss, at_opening}
 use Rattle.lru_folder.specs.Folder.{Opened}
+use Rattle.lru_folder.specs.Meaning.{Meaning}
 use Rattle.lru_folder.specs.Places.{Folders}
 use Rattle.lru_folder.specs.declared.folder_call.FolderCall.{FolderCall}
 
@@ -37,6 +39,10 @@ stopped_since_of m t = StoppedSince m.calls t (from_entries m.begun)
 abbrev pub loss_now : Memory → Loss
 loss_now m = loss_left m.calls (at_opening (from_entries m.begun))
 
+-- what a loss may leave of the calls that it keeps
+abbrev pub loss_kept : ℕ → Memory → Loss
+loss_kept names m = loss_left (kept names m.calls) (at_opening (from_entries m.begun))
+
 abbrev pub lost_since_of : Memory → ℕ → Files → Type 0
 lost_since_of m t = LostSince m.calls t (at_opening (from_entries m.begun))
 
@@ -45,3 +51,17 @@ loose_of m = (loss_now m).loose
 
 abbrev pub faults_of : Memory → ℕ
 faults_of m = failures m.calls
+
+-- what a folder in memory means, which it always keeps
+abbrev pub memory_meaning : Meaning Memory
+memory_meaning = record {
+  files = files_of;
+  folders = folders_of;
+  clock = clock_of;
+  stopped_since = stopped_since_of;
+  lost_since = lost_since_of;
+  loose = loose_of;
+  faults = faults_of;
+  last_call = λ m. m.last;
+  keeps = λ _. Unit {0};
+}

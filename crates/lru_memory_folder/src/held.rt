@@ -1,6 +1,6 @@
 // The files that a folder in memory holds.
-ghost use Rattle.std.specs.Prelude.{◌≡◌, ◌∷◌, ◌++◌, [], ◌+◌, ◌<◌, ◌^◌, drop, is_some, length, map, take, None, Some, IfOk, MatchOption, OnErr, OnOk, vec_len};
-ghost use Rattle.std.specs.FinMap.{get, insert, remove};
+ghost use Rattle.std.specs.Prelude.{◌≡◌, ◌≢◌, ◌∷◌, ◌++◌, [], ◌+◌, ◌<◌, ◌^◌, drop, is_some, length, map, string_bytes, take, None, Some, IfOk, IsTrue, MatchOption, OnErr, OnOk, vec_len};
+ghost use Rattle.std.specs.FinMap.{get, insert, keys, remove};
 ghost use Rattle.lru_folder.specs.Files.{appended, bytes_at, renamed};
 ghost use Rattle.lru_memory_folder.specs.HeldInside.{files_in};
 ghost use Rattle.lru_folder.specs.Listings.{name_of};
@@ -65,23 +65,50 @@ pub(crate) fn bytes_of<'a>(held: &'a Held, path: &str) -> &'a [u8]
     }
 }
 
-/// Gives the bytes of a path to another, which takes its place. Where that finds no memory, nothing changes.
-pub(crate) fn give(
-    alloc: Global,
-    held: &mut Held,
-    from: &str,
-    to: &str,
-    bytes: Vec<u8>,
-) -> Result<(), AllocError>
-    ensures ok { OnOk result (files_in held.new.entries ≡ insert (remove (files_in held.old.entries) from.now) to.now bytes.items) }
-    ensures err { OnErr result (held.new.entries ≡ held.old.entries) }
+/// Takes the path away, and gives its bytes, none where it was not there.
+fn take_bytes(alloc: Global, held: &mut Held, path: &str) -> Vec<u8>
+    ensures bytes { result.items ≡ bytes_at (files_in held.old.entries) path.now }
+    ensures gone { files_in held.new.entries ≡ remove (files_in held.old.entries) path.now }
 {
-    let is_other = to != from;
-    put(alloc, held, to, bytes)?;
-    if is_other {
-        take_out(held, from);
+    match held.remove(path) {
+        Some(bytes) => bytes,
+        None => Vec::new(alloc),
     }
+}
+
+/// Gives a path that is there these bytes.
+fn set(held: &mut Held, path: &str, bytes: Vec<u8>)
+    requires { IsTrue (is_some (get (files_in held.old.entries) path.now)) }
+    ensures { files_in held.new.entries ≡ insert (files_in held.old.entries) path.now bytes.items }
+{
+    if let Some(place) = held.get_mut(path) {
+        *place = bytes;
+    }
+}
+
+/// Gives the bytes of a path to another, which takes its place. Where that finds no memory, nothing changes.
+fn give(alloc: Global, held: &mut Held, from: &str, to: &str) -> Result<(), AllocError>
+    requires { from.now ≢ to.now }
+    ensures ok { OnOk result (files_in held.new.entries ≡ insert (remove (files_in held.old.entries) from.now) to.now (bytes_at (files_in held.old.entries) from.now)) }
+    ensures err { OnErr result (files_in held.new.entries ≡ files_in held.old.entries) }
+{
+    // Only this can be refused.
+    put(alloc, held, to, Vec::new(alloc))?;
+    let bytes = take_bytes(alloc, held, from);
+    set(held, to, bytes);
     Ok(())
+}
+
+/// Puts a piece behind the bytes of a path that is there. Where that finds no memory, nothing changes.
+fn extend(held: &mut Held, path: &str, piece: &[u8]) -> Result<(), AllocError>
+    requires { IsTrue (is_some (get (files_in held.old.entries) path.now)) }
+    ensures ok { OnOk result (files_in held.new.entries ≡ appended path.now piece.now (files_in held.old.entries)) }
+    ensures err { OnErr result (files_in held.new.entries ≡ files_in held.old.entries) }
+{
+    match held.get_mut(path) {
+        Some(bytes) => bytes.extend_from_slice(piece),
+        None => Ok(()),
+    }
 }
 
 /// Puts a piece behind the bytes of the path. Where that finds no memory, nothing changes.
@@ -92,11 +119,13 @@ pub(crate) fn append(
     piece: &[u8],
 ) -> Result<(), AllocError>
     ensures ok { OnOk result (files_in held.new.entries ≡ appended path.now piece.now (files_in held.old.entries)) }
-    ensures err { OnErr result (held.new.entries ≡ held.old.entries) }
+    ensures err { OnErr result (files_in held.new.entries ≡ files_in held.old.entries) }
 {
-    let mut bytes = bytes_of(held, path).to_vec(alloc)?;
-    bytes.extend_from_slice(piece)?;
-    put(alloc, held, path, bytes)
+    if holds(held, path) {
+        extend(held, path, piece)
+    } else {
+        put(alloc, held, path, piece.to_vec(alloc)?)
+    }
 }
 
 /// Gives the file of a path, if it is there, another path. Where that finds no memory, nothing changes.
@@ -107,13 +136,15 @@ pub(crate) fn give_name(
     to: &str,
 ) -> Result<(), AllocError>
     ensures ok { OnOk result (files_in held.new.entries ≡ renamed from.now to.now (files_in held.old.entries)) }
-    ensures err { OnErr result (held.new.entries ≡ held.old.entries) }
+    ensures err { OnErr result (files_in held.new.entries ≡ files_in held.old.entries) }
 {
-    let Some(old) = find(held, from) else {
+    if !holds(held, from) {
         return Ok(());
-    };
-    let bytes = old.to_vec(alloc)?;
-    give(alloc, held, from, to, bytes)
+    }
+    if from == to {
+        return Ok(());
+    }
+    give(alloc, held, from, to)
 }
 
 /// The first bytes of a piece, at most so many.
@@ -144,6 +175,17 @@ pub(crate) fn piece_at(
     } else {
         Ok(Vec::new(alloc))
     }
+}
+
+/// The paths, in byte order.
+pub(crate) fn paths_of(alloc: Global, held: &Held) -> Result<Vec<String>, AllocError>
+    ensures { IfOk result (λ paths. map string_bytes paths.items ≡ keys (files_in held.now.entries)) }
+{
+    let mut paths = Vec::new(alloc);
+    for path in held.keys() {
+        paths.push(path.clone()?)?;
+    }
+    Ok(paths)
 }
 
 /// The names of the files in a folder, in byte order.

@@ -1,11 +1,12 @@
 // The files of a folder in memory, with the calls that led to them.
-ghost use Rattle.std.specs.Prelude.{◌≡◌, ◌<◌, ◌++◌, ◌∷◌, [], IfOk, OnErr, OnOk, vec_len, vec_capacity};
+ghost use Rattle.std.specs.Prelude.{◌≡◌, ◌<◌, ◌++◌, ◌∷◌, [], length, IfOk, OnErr, OnOk, vec_len, vec_capacity};
 ghost use Rattle.std.specs.FinMap.{insert};
 ghost use Rattle.lru_memory_folder.specs.Calls.{begun, ended, whole};
 ghost use Rattle.lru_memory_folder.specs.DeedInside.{deed_of};
 ghost use Rattle.lru_memory_folder.specs.HeldInside.{files_in};
 ghost use Rattle.lru_memory_folder.specs.History.{end_of, files_left, with_call, Goes};
-ghost use Rattle.lru_memory_folder.specs.ReplayInside.{loss_in};
+ghost use Rattle.lru_memory_folder.specs.Kept.{IsMarked};
+ghost use Rattle.lru_memory_folder.specs.ReplayInside.{kept_of, loss_in};
 
 use crate::calls::{Call, End, Ended, end_of};
 use crate::held::{Held, append, copy_all, front, give_name, put, take_out};
@@ -66,6 +67,13 @@ impl Journal {
         &self.held
     }
 
+    /// How many calls there were.
+    pub(crate) fn calls(&self) -> usize
+        ensures { result ≡ length self.now.calls }
+    {
+        self.calls.len()
+    }
+
     /// The files, without the calls that led to them.
     pub(crate) fn into_held(self) -> Held
         ensures { files_in result.entries ≡ files_left self }
@@ -91,7 +99,7 @@ impl Journal {
         names: usize,
         byte: u8,
     ) -> Result<Held, AllocError>
-        ensures { IfOk result (λ held. (loss_in self.now).maps (files_in held.entries)) }
+        ensures { IfOk result (λ held. IsMarked byte (loss_in (kept_of names self.now)) (files_in held.entries)) }
     {
         let mut replay = Replay::new(&self.begun, names)?;
         for ended in &self.calls {
@@ -141,7 +149,7 @@ fn make_ready(
     ensures calls { calls.new.items ≡ calls.old.items }
     ensures room { OnOk result (vec_len calls.new < vec_capacity calls.new) }
     ensures ok { OnOk result (files_in held.new.entries ≡ ended (deed_of call.now) end (files_in held.old.entries)) }
-    ensures err { OnErr result (held.new.entries ≡ held.old.entries) }
+    ensures err { OnErr result (files_in held.new.entries ≡ files_in held.old.entries) }
 {
     calls.reserve(1)?;
     apply(alloc, held, call, end)
@@ -158,7 +166,7 @@ fn push(calls: &mut Vec<Ended>, call: Call, end: End)
 /// Does to the files what a call does that ends so. Where memory is refused, nothing changes.
 pub(crate) fn apply(alloc: Global, held: &mut Held, call: &Call, end: End) -> Result<(), AllocError>
     ensures ok { OnOk result (files_in held.new.entries ≡ ended (deed_of call.now) end (files_in held.old.entries)) }
-    ensures err { OnErr result (held.new.entries ≡ held.old.entries) }
+    ensures err { OnErr result (files_in held.new.entries ≡ files_in held.old.entries) }
 {
     match end {
         End::Done => apply_whole(alloc, held, call),
@@ -170,7 +178,7 @@ pub(crate) fn apply(alloc: Global, held: &mut Held, call: &Call, end: End) -> Re
 /// Does to the files what the whole of a call does.
 fn apply_whole(alloc: Global, held: &mut Held, call: &Call) -> Result<(), AllocError>
     ensures ok { OnOk result (files_in held.new.entries ≡ whole (deed_of call.now) (files_in held.old.entries)) }
-    ensures err { OnErr result (held.new.entries ≡ held.old.entries) }
+    ensures err { OnErr result (files_in held.new.entries ≡ files_in held.old.entries) }
 {
     match call {
         Call::Create(path) => put(alloc, held, path.as_str(), Vec::new(alloc)),
@@ -188,7 +196,7 @@ fn apply_whole(alloc: Global, held: &mut Held, call: &Call) -> Result<(), AllocE
 /// Does to the files what is left of a call that failed, after so many bytes of a piece.
 fn apply_front(alloc: Global, held: &mut Held, call: &Call, part: usize) -> Result<(), AllocError>
     ensures ok { OnOk result (files_in held.new.entries ≡ begun (deed_of call.now) part (files_in held.old.entries)) }
-    ensures err { OnErr result (held.new.entries ≡ held.old.entries) }
+    ensures err { OnErr result (files_in held.new.entries ≡ files_in held.old.entries) }
 {
     match call {
         Call::Write(path, piece) => append(alloc, held, path.as_str(), front(piece, part)),

@@ -1,13 +1,14 @@
 // A folder in memory, which can be made to fail, and which knows what a stop or a loss of power could have left.
-ghost use Rattle.std.specs.Prelude.{◌≡◌, ◌≢◌, [], ℕ, List, None, Some, IfOk, IsErrOf, IsTrue, MatchOption, MatchResult, OnOk, length, map, take};
-ghost use Rattle.std.specs.FinMap.{get, insert};
+ghost use Rattle.std.specs.Prelude.{◌≡◌, ◌≢◌, [], ℕ, List, None, Some, IfOk, IsErrOf, IsTrue, MatchOption, MatchResult, OnOk, length, map, string_bytes, take};
+ghost use Rattle.std.specs.FinMap.{get, insert, keys};
 ghost use Rattle.lru_memory_folder.specs.declared.calls.Plan.TheVariants.{Works, FailsAt, StopsAt};
 ghost use Rattle.lru_folder.specs.Files.{created, appended, renamed, removed, AllOrNone, SomeFront, Same};
 ghost use Rattle.lru_folder.specs.Losses.{IsSynced, Loses, creating, writing, renaming, removing, looking, firmed, handed_on};
 ghost use Rattle.lru_folder.specs.Folder as mode;
 ghost use Rattle.lru_folder.specs.Folder.{HasCause, IsReading, IsWriting, Passes, Reads, written_path};
 ghost use Rattle.lru_folder.specs.Listings.{name_of};
-ghost use Rattle.lru_memory_folder.specs.Memory.{files_of, folders_of, clock_of, faults_of, stopped_since_of, lost_since_of, loose_of};
+ghost use Rattle.lru_memory_folder.specs.Kept.{IsMarked};
+ghost use Rattle.lru_memory_folder.specs.Memory.{files_of, folders_of, clock_of, faults_of, stopped_since_of, lost_since_of, loose_of, loss_kept, memory_meaning};
 ghost use Rattle.lru_folder.specs.Places.{folder_of, is_there, can_list, listing, MakesAll, MakesSome};
 ghost use Rattle.lru_memory_folder.specs.Plans.{front_of, nothing, GoesAsPlanned};
 
@@ -34,7 +35,7 @@ pub struct MemoryFolder {
 }
 
 impl Model for MemoryFolder {
-    ghost use Rattle.lru_memory_folder.specs.Memory.{Memory};
+    ghost use Rattle.lru_memory_folder.specs.Memory.{Memory, memory_meaning};
 
     ghost Value = { Memory };
 
@@ -77,12 +78,30 @@ impl MemoryFolder {
         find(self.store.held(), path)
     }
 
+    /// The paths of the files, in byte order.
+    pub fn paths(&self) -> Result<Vec<String>, AllocError>
+        ensures { IfOk result (λ paths. map string_bytes paths.items ≡ keys (files_of self.now)) }
+    {
+        self.store.paths()
+    }
+
+    /// How many calls of `Folder` there were since the folder began, those that failed among them. One that was refused
+    /// memory did nothing and is not counted.
+    pub fn calls(&self) -> usize
+        ensures { result ≡ clock_of self.now }
+    {
+        self.store.journal.calls()
+    }
+
     /// The folder as a loss of power may leave it: the files after the first `names` name changes (by `create`, `rename` and
     /// `remove`) that were done since the last `sync` that answered Ok or since the folder began, after all where there are
     /// fewer; and in each of those paths that was loose at some moment from there to the next name change, the one byte in
-    /// place of its bytes. It keeps the folders and begins anew, and no call is made to fail.
+    /// place of its bytes. A `create` that was done is such a change, and what it makes loose comes after it; one that failed
+    /// is none, and the path that it had begun is loose. The folder keeps its folders and begins anew, and no call is made to
+    /// fail.
     pub fn after_loss(&self, names: usize, byte: u8) -> Result<MemoryFolder, AllocError>
-        ensures files { IfOk result (λ folder. lost_since_of self.now (clock_of self.now) (files_of folder)) }
+        ensures files { IfOk result (λ folder. IsMarked byte (loss_kept names self.now) (files_of folder)) }
+        ensures lost { IfOk result (λ folder. lost_since_of self.now (clock_of self.now) (files_of folder)) }
         ensures folders { IfOk result (λ folder. folders_of folder ≡ folders_of self.now) }
         ensures begins { IfOk result (λ folder. (folder.calls ≡ []) × (folder.opened ≡ mode.Closed) × (folder.plan ≡ Works)) }
     {
@@ -119,25 +138,9 @@ impl MemoryFolder {
 impl Folder for MemoryFolder {
     ghost use Rattle.lru_memory_folder.specs.MemoryLaws.{memory_counts_now, memory_only_now, memory_counts_lost};
 
-    ghost files = { files_of };
-
-    ghost folders = { folders_of };
+    ghost meaning = { memory_meaning };
 
     ghost opened = { λ m. m.opened };
-
-    ghost clock = { clock_of };
-
-    ghost stopped_since = { stopped_since_of };
-
-    ghost lost_since = { lost_since_of };
-
-    ghost loose = { loose_of };
-
-    ghost faults = { faults_of };
-
-    ghost last_call = { λ m. m.last };
-
-    ghost keeps = { λ _. Unit {0} };
 
     ghost counts_now = { λ m t k le. memory_counts_now m t le };
 
@@ -149,8 +152,8 @@ impl Folder for MemoryFolder {
         ensures closed { self.new.opened ≡ mode.Closed }
         ensures done { OnOk result (MakesAll dir.now (folders_of self.old) (folders_of self.new)) }
         ensures part { MakesSome dir.now (folders_of self.old) (folders_of self.new) }
-        ensures time { Passes clock_of stopped_since_of files_of Same self.old self.new }
-        ensures loss { Loses clock_of files_of lost_since_of loose_of looking self.old self.new }
+        ensures time { Passes memory_meaning Same self.old self.new }
+        ensures loss { Loses memory_meaning looking self.old self.new }
         ensures last { self.new.last ≡ FolderCall.Make }
         ensures cause { HasCause (faults_of self.old) (faults_of self.new) result }
         ensures found { IsErrOf result FolderFault.NotFound → ⊥ }
@@ -166,8 +169,8 @@ impl Folder for MemoryFolder {
         ensures done { OnOk result (IsTrue (is_there (folders_of self.old) (folder_of path.now))
             × (files_of self.new ≡ created path.now (files_of self.old)) × (self.new.opened ≡ mode.Writing path.now)) }
         ensures places { folders_of self.new ≡ folders_of self.old }
-        ensures time { Passes clock_of stopped_since_of files_of (AllOrNone (created path.now)) self.old self.new }
-        ensures loss { Loses clock_of files_of lost_since_of loose_of (creating path.now) self.old self.new }
+        ensures time { Passes memory_meaning (AllOrNone (created path.now)) self.old self.new }
+        ensures loss { Loses memory_meaning (creating path.now) self.old self.new }
         ensures last { self.new.last ≡ FolderCall.Create }
         ensures cause { HasCause (faults_of self.old) (faults_of self.new) result }
         ensures found { IsErrOf result FolderFault.NotFound → ¬ IsTrue (is_there (folders_of self.old) (folder_of path.now)) }
@@ -183,8 +186,8 @@ impl Folder for MemoryFolder {
         ensures mode { self.new.opened ≡ self.old.opened }
         ensures done { OnOk result (files_of self.new ≡ appended (written_path self.old.opened) piece.now (files_of self.old)) }
         ensures places { folders_of self.new ≡ folders_of self.old }
-        ensures time { Passes clock_of stopped_since_of files_of (SomeFront (written_path self.old.opened) piece.now) self.old self.new }
-        ensures loss { Loses clock_of files_of lost_since_of loose_of (writing (written_path self.old.opened) piece.now) self.old self.new }
+        ensures time { Passes memory_meaning (SomeFront (written_path self.old.opened) piece.now) self.old self.new }
+        ensures loss { Loses memory_meaning (writing (written_path self.old.opened) piece.now) self.old self.new }
         ensures last { self.new.last ≡ FolderCall.Write }
         ensures cause { HasCause (faults_of self.old) (faults_of self.new) result }
         ensures found { IsErrOf result FolderFault.NotFound → ⊥ }
@@ -199,8 +202,8 @@ impl Folder for MemoryFolder {
         requires { IsWriting self.old.opened }
         ensures mode { self.new.opened ≡ self.old.opened }
         ensures places { folders_of self.new ≡ folders_of self.old }
-        ensures time { Passes clock_of stopped_since_of files_of Same self.old self.new }
-        ensures loss { Loses clock_of files_of lost_since_of loose_of looking self.old self.new }
+        ensures time { Passes memory_meaning Same self.old self.new }
+        ensures loss { Loses memory_meaning looking self.old self.new }
         ensures last { self.new.last ≡ FolderCall.Flush }
         ensures cause { HasCause (faults_of self.old) (faults_of self.new) result }
         ensures found { IsErrOf result FolderFault.NotFound → ⊥ }
@@ -214,10 +217,10 @@ impl Folder for MemoryFolder {
     fn sync(&mut self) -> Result<(), FolderFault>
         requires { IsWriting self.old.opened }
         ensures mode { self.new.opened ≡ self.old.opened }
-        ensures done { OnOk result (IsSynced clock_of files_of lost_since_of loose_of (written_path self.old.opened) self.old self.new) }
+        ensures done { OnOk result (IsSynced memory_meaning (written_path self.old.opened) self.old self.new) }
         ensures places { folders_of self.new ≡ folders_of self.old }
-        ensures time { Passes clock_of stopped_since_of files_of Same self.old self.new }
-        ensures loss { Loses clock_of files_of lost_since_of loose_of looking self.old self.new }
+        ensures time { Passes memory_meaning Same self.old self.new }
+        ensures loss { Loses memory_meaning looking self.old self.new }
         ensures last { self.new.last ≡ FolderCall.Sync }
         ensures cause { HasCause (faults_of self.old) (faults_of self.new) result }
         ensures found { IsErrOf result FolderFault.NotFound → ⊥ }
@@ -233,8 +236,8 @@ impl Folder for MemoryFolder {
         ensures done { OnOk result ((get (files_of self.old) from.now ≢ None)
             × (files_of self.new ≡ renamed from.now to.now (files_of self.old))) }
         ensures places { folders_of self.new ≡ folders_of self.old }
-        ensures time { Passes clock_of stopped_since_of files_of (AllOrNone (renamed from.now to.now)) self.old self.new }
-        ensures loss { Loses clock_of files_of lost_since_of loose_of (renaming from.now to.now) self.old self.new }
+        ensures time { Passes memory_meaning (AllOrNone (renamed from.now to.now)) self.old self.new }
+        ensures loss { Loses memory_meaning (renaming from.now to.now) self.old self.new }
         ensures settled { OnOk result ((q : List ℕ) → loose_of self.new q → handed_on from.now to.now (loose_of self.old) q) }
         ensures last { self.new.last ≡ FolderCall.Rename }
         ensures cause { HasCause (faults_of self.old) (faults_of self.new) result }
@@ -251,8 +254,8 @@ impl Folder for MemoryFolder {
         ensures done { IfOk result (λ len. (bytes : List ℕ) × (get (files_of self.old) path.now ≡ Some bytes)
             × (len ≡ length bytes) × (self.new.opened ≡ mode.Reading bytes)) }
         ensures places { folders_of self.new ≡ folders_of self.old }
-        ensures time { Passes clock_of stopped_since_of files_of Same self.old self.new }
-        ensures loss { Loses clock_of files_of lost_since_of loose_of looking self.old self.new }
+        ensures time { Passes memory_meaning Same self.old self.new }
+        ensures loss { Loses memory_meaning looking self.old self.new }
         ensures last { self.new.last ≡ FolderCall.Open }
         ensures cause { HasCause (faults_of self.old) (faults_of self.new) result }
         ensures found { IsErrOf result FolderFault.NotFound → get (files_of self.old) path.now ≡ None }
@@ -270,8 +273,8 @@ impl Folder for MemoryFolder {
             IfOk result (λ piece. (rest : List ℕ) × (self.new.opened ≡ mode.Reading rest) × Reads max left piece.items rest) }
         ensures whole { (left : List ℕ) → self.old.opened ≡ mode.Reading left → IfOk result (λ piece. piece.items ≡ take max left) }
         ensures places { folders_of self.new ≡ folders_of self.old }
-        ensures time { Passes clock_of stopped_since_of files_of Same self.old self.new }
-        ensures loss { Loses clock_of files_of lost_since_of loose_of looking self.old self.new }
+        ensures time { Passes memory_meaning Same self.old self.new }
+        ensures loss { Loses memory_meaning looking self.old self.new }
         ensures last { self.new.last ≡ FolderCall.Read }
         ensures cause { HasCause (faults_of self.old) (faults_of self.new) result }
         ensures found { IsErrOf result FolderFault.NotFound → ⊥ }
@@ -287,8 +290,8 @@ impl Folder for MemoryFolder {
         ensures done { IfOk result (λ listed. IsTrue (can_list (folders_of self.old) dir.now)
             × (map name_of listed.items ≡ listing dir.now (files_of self.old))) }
         ensures places { folders_of self.new ≡ folders_of self.old }
-        ensures time { Passes clock_of stopped_since_of files_of Same self.old self.new }
-        ensures loss { Loses clock_of files_of lost_since_of loose_of looking self.old self.new }
+        ensures time { Passes memory_meaning Same self.old self.new }
+        ensures loss { Loses memory_meaning looking self.old self.new }
         ensures last { self.new.last ≡ FolderCall.List }
         ensures cause { HasCause (faults_of self.old) (faults_of self.new) result }
         ensures found { IsErrOf result FolderFault.NotFound → ¬ IsTrue (can_list (folders_of self.old) dir.now) }
@@ -304,8 +307,8 @@ impl Folder for MemoryFolder {
         ensures done { OnOk result ((get (files_of self.old) path.now ≢ None)
             × (files_of self.new ≡ removed path.now (files_of self.old))) }
         ensures places { folders_of self.new ≡ folders_of self.old }
-        ensures time { Passes clock_of stopped_since_of files_of (AllOrNone (removed path.now)) self.old self.new }
-        ensures loss { Loses clock_of files_of lost_since_of loose_of (removing path.now) self.old self.new }
+        ensures time { Passes memory_meaning (AllOrNone (removed path.now)) self.old self.new }
+        ensures loss { Loses memory_meaning (removing path.now) self.old self.new }
         ensures settled { OnOk result ((q : List ℕ) → loose_of self.new q → firmed path.now (loose_of self.old) q) }
         ensures last { self.new.last ≡ FolderCall.Remove }
         ensures cause { HasCause (faults_of self.old) (faults_of self.new) result }

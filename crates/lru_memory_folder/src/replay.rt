@@ -1,14 +1,15 @@
 // The calls of a folder in memory, made again to see what a loss of power may leave.
-ghost use Rattle.std.specs.Prelude.{◌≡◌, ◌⊎◌, [], ◌∷◌, IfOk, IfSome, OnOk, None, Some, true};
+ghost use Rattle.std.specs.Prelude.{◌≡◌, ℕ, [], IfOk, IsSome, OnOk, None, true, false};
 ghost use Rattle.std.specs.FinMap.{get};
-ghost use Rattle.lru_memory_folder.specs.DeedInside.{deed_of};
+ghost use Rattle.lru_memory_folder.specs.DeedInside.{deed_of, noted_of};
 ghost use Rattle.lru_memory_folder.specs.HeldInside.{entries_of, files_in};
 ghost use Rattle.lru_memory_folder.specs.History.{History, with_call};
-ghost use Rattle.lru_memory_folder.specs.ReplayInside.{IsReplay, IsSync, loss_in};
-ghost use Rattle.lru_memory_folder.specs.MarksInside.{given_by, lost_after, lost_done, lost_failed, marked, put_some};
+ghost use Rattle.lru_memory_folder.specs.Kept.{changes_names, is_synced, IsMarked};
+ghost use Rattle.lru_memory_folder.specs.ReplayInside.{Counts, IsReplay, kept_of, loss_in};
+ghost use Rattle.lru_memory_folder.specs.MarksInside.{lost_after, lost_done, lost_failed, marked, put_some};
 
 use crate::calls::{Call, End, Ended};
-use crate::held::{Held, copy_all, find, give, put, take_out};
+use crate::held::{Held, copy_all, find, give_name, put, take_out};
 use crate::journal::apply;
 use std::alloc::{AllocError, Global};
 
@@ -21,7 +22,7 @@ pub(crate) struct Replay {
     /// What `lost` was before the first name change that is not kept, if there was one since the last sync.
     pub(crate) chosen: Option<Held>,
     /// How many name changes are still to be kept.
-    names_left: usize,
+    pub(crate) names_left: usize,
 }
 
 /// Puts the one byte into a path that is there.
@@ -44,23 +45,6 @@ fn restore(alloc: Global, lost: &mut Held, held: &Held, path: &str) -> Result<()
     }
 }
 
-/// Gives a name away with its bytes. A name that is not there has none to give, and changes no file.
-fn hand_on(
-    alloc: Global,
-    lost: &mut Held,
-    held: &Held,
-    from: &str,
-    to: &str,
-) -> Result<(), AllocError>
-    ensures { OnOk result (files_in lost.new.entries ≡ given_by (get (files_in lost.old.entries) from.now) from.now to.now (files_in held.now.entries) (files_in lost.old.entries)) }
-{
-    let Some(bytes) = find(lost, from) else {
-        return restore(alloc, lost, held, to);
-    };
-    let bytes = bytes.to_vec(alloc)?;
-    give(alloc, lost, from, to, bytes)
-}
-
 /// Does to what a loss leaves what the whole of a call does, which left these files.
 fn lose_whole(
     alloc: Global,
@@ -74,7 +58,7 @@ fn lose_whole(
     match call {
         Call::Create(path) => mark(alloc, lost, held, path.as_str(), byte),
         Call::Write(path, _) => mark(alloc, lost, held, path.as_str(), byte),
-        Call::Rename(from, to) => hand_on(alloc, lost, held, from.as_str(), to.as_str()),
+        Call::Rename(from, to) => give_name(alloc, lost, from.as_str(), to.as_str()),
         Call::Remove(path) => {
             take_out(lost, path.as_str());
             Ok(())
@@ -123,13 +107,15 @@ fn lose(
 
 /// Whether the call was the whole of a sync.
 fn is_sync(ended: &Ended) -> bool
-    ensures { ¬ (result ≡ true) → ¬ IsSync (deed_of ended.now.call) ended.now.end }
+    ensures { result ≡ is_synced (noted_of ended.now) }
 {
     matches!((&ended.call, ended.end), (Call::Sync(_), End::Done))
 }
 
 /// Whether the call was the whole of a change of names.
-fn changes_names(ended: &Ended) -> bool {
+fn changes_names(ended: &Ended) -> bool
+    ensures { result ≡ changes_names (noted_of ended.now) }
+{
     matches!(
         (&ended.call, ended.end),
         (
@@ -142,7 +128,7 @@ fn changes_names(ended: &Ended) -> bool {
 impl Replay {
     /// Before the first call. `names`: how many name changes are kept.
     pub(crate) fn new(begun: &Held, names: usize) -> Result<Self, AllocError>
-        ensures { IfOk result (IsReplay (record { begun = entries_of begun.now.entries; calls = [] })) }
+        ensures { IfOk result (λ replay. (byte : ℕ) → IsReplay names byte (record { begun = entries_of begun.now.entries; calls = [] }) replay) }
     {
         Ok(Replay {
             held: copy_all(begun)?,
@@ -152,23 +138,39 @@ impl Replay {
         })
     }
 
+    /// Before a change of names: it is one of those that are kept, or what a loss leaves before it is chosen.
+    fn count(&mut self) -> Result<(), AllocError>
+        requires { self.old.chosen ≡ None }
+        ensures held { self.new.held ≡ self.old.held }
+        ensures lost { self.new.lost ≡ self.old.lost }
+        ensures counts { OnOk result (Counts self.new.chosen (λ files. files_in files.entries) self.old.names_left (files_in self.old.lost.entries) self.new.names_left) }
+    {
+        if self.names_left == 0 {
+            self.chosen = Some(copy_all(&self.lost)?);
+        } else {
+            self.names_left -= 1;
+        }
+        Ok(())
+    }
+
     /// Before a call: a sync makes all that came before it safe, and of the name changes after it `names` are kept.
     fn choose(&mut self, ended: &Ended, names: usize) -> Result<(), AllocError>
         ensures held { self.new.held ≡ self.old.held }
         ensures lost { self.new.lost ≡ self.old.lost }
-        ensures sync { OnOk result (IsSync (deed_of ended.now.call) ended.now.end → self.new.chosen ≡ None) }
-        ensures chosen { OnOk result (IfSome self.new.chosen (λ files.
-            (self.old.chosen ≡ Some files) ⊎ (files_in files.entries ≡ files_in self.old.lost.entries))) }
+        ensures sync { OnOk result (is_synced (noted_of ended.now) ≡ true → (self.new.chosen ≡ None) × (self.new.names_left ≡ names)) }
+        ensures chosen { OnOk result (is_synced (noted_of ended.now) ≡ false → IsSome self.old.chosen → self.new.chosen ≡ self.old.chosen) }
+        ensures others { OnOk result (is_synced (noted_of ended.now) ≡ false → changes_names (noted_of ended.now) ≡ false
+            → (self.new.chosen ≡ self.old.chosen) × (self.new.names_left ≡ self.old.names_left)) }
+        ensures counted { OnOk result (is_synced (noted_of ended.now) ≡ false → changes_names (noted_of ended.now) ≡ true → self.old.chosen ≡ None
+            → Counts self.new.chosen (λ files. files_in files.entries) self.old.names_left (files_in self.old.lost.entries) self.new.names_left) }
     {
         if is_sync(ended) {
             self.chosen = None;
             self.names_left = names;
-        } else if changes_names(ended) && self.chosen.is_none() {
-            if self.names_left == 0 {
-                self.chosen = Some(copy_all(&self.lost)?);
-            } else {
-                self.names_left -= 1;
-            }
+            return Ok(());
+        }
+        if changes_names(ended) && self.chosen.is_none() {
+            return self.count();
         }
         Ok(())
     }
@@ -181,7 +183,7 @@ impl Replay {
         names: usize,
         byte: u8,
     ) -> Result<(), AllocError>
-        ensures { OnOk result ((h : History) → IsReplay h self.old → IsReplay (with_call h (deed_of ended.now.call) ended.now.end) self.new) }
+        ensures { OnOk result ((h : History) → IsReplay names byte h self.old → IsReplay names byte (with_call h (deed_of ended.now.call) ended.now.end) self.new) }
     {
         self.choose(ended, names)?;
         apply(alloc, &mut self.held, &ended.call, ended.end)?;
@@ -191,7 +193,7 @@ impl Replay {
 
     /// What a loss of power leaves, once all calls were made.
     pub(crate) fn into_lost(self) -> Held
-        ensures { (h : History) → IsReplay h self → (loss_in h).maps (files_in result.entries) }
+        ensures { (h : History) (names byte : ℕ) → IsReplay names byte h self → IsMarked byte (loss_in (kept_of names h)) (files_in result.entries) }
     {
         let Replay { lost, chosen, .. } = self;
         match chosen {

@@ -1,6 +1,6 @@
 // The calls of a folder in memory, each with the fate that it is given.
-ghost use Rattle.std.specs.Prelude.{◌≡◌, ℕ, List, [], drop, length, map, true, is_some, IfOk, IsSome, MatchResult, OnOk, take};
-ghost use Rattle.std.specs.FinMap.{get, insert};
+ghost use Rattle.std.specs.Prelude.{◌≡◌, ℕ, List, [], drop, length, map, true, is_some, string_bytes, IfOk, IsSome, MatchResult, OnOk, take};
+ghost use Rattle.std.specs.FinMap.{get, insert, keys};
 ghost use Rattle.lru_folder.specs.Files.{bytes_at};
 ghost use Rattle.lru_folder.specs.Folder.{IsReading, IsWriting, written_path};
 ghost use Rattle.lru_folder.specs.Folder as mode;
@@ -11,10 +11,11 @@ ghost use Rattle.lru_memory_folder.specs.History.{end_of, files_left, Goes};
 ghost use Rattle.lru_memory_folder.specs.HeldInside.{files_in};
 ghost use Rattle.lru_memory_folder.specs.MadeInside.{folders_in, texts_of};
 ghost use Rattle.lru_memory_folder.specs.OpenInside.{opened_in};
-ghost use Rattle.lru_memory_folder.specs.ReplayInside.{loss_in};
+ghost use Rattle.lru_memory_folder.specs.Kept.{IsMarked};
+ghost use Rattle.lru_memory_folder.specs.ReplayInside.{kept_of, loss_in};
 
 use crate::calls::Call;
-use crate::held::{Held, bytes_of, holds, names_of, piece_at};
+use crate::held::{Held, bytes_of, holds, names_of, paths_of, piece_at};
 use crate::journal::Journal;
 use crate::open::{Open, set, shut};
 use crate::places::{folder_of, is_there, make_all};
@@ -71,7 +72,7 @@ impl Store {
 
     /// The store as a loss of power leaves it. It begins anew, with the folders that were made.
     pub(crate) fn after_loss(&self, names: usize, byte: u8) -> Result<Self, AllocError>
-        ensures files { IfOk result (λ store. (loss_in self.now.journal).maps (files_left store.journal)) }
+        ensures files { IfOk result (λ store. IsMarked byte (loss_in (kept_of names self.now.journal)) (files_left store.journal)) }
         ensures folders { IfOk result (λ store. texts_of store.made.items ≡ texts_of self.now.made.items) }
         ensures begins { IfOk result (λ store. store.journal.calls ≡ []) }
         ensures shut { IfOk result (λ store. store.file ≡ Open.Closed) }
@@ -84,6 +85,13 @@ impl Store {
             made,
             file: Open::Closed,
         })
+    }
+
+    /// The paths of the files, in byte order.
+    pub(crate) fn paths(&self) -> Result<Vec<String>, AllocError>
+        ensures { IfOk result (λ paths. map string_bytes paths.items ≡ keys (files_left self.now.journal)) }
+    {
+        paths_of(self.alloc, self.held())
     }
 
     /// The files now.

@@ -2,6 +2,7 @@
 use Rattle.std.proofs.Common.{ℕ, List, [], ◌∷◌, ◌++◌, Some, None, Ok, Err, refl, subst, Bool, suc, arith}
 use Rattle.std.specs.Prelude.{Option, Result, All}
 use Rattle.lru_shard.specs.declared.unit.Refused.{Refused}
+use Rattle.lru_shard.specs.declared.unit.RefusedUpdate.{RefusedUpdate}
 use Rattle.lru_shard.specs.declared.unit.Cause.{Cause}
 use Rattle.lru_shard.specs.declared.unit.Cause.TheVariants.{Memory, Weight, Length}
 use Rattle.lru_runs.specs.declared.calls.Call.{Call}
@@ -9,7 +10,7 @@ use Rattle.lru_runs.specs.declared.calls.Reply.{Reply}
 use Rattle.lru_shard.specs.Row.{Row, row_of}
 use Rattle.lru_shard.specs.Shard.{Shard}
 use Rattle.lru_shard.specs.Unit.{AdmitsMade, IncrementsRow, RefusesNew, AdmitsGiven, UpdatesRow}
-use Rattle.lru_rules.specs.ShardCalls.{IncrementsTo, UpdatesFrom}
+use Rattle.lru_rules.specs.ShardCalls.{IncrementsTo, told, UpdatesFrom}
 use Rattle.rand_core.specs.Stream.{Stream}
 use Rattle.lru_cores.specs.Core.{Core, ActsOn}
 use Rattle.lru_cores.specs.CoreCalls.{CoreIncrements, CoreUpdates}
@@ -45,23 +46,23 @@ module _ {T : Type 0} where
     increments_more old k delta most answer new h = acts_more _ _ (λ a b. to_more a k delta most answer b) old _ new h
 
   module _ (C D : T → ℕ → ℕ → T → Type 0) (P Q : T × ℕ → Type 0) (changes : (old : T) (weight given : ℕ) (new : T) → C old weight given new → D old weight given new) (more : (made : T × ℕ) → P made → Q made) where
-    refused_more : (a : Shard T) (cause : Cause) (held : Option (T × ℕ)) → RefusesNew P a cause held → RefusesNew Q a cause held
-    refused_more a Length held h = h
-    refused_more a Memory held h = h
-    refused_more a Weight held h = (h.0, (more h.0 h.1.0, h.1.1))
+    refused_more : (a : Shard T) (cause : Cause) (w : ℕ) (held : Option (T × ℕ)) → RefusesNew P a cause w held → RefusesNew Q a cause w held
+    refused_more a Length w held h = h
+    refused_more a Memory w held h = h
+    refused_more a Weight w held h = (h.0, (more h.0 h.1.0, h.1.1))
 
-    given_more : (a : Shard T) (k : ℕ) (answer : Result (Option ℕ × ℕ) (Refused (Option (T × ℕ)))) (b : Shard T) → AdmitsGiven P a k answer b → AdmitsGiven Q a k answer b
+    given_more : (a : Shard T) (k : ℕ) (answer : Result (Option ℕ × ℕ) (RefusedUpdate T)) (b : Shard T) → AdmitsGiven P a k answer b → AdmitsGiven Q a k answer b
     given_more a k (Ok answer) b h = (h.0, (more h.0 h.1.0, h.1.1))
-    given_more a k (Err refused) b h = (refused_more a refused.cause refused.held h.0, h.1)
+    given_more a k (Err refused) b h = (refused_more a refused.cause refused.weight refused.held h.0, h.1)
 
-    updated_more : (a : Shard T) (k : ℕ) (o : Option (Row T)) (answer : Result (Option ℕ × ℕ) (Refused (Option (T × ℕ)))) (b : Shard T) → UpdatesRow C P a k o answer b → UpdatesRow D Q a k o answer b
+    updated_more : (a : Shard T) (k : ℕ) (o : Option (Row T)) (answer : Result (Option ℕ × ℕ) (RefusedUpdate T)) (b : Shard T) → UpdatesRow C P a k o answer b → UpdatesRow D Q a k o answer b
     updated_more a k (Some r) (Ok answer) b h = (h.0, (h.1.0, (changes r.value r.weight h.1.0 h.0 h.1.1.0, h.1.1.1)))
     updated_more a k (Some r) (Err refused) b h = (h.0, (h.1.0, (changes r.value r.weight h.1.0 h.0 h.1.1.0, h.1.1.1)))
     updated_more a k None answer b h = given_more a k answer b h
 
     from_more : (a : Shard T) (k : ℕ) (answer : Result (Option ℕ) (Refused (Option (T × ℕ)))) (b : Shard T) → UpdatesFrom C P a k answer b → UpdatesFrom D Q a k answer b
     from_more a k (Ok was) b h = (h.0, updated_more a k (row_of a.rows k) (Ok (was, h.0)) b h.1)
-    from_more a k (Err refused) b h = updated_more a k (row_of a.rows k) (Err refused) b h
+    from_more a k (Err refused) b h = (h.0, updated_more a k (row_of a.rows k) (Err (told refused h.0)) b h.1)
 
     -- `update_or_admit` with what is known of its closures
     pub updates_more : (old : Core T) (k : ℕ) (answer : Result (Option ℕ) (Refused (Option (T × ℕ)))) (new : Core T) → CoreUpdates C P old k answer new → CoreUpdates D Q old k answer new

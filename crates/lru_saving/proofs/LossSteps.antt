@@ -42,10 +42,10 @@ module _ {F : Type 0} (m : Meaning F) (temp path bytes : List ℕ) (apart : temp
     (law : (f : Files) → IsSpread (m.loose start) (m.files start) f → m.lost_since start (m.clock start) f) where
   -- the calls so far
   abbrev Lost : F → Type 0
-  Lost = LosesOnly m.clock m.lost_since (IsOldOrWhole temp path bytes) start
+  Lost = LosesOnly m (IsOldOrWhole temp path bytes) start
 
   abbrev From : Files → Type 0
-  From = IsFromStart m.clock m.lost_since (IsOldOrWhole temp path bytes) start
+  From = IsFromStart m (IsOldOrWhole temp path bytes) start
 
   -- nothing has changed but at the temporary path
   abbrev pub IsApart : Files → Type 0
@@ -124,25 +124,25 @@ module _ {F : Type 0} (m : Meaning F) (temp path bytes : List ℕ) (apart : temp
   Spares = SparesFile m temp path bytes start
 
   pub so_created : (new : F) (at : List ℕ) → at ≡ temp → ((f : Files) → m.stopped_since start (m.clock start) f → f ≡ m.files start)
-      → Passes m.clock m.stopped_since m.files (AllOrNone (created at)) start new → Loses m.clock m.files m.lost_since m.loose (creating at) start new → Spares new
+      → Passes m (AllOrNone (created at)) start new → Loses m (creating at) start new → Spares new
   so_created new at is only passed lost =
-      let call = subst (λ (p : List ℕ). Loses m.clock m.files m.lost_since m.loose (creating p) start new) is lost in
-      let none = loss_started m.clock m.lost_since (IsOldOrWhole temp path bytes) start (same_map temp path bytes apart) in
+      let call = subst (λ (p : List ℕ). Loses m (creating p) start new) is lost in
+      let none = loss_started m (IsOldOrWhole temp path bytes) start (same_map temp path bytes apart) in
       record {
-        any_moment = after_create m.clock m.stopped_since m.files temp path bytes apart start new at is only passed;
-        any_loss = loses_on m.clock m.files m.lost_since m.loose (IsOldOrWhole temp path bytes) (creating temp) start start new passed.later none call
+        any_moment = after_create m temp path bytes apart start new at is only passed;
+        any_loss = loses_on m (IsOldOrWhole temp path bytes) (creating temp) start start new passed.later none call
             (λ f s. ⊎_elim (from_overwritten start none f)
             (from_apart (created temp (m.files start)) (loosened temp (m.loose start)) (λ q ne. get-insert_other (m.files start) temp [] q ne) (λ q l. l) f) s);
         loosens = call.loosens;
       }
 
   pub so_written : (mid new : F) (mode : Opened) → Spares mid → IsApart (m.files mid) → get (m.files mid) temp ≡ Some [] → mode ≡ Writing temp
-      → Passes m.clock m.stopped_since m.files (SomeFront (written_path mode) bytes) mid new → Loses m.clock m.files m.lost_since m.loose (writing (written_path mode) bytes) mid new → Spares new
+      → Passes m (SomeFront (written_path mode) bytes) mid new → Loses m (writing (written_path mode) bytes) mid new → Spares new
   so_written mid new mode so_far same empty is passed lost =
-      let call = subst (λ (o : Opened). Loses m.clock m.files m.lost_since m.loose (writing (written_path o) bytes) mid new) is lost in
+      let call = subst (λ (o : Opened). Loses m (writing (written_path o) bytes) mid new) is lost in
       record {
-        any_moment = after_write m.clock m.stopped_since m.files temp path bytes apart start mid new mode empty so_far.any_moment is passed;
-        any_loss = loses_on m.clock m.files m.lost_since m.loose (IsOldOrWhole temp path bytes) (writing temp bytes) start mid new passed.later so_far.any_loss call
+        any_moment = after_write m temp path bytes apart start mid new mode empty so_far.any_moment is passed;
+        any_loss = loses_on m (IsOldOrWhole temp path bytes) (writing temp bytes) start mid new passed.later so_far.any_loss call
             (λ f s. ⊎_elim (from_overwritten mid so_far.any_loss f)
             (from_apart (appended temp bytes (m.files mid)) (loosened temp (m.loose mid)) (λ q ne. get-insert_other (m.files mid) temp (bytes_at (m.files mid) temp ++ bytes) q ne ∙ same q ne)
             (λ q l. ⊎_elim inl (so_far.loosens q) l) f) s);
@@ -150,15 +150,15 @@ module _ {F : Type 0} (m : Meaning F) (temp path bytes : List ℕ) (apart : temp
       }
 
   -- a call that changes no file
-  pub so_looked : (mid new : F) → Spares mid → Passes m.clock m.stopped_since m.files Same mid new → Loses m.clock m.files m.lost_since m.loose looking mid new → Spares new
+  pub so_looked : (mid new : F) → Spares mid → Passes m Same mid new → Loses m looking mid new → Spares new
   so_looked mid new so_far passed lost = record {
-    any_moment = after_flush m.clock m.stopped_since m.files temp path bytes apart start mid new so_far.any_moment passed;
-    any_loss = loses_on m.clock m.files m.lost_since m.loose (IsOldOrWhole temp path bytes) looking start mid new passed.later so_far.any_loss lost (λ f s. absurd s);
+    any_moment = after_flush m temp path bytes apart start mid new so_far.any_moment passed;
+    any_loss = loses_on m (IsOldOrWhole temp path bytes) looking start mid new passed.later so_far.any_loss lost (λ f s. absurd s);
     loosens = λ q l. so_far.loosens q (lost.loosens q l);
   }
 
   -- after the sync the temporary file is no longer loose
-  pub firm_then : (mid new : F) (mode : Opened) → Spares mid → mode ≡ Writing temp → IsSynced m.clock m.files m.lost_since m.loose (written_path mode) mid new
+  pub firm_then : (mid new : F) (mode : Opened) → Spares mid → mode ≡ Writing temp → IsSynced m (written_path mode) mid new
       → (q : List ℕ) → m.loose new q → firmed temp (loosened temp (m.loose start)) q
   firm_then mid new mode so_far is synced q l =
       let h = subst (λ (o : Opened). firmed (written_path o) (m.loose mid) q) is (synced.firm q l) in
@@ -166,12 +166,12 @@ module _ {F : Type 0} (m : Meaning F) (temp path bytes : List ℕ) (apart : temp
 
   pub so_renamed : (mid new : F) (from to : List ℕ) → from ≡ temp → to ≡ path → Spares mid → IsApart (m.files mid) → get (m.files mid) temp ≡ Some bytes
       → ((q : List ℕ) → m.loose mid q → firmed temp (loosened temp (m.loose start)) q)
-      → Passes m.clock m.stopped_since m.files (AllOrNone (renamed from to)) mid new → Loses m.clock m.files m.lost_since m.loose (renaming from to) mid new → Spares new
+      → Passes m (AllOrNone (renamed from to)) mid new → Loses m (renaming from to) mid new → Spares new
   so_renamed mid new from to from_is to_is so_far same whole firm passed lost =
-      let call = subst (λ (p : List ℕ × List ℕ). Loses m.clock m.files m.lost_since m.loose (renaming p.0 p.1) mid new) (λ i. (from_is i, to_is i)) lost in
+      let call = subst (λ (p : List ℕ × List ℕ). Loses m (renaming p.0 p.1) mid new) (λ i. (from_is i, to_is i)) lost in
       record {
-        any_moment = after_rename m.clock m.stopped_since m.files temp path bytes apart start mid new from to from_is to_is so_far.any_moment whole passed;
-        any_loss = loses_on m.clock m.files m.lost_since m.loose (IsOldOrWhole temp path bytes) (renaming temp path) start mid new passed.later so_far.any_loss call
+        any_moment = after_rename m temp path bytes apart start mid new from to from_is to_is so_far.any_moment whole passed;
+        any_loss = loses_on m (IsOldOrWhole temp path bytes) (renaming temp path) start mid new passed.later so_far.any_loss call
             (from_renamed (m.files mid) (m.loose mid) same whole firm);
         loosens = λ q l. ⊎_elim (so_far.loosens q) (λ h. inr (not_loose (m.files mid) (m.loose mid) same whole firm q h).1) (call.loosens q l);
       }

@@ -4,6 +4,7 @@ use Rattle.std.specs.FinMap.{get}
 use Rattle.std.proofs.lemmas.List.{take_min, take-append-le}
 use Rattle.std.proofs.Math.Seq.{take-append-add, take-append_seam}
 use Rattle.lru_folder.specs.Files.{Files, bytes_at, appended, SomeFront}
+use Rattle.lru_folder.specs.Meaning.{Meaning}
 use Rattle.lru_folder.specs.Folder.{Passes}
 use Rattle.lru_folder.specs.Losses.{IsSpread, Loses, loss_of, loosened, writing}
 use Rattle.lru_folder.proofs.LossLemmas.{spread-more, spread-then, spread-overwritten, spread-appended}
@@ -33,73 +34,71 @@ take_behind done piece rest n =
     ∙ sym (take-append-add done (piece ++ rest) (min n (length piece)))
 
 -- The pieces so far, of a file that was there: what is left of the bytes, and what they have done.
-pub record WritesSoFar {F : Type 0} (clock : F → ℕ) (stopped_since : F → ℕ → Files → Type 0) (files : F → Files) (lost_since : F → ℕ → Files → Type 0) (loose : F → List ℕ → Type 0)
-    (path bytes : List ℕ) (old mid : F) (rest : List ℕ) : Type 0 where
+pub record WritesSoFar {F : Type 0} (meaning : Meaning F) (path bytes : List ℕ) (old mid : F) (rest : List ℕ) : Type 0 where
   pub done : List ℕ
   pub parts : done ++ rest ≡ bytes
-  pub now : (held : List ℕ) → get (files old) path ≡ Some held → files mid ≡ appended path done (files old)
-  pub time : (held : List ℕ) → get (files old) path ≡ Some held → Passes clock stopped_since files (SomeFront path bytes) old mid
-  pub loss : (held : List ℕ) → get (files old) path ≡ Some held → Loses clock files lost_since loose (writing path bytes) old mid
+  pub now : (held : List ℕ) → get (meaning.files old) path ≡ Some held → meaning.files mid ≡ appended path done (meaning.files old)
+  pub time : (held : List ℕ) → get (meaning.files old) path ≡ Some held → Passes meaning (SomeFront path bytes) old mid
+  pub loss : (held : List ℕ) → get (meaning.files old) path ≡ Some held → Loses meaning (writing path bytes) old mid
 
-module _ {F : Type 0} (clock : F → ℕ) (stopped_since : F → ℕ → Files → Type 0) (files : F → Files) (lost_since : F → ℕ → Files → Type 0) (loose : F → List ℕ → Type 0)
-    (path bytes : List ℕ) (old : F) where
+module _ {F : Type 0} (meaning : Meaning F) (path bytes : List ℕ) (old : F) where
   abbrev pub SoFar : F → List ℕ → Type 0
-  SoFar = WritesSoFar clock stopped_since files lost_since loose path bytes old
+  SoFar = WritesSoFar meaning path bytes old
 
   -- before the first
   pub pieces_none : (rest : List ℕ) → rest ≡ bytes → SoFar old rest
   pieces_none rest is = record {
     done = [];
     parts = is;
-    now = λ held here. sym (appended-nil path held (files old) here);
+    now = λ held here. sym (appended-nil path held (meaning.files old) here);
     time = λ held here. record { later = omega arith; nothing_else = λ t m le s. inl s; stays = λ t m le s. s; leaves = inl refl };
     loss = λ held here. record { nothing_else = λ t m le s. inl s; stays = λ t m le s. s; now = λ m s. inl s; loosens = λ q l. inr l };
   }
 
   -- a part of one piece more is a front of all
-  front : (mid : F) (piece rest : List ℕ) → (so_far : SoFar mid (piece ++ rest)) → (held : List ℕ) → get (files old) path ≡ Some held
-      → (m : Files) → SomeFront path piece (files mid) m → SomeFront path bytes (files old) m
+  front : (mid : F) (piece rest : List ℕ) → (so_far : SoFar mid (piece ++ rest)) → (held : List ℕ) → get (meaning.files old) path ≡ Some held
+      → (m : Files) → SomeFront path piece (meaning.files mid) m → SomeFront path bytes (meaning.files old) m
   front mid piece rest so_far held here m (inl e) =
-      inr (length so_far.done, e ∙ so_far.now held here ∙ ap (λ (v : List ℕ). appended path v (files old)) (sym (take-append_seam so_far.done (piece ++ rest)) ∙ ap (take (length so_far.done)) so_far.parts))
+      inr (length so_far.done, e ∙ so_far.now held here ∙ ap (λ (v : List ℕ). appended path v (meaning.files old)) (sym (take-append_seam so_far.done (piece ++ rest)) ∙ ap (take (length so_far.done)) so_far.parts))
   front mid piece rest so_far held here m (inr part) =
       inr (
         length so_far.done + min part.0 (length piece),
-        part.1 ∙ ap (appended path (take part.0 piece)) (so_far.now held here) ∙ appended-appended path so_far.done (take part.0 piece) (files old)
-            ∙ ap (λ (v : List ℕ). appended path v (files old)) (take_behind so_far.done piece rest part.0 ∙ ap (take (length so_far.done + min part.0 (length piece))) so_far.parts),
+        part.1 ∙ ap (appended path (take part.0 piece)) (so_far.now held here) ∙ appended-appended path so_far.done (take part.0 piece) (meaning.files old)
+            ∙ ap (λ (v : List ℕ). appended path v (meaning.files old)) (take_behind so_far.done piece rest part.0 ∙ ap (take (length so_far.done + min part.0 (length piece))) so_far.parts),
       )
 
   -- one piece more, also where it fails
-  pub piece_passes : (mid new : F) (at piece rest : List ℕ) → at ≡ path → SoFar mid (piece ++ rest) → Passes clock stopped_since files (SomeFront at piece) mid new
-      → (held : List ℕ) → get (files old) path ≡ Some held → Passes clock stopped_since files (SomeFront path bytes) old new
+  pub piece_passes : (mid new : F) (at piece rest : List ℕ) → at ≡ path → SoFar mid (piece ++ rest) → Passes meaning (SomeFront at piece) mid new
+      → (held : List ℕ) → get (meaning.files old) path ≡ Some held → Passes meaning (SomeFront path bytes) old new
   piece_passes mid new at piece rest is so_far passed held here =
       let before = so_far.time held here in
-      let call = subst (λ (p : List ℕ). Passes clock stopped_since files (SomeFront p piece) mid new) is passed in
+      let call = subst (λ (p : List ℕ). Passes meaning (SomeFront p piece) mid new) is passed in
       record {
         later = omega (arith, before.later, call.later);
         nothing_else = λ t m le s. ⊎_elim (λ earlier. before.nothing_else t m le earlier) (λ part. inr (front mid piece rest so_far held here m part)) (call.nothing_else t m (omega (arith, le, before.later)) s);
         stays = λ t m le s. call.stays t m (omega (arith, le, before.later)) (before.stays t m le s);
-        leaves = front mid piece rest so_far held here (files new) call.leaves;
+        leaves = front mid piece rest so_far held here (meaning.files new) call.leaves;
       }
 
   -- what it adds to what a loss of power may leave, all of them add
-  adds : (mid : F) (piece rest : List ℕ) → (so_far : SoFar mid (piece ++ rest)) → (held : List ℕ) → get (files old) path ≡ Some held
-      → (m : Files) → (writing path piece).maps (loss_of clock files lost_since loose mid) m → (writing path bytes).maps (loss_of clock files lost_since loose old) m
+  adds : (mid : F) (piece rest : List ℕ) → (so_far : SoFar mid (piece ++ rest)) → (held : List ℕ) → get (meaning.files old) path ≡ Some held
+      → (m : Files) → (writing path piece).maps (loss_of meaning mid) m → (writing path bytes).maps (loss_of meaning old) m
   adds mid piece rest so_far held here m (inl h) = ⊎_elim (λ s. inl (h.0, (s, h.1.1))) (λ p. ⊎_elim
       (λ g. inl (g.0, (g.1.0, spread-then (λ q. q ≡ path) g.0 h.0 m g.1.1 h.1.1)))
-      (λ g. inr (spread-overwritten path (loosened path (loose old)) (appended path bytes (files old)) h.0 m (inl refl) g h.1.1)) p)
+      (λ g. inr (spread-overwritten path (loosened path (meaning.loose old)) (appended path bytes (meaning.files old)) h.0 m (inl refl) g h.1.1)) p)
       ((so_far.loss held here).now h.0 h.1.0)
   adds mid piece rest so_far held here m (inr h) =
-      let written = ap (appended path piece) (so_far.now held here) ∙ appended-appended path so_far.done piece (files old) in
-      inr (spread-appended path (so_far.done ++ piece) bytes (loose old) (files old) m
-      (spread-more (loosened path (loose mid)) (loosened path (loose old)) (appended path (so_far.done ++ piece) (files old)) m (λ q l. ⊎_elim inl (λ o. (so_far.loss held here).loosens q o) l)
-      (subst (λ f. IsSpread (loosened path (loose mid)) f m) written h)))
+      let written = ap (appended path piece) (so_far.now held here) ∙ appended-appended path so_far.done piece (meaning.files old) in
+      inr (spread-appended path (so_far.done ++ piece) bytes (meaning.loose old) (meaning.files old) m
+      (spread-more (loosened path (meaning.loose mid)) (loosened path (meaning.loose old)) (appended path (so_far.done ++ piece) (meaning.files old)) m (λ q l. ⊎_elim inl (λ o. (so_far.loss held here).loosens q o) l)
+      (subst (λ f. IsSpread (loosened path (meaning.loose mid)) f m) written h)))
 
-  pub piece_loses : (mid new : F) (at piece rest : List ℕ) → at ≡ path → SoFar mid (piece ++ rest) → Loses clock files lost_since loose (writing at piece) mid new
-      → (held : List ℕ) → get (files old) path ≡ Some held → Loses clock files lost_since loose (writing path bytes) old new
+  pub piece_loses : (mid new : F) (at piece rest : List ℕ) → at ≡ path → SoFar mid (piece ++ rest) → Loses meaning (writing at piece) mid new
+      → (held : List ℕ) → get (meaning.files old) path ≡ Some held → Loses meaning (writing path bytes) old new
   piece_loses mid new at piece rest is so_far lost held here =
       let before = so_far.loss held here in
       let le = (so_far.time held here).later in
-      let call = subst (λ (p : List ℕ). Loses clock files lost_since loose (writing p piece) mid new) is lost in
+      let call = subst (λ (p : List ℕ). Loses meaning (writing p piece) mid new) is lost in
       record {
         nothing_else = λ t m early s. ⊎_elim (before.nothing_else t m early) (λ p. inr (adds mid piece rest so_far held here m p)) (call.nothing_else t m (omega (arith, early, le)) s);
         stays = λ t m early s. call.stays t m (omega (arith, early, le)) (before.stays t m early s);
@@ -108,17 +107,17 @@ module _ {F : Type 0} (clock : F → ℕ) (stopped_since : F → ℕ → Files �
       }
 
   -- and where it was written
-  pub pieces_more : (mid new : F) (at piece rest : List ℕ) → at ≡ path → SoFar mid (piece ++ rest) → Passes clock stopped_since files (SomeFront at piece) mid new
-      → Loses clock files lost_since loose (writing at piece) mid new → files new ≡ appended at piece (files mid) → SoFar new rest
+  pub pieces_more : (mid new : F) (at piece rest : List ℕ) → at ≡ path → SoFar mid (piece ++ rest) → Passes meaning (SomeFront at piece) mid new
+      → Loses meaning (writing at piece) mid new → meaning.files new ≡ appended at piece (meaning.files mid) → SoFar new rest
   pieces_more mid new at piece rest is so_far passed lost written = record {
     done = so_far.done ++ piece;
     parts = append_assoc so_far.done piece rest ∙ so_far.parts;
-    now = λ held here. written ∙ ap (λ (p : List ℕ). appended p piece (files mid)) is ∙ ap (appended path piece) (so_far.now held here) ∙ appended-appended path so_far.done piece (files old);
+    now = λ held here. written ∙ ap (λ (p : List ℕ). appended p piece (meaning.files mid)) is ∙ ap (appended path piece) (so_far.now held here) ∙ appended-appended path so_far.done piece (meaning.files old);
     time = piece_passes mid new at piece rest is so_far passed;
     loss = piece_loses mid new at piece rest is so_far lost;
   }
 
   -- after the last
-  pub pieces_end : (mid : F) (rest : List ℕ) → rest ≡ [] → SoFar mid rest → (held : List ℕ) → get (files old) path ≡ Some held → files mid ≡ appended path bytes (files old)
+  pub pieces_end : (mid : F) (rest : List ℕ) → rest ≡ [] → SoFar mid rest → (held : List ℕ) → get (meaning.files old) path ≡ Some held → meaning.files mid ≡ appended path bytes (meaning.files old)
   pieces_end mid rest none so_far held here =
-      so_far.now held here ∙ ap (λ (v : List ℕ). appended path v (files old)) (sym (append-nil so_far.done) ∙ ap (λ (r : List ℕ). so_far.done ++ r) (sym none) ∙ so_far.parts)
+      so_far.now held here ∙ ap (λ (v : List ℕ). appended path v (meaning.files old)) (sym (append-nil so_far.done) ∙ ap (λ (r : List ℕ). so_far.done ++ r) (sym none) ∙ so_far.parts)

@@ -3,6 +3,7 @@ use Rattle.std.proofs.Common.{◌≡◌, ◌≢◌, ◌⊎◌, inl, inr, ℕ, Li
 use Rattle.std.specs.FinMap.{get, insert, remove}
 use Rattle.lru_folder.specs.Files.{Files, bytes_at, created, appended, renamed, AllOrNone, SomeFront, Same}
 use Rattle.lru_folder.proofs.FilesLemmas.{get-insert_same, get-insert_other, get-remove_same, get-remove_other, renamed-here}
+use Rattle.lru_folder.specs.Meaning.{Meaning}
 use Rattle.lru_folder.specs.Folder.{Opened, Writing, written_path, Passes, LeavesOnly}
 use Rattle.lru_folder.proofs.Moments.{started, goes_on}
 use Rattle.lru_saving.specs.Saving.{IsOldOrNew, IsSaved}
@@ -51,57 +52,57 @@ module _ (temp path bytes : List ℕ) (apart : temp ≢ path) (old : Files) wher
   rename_part m n h whole (inr e) = subst P (sym e) (saved _ (rename_whole m h whole))
 
 -- in time
-module _ {F : Type 0} (clock : F → ℕ) (stopped_since : F → ℕ → Files → Type 0) (files : F → Files) (temp path bytes : List ℕ) (apart : temp ≢ path) (start : F) where
+module _ {F : Type 0} (meaning : Meaning F) (temp path bytes : List ℕ) (apart : temp ≢ path) (start : F) where
   -- the calls so far left the file old or new
   abbrev pub Leaves : F → Type 0
-  Leaves = LeavesOnly clock stopped_since files (IsOldOrNew temp path bytes (files start)) start
+  Leaves = LeavesOnly meaning (IsOldOrNew temp path bytes (meaning.files start)) start
 
-  pub after_create : (new : F) (at : List ℕ) → at ≡ temp → ((m : Files) → stopped_since start (clock start) m → m ≡ files start)
-      → Passes clock stopped_since files (AllOrNone (created at)) start new → Leaves new
+  pub after_create : (new : F) (at : List ℕ) → at ≡ temp → ((m : Files) → meaning.stopped_since start (meaning.clock start) m → m ≡ meaning.files start)
+      → Passes meaning (AllOrNone (created at)) start new → Leaves new
   after_create new at is only call =
-      let P = IsOldOrNew temp path bytes (files start) in
-      let so_far = started clock stopped_since files P start only (unchanged temp path bytes apart (files start)) (unchanged temp path bytes apart (files start) (files start) (λ i. files start)) in
-      goes_on clock stopped_since files P (AllOrNone (created temp)) start start new so_far
-      (subst (λ (p : List ℕ). Passes clock stopped_since files (AllOrNone (created p)) start new) is call)
-      (λ m part. create_part temp path bytes apart (files start) (files start) m so_far.now part)
+      let P = IsOldOrNew temp path bytes (meaning.files start) in
+      let so_far = started meaning P start only (unchanged temp path bytes apart (meaning.files start)) (unchanged temp path bytes apart (meaning.files start) (meaning.files start) (λ i. meaning.files start)) in
+      goes_on meaning P (AllOrNone (created temp)) start start new so_far
+      (subst (λ (p : List ℕ). Passes meaning (AllOrNone (created p)) start new) is call)
+      (λ m part. create_part temp path bytes apart (meaning.files start) (meaning.files start) m so_far.now part)
 
   -- a file that was just created has no bytes
-  pub empty_at : (one : F) (at : List ℕ) → at ≡ temp → files one ≡ created at (files start) → get (files one) temp ≡ Some []
+  pub empty_at : (one : F) (at : List ℕ) → at ≡ temp → meaning.files one ≡ created at (meaning.files start) → get (meaning.files one) temp ≡ Some []
   empty_at one at is is_created =
-      ap (λ (f : Files). get f temp) (is_created ∙ ap (λ p. created p (files start)) is) ∙ get-insert_same (files start) temp []
+      ap (λ (f : Files). get f temp) (is_created ∙ ap (λ p. created p (meaning.files start)) is) ∙ get-insert_same (meaning.files start) temp []
 
-  pub open_at : (one : F) (mode : Opened) → mode ≡ Writing temp → get (files one) temp ≡ Some [] → get (files one) (written_path mode) ≡ Some []
-  open_at one mode is empty = ap (λ (o : Opened). get (files one) (written_path o)) is ∙ empty
+  pub open_at : (one : F) (mode : Opened) → mode ≡ Writing temp → get (meaning.files one) temp ≡ Some [] → get (meaning.files one) (written_path mode) ≡ Some []
+  open_at one mode is empty = ap (λ (o : Opened). get (meaning.files one) (written_path o)) is ∙ empty
 
-  pub after_write : (mid new : F) (mode : Opened) → get (files mid) temp ≡ Some [] → Leaves mid → mode ≡ Writing temp → Passes clock stopped_since files (SomeFront (written_path mode) bytes) mid new → Leaves new
+  pub after_write : (mid new : F) (mode : Opened) → get (meaning.files mid) temp ≡ Some [] → Leaves mid → mode ≡ Writing temp → Passes meaning (SomeFront (written_path mode) bytes) mid new → Leaves new
   after_write mid new mode empty so_far is call =
-      goes_on clock stopped_since files (IsOldOrNew temp path bytes (files start)) (SomeFront temp bytes) start mid new so_far
-      (subst (λ (o : Opened). Passes clock stopped_since files (SomeFront (written_path o) bytes) mid new) is call)
-      (λ m part. write_part temp path bytes apart (files start) (files mid) m empty so_far.now part)
+      goes_on meaning (IsOldOrNew temp path bytes (meaning.files start)) (SomeFront temp bytes) start mid new so_far
+      (subst (λ (o : Opened). Passes meaning (SomeFront (written_path o) bytes) mid new) is call)
+      (λ m part. write_part temp path bytes apart (meaning.files start) (meaning.files mid) m empty so_far.now part)
 
-  pub after_flush : (mid new : F) → Leaves mid → Passes clock stopped_since files Same mid new → Leaves new
+  pub after_flush : (mid new : F) → Leaves mid → Passes meaning Same mid new → Leaves new
   after_flush mid new so_far call =
-      goes_on clock stopped_since files (IsOldOrNew temp path bytes (files start)) Same start mid new so_far call
-      (λ m part. flush_part temp path bytes apart (files start) (files mid) m so_far.now part)
+      goes_on meaning (IsOldOrNew temp path bytes (meaning.files start)) Same start mid new so_far call
+      (λ m part. flush_part temp path bytes apart (meaning.files start) (meaning.files mid) m so_far.now part)
 
   -- what stands in the temporary file before the rename
-  pub whole : (one two three : F) (mode : Opened) (at : List ℕ) → at ≡ temp → files one ≡ created at (files start) → mode ≡ Writing temp
-      → files two ≡ appended (written_path mode) bytes (files one) → files three ≡ files two → get (files three) temp ≡ Some bytes
+  pub whole : (one two three : F) (mode : Opened) (at : List ℕ) → at ≡ temp → meaning.files one ≡ created at (meaning.files start) → mode ≡ Writing temp
+      → meaning.files two ≡ appended (written_path mode) bytes (meaning.files one) → meaning.files three ≡ meaning.files two → get (meaning.files three) temp ≡ Some bytes
   whole one two three mode at is is_created opened is_written same =
       let at_one = empty_at one at is is_created in
-      let none : bytes_at (files one) temp ≡ [] = ap (λ b. unwrap_or b []) at_one in
-      ap (λ (f : Files). get f temp) (same ∙ is_written ∙ ap (λ (o : Opened). appended (written_path o) bytes (files one)) opened)
-      ∙ get-insert_same (files one) temp (bytes_at (files one) temp ++ bytes) ∙ ap (λ (b : List ℕ). Some (b ++ bytes)) none
+      let none : bytes_at (meaning.files one) temp ≡ [] = ap (λ b. unwrap_or b []) at_one in
+      ap (λ (f : Files). get f temp) (same ∙ is_written ∙ ap (λ (o : Opened). appended (written_path o) bytes (meaning.files one)) opened)
+      ∙ get-insert_same (meaning.files one) temp (bytes_at (meaning.files one) temp ++ bytes) ∙ ap (λ (b : List ℕ). Some (b ++ bytes)) none
 
-  pub after_rename : (mid new : F) (from to : List ℕ) → from ≡ temp → to ≡ path → Leaves mid → get (files mid) temp ≡ Some bytes
-      → Passes clock stopped_since files (AllOrNone (renamed from to)) mid new → Leaves new
+  pub after_rename : (mid new : F) (from to : List ℕ) → from ≡ temp → to ≡ path → Leaves mid → get (meaning.files mid) temp ≡ Some bytes
+      → Passes meaning (AllOrNone (renamed from to)) mid new → Leaves new
   after_rename mid new from to from_is to_is so_far at call =
-      goes_on clock stopped_since files (IsOldOrNew temp path bytes (files start)) (AllOrNone (renamed temp path)) start mid new so_far
-      (subst (λ (p : List ℕ × List ℕ). Passes clock stopped_since files (AllOrNone (renamed p.0 p.1)) mid new) (λ i. (from_is i, to_is i)) call)
-      (λ m part. rename_part temp path bytes apart (files start) (files mid) m so_far.now at part)
+      goes_on meaning (IsOldOrNew temp path bytes (meaning.files start)) (AllOrNone (renamed temp path)) start mid new so_far
+      (subst (λ (p : List ℕ × List ℕ). Passes meaning (AllOrNone (renamed p.0 p.1)) mid new) (λ i. (from_is i, to_is i)) call)
+      (λ m part. rename_part temp path bytes apart (meaning.files start) (meaning.files mid) m so_far.now at part)
 
-  pub is_saved : (mid new : F) (from to : List ℕ) → from ≡ temp → to ≡ path → Leaves mid → get (files mid) temp ≡ Some bytes
-      → files new ≡ renamed from to (files mid) → IsSaved temp path bytes (files start) (files new)
+  pub is_saved : (mid new : F) (from to : List ℕ) → from ≡ temp → to ≡ path → Leaves mid → get (meaning.files mid) temp ≡ Some bytes
+      → meaning.files new ≡ renamed from to (meaning.files mid) → IsSaved temp path bytes (meaning.files start) (meaning.files new)
   is_saved mid new from to from_is to_is so_far at done =
-      subst (IsSaved temp path bytes (files start)) (sym (done ∙ (λ i. renamed (from_is i) (to_is i) (files mid))))
-      (rename_whole temp path bytes apart (files start) (files mid) so_far.now at)
+      subst (IsSaved temp path bytes (meaning.files start)) (sym (done ∙ (λ i. renamed (from_is i) (to_is i) (meaning.files mid))))
+      (rename_whole temp path bytes apart (meaning.files start) (meaning.files mid) so_far.now at)

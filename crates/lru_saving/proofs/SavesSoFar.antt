@@ -90,17 +90,17 @@ knows_one {E} dir file_name shards turns turn old new so_far left takes =
 
 module _ {F E : Type 0} (m : Meaning F) (dir file_name : List ℕ) (old : F) where
   -- once the folder is made, before the first turn
-  pub saves_none : (new : F) → ((f : Files) → m.stopped_since old (m.clock old) f → f ≡ m.files old) → Passes m.clock m.stopped_since m.files Same old new
-      → Loses m.clock m.files m.lost_since m.loose looking old new → MakesAll dir (m.folders old) (m.folders new) → has_slash file_name ≡ false → m.faults new ≡ m.faults old
+  pub saves_none : (new : F) → ((f : Files) → m.stopped_since old (m.clock old) f → f ≡ m.files old) → Passes m Same old new
+      → Loses m looking old new → MakesAll dir (m.folders old) (m.folders new) → has_slash file_name ≡ false → m.faults new ≡ m.faults old
       → SavesSoFar {E = E} m dir file_name [] old new new
   saves_none new only call loss made none same =
       let P = EachOldOrGiven {E = E} dir file_name [] (m.files old) in
-      let at_start = started m.clock m.stopped_since m.files P old only (none_yet dir file_name (m.files old)) (none_yet dir file_name (m.files old) (m.files old) refl) in
+      let at_start = started m P old only (none_yet dir file_name (m.files old)) (none_yet dir file_name (m.files old) (m.files old) refl) in
       record {
         each = record {
-          any_moment = goes_on m.clock m.stopped_since m.files P Same old old new at_start call (none_yet dir file_name (m.files old));
-          any_loss = loses_on m.clock m.files m.lost_since m.loose (EachOldOrGiven {E = E} dir file_name []) looking old old new call.later
-              (loss_started m.clock m.lost_since (EachOldOrGiven {E = E} dir file_name []) old (λ f. none_yet dir file_name f f refl)) loss (λ f s. absurd s);
+          any_moment = goes_on m P Same old old new at_start call (none_yet dir file_name (m.files old));
+          any_loss = loses_on m (EachOldOrGiven {E = E} dir file_name []) looking old old new call.later
+              (loss_started m (EachOldOrGiven {E = E} dir file_name []) old (λ f. none_yet dir file_name f f refl)) loss (λ f s. absurd s);
           kept = λ i t e. absurd (let below = get-below [] i t e in omega arith);
           firm = λ i t e. absurd (let below = get-below [] i t e in omega arith);
           refused = λ same i t e. absurd (let below = get-below [] i t e in omega arith);
@@ -117,10 +117,10 @@ module _ {F E : Type 0} (m : Meaning F) (dir file_name : List ℕ) (old : F) whe
       → SavesSoFar m dir file_name (turns ++ turn ∷ []) old made new
   saves_one turns turn made mid new small short so_far one = record {
     each = record {
-      any_moment = then_run m.clock m.stopped_since m.files _ _ (EachOldOrGiven dir file_name (turns ++ turn ∷ []) (m.files old)) old mid new so_far.each.any_moment one.any_moment
+      any_moment = then_run m _ _ (EachOldOrGiven dir file_name (turns ++ turn ∷ []) (m.files old)) old mid new so_far.each.any_moment one.any_moment
           (one_more dir file_name turns turn small (m.files old))
           (λ f h. its_own dir file_name turns turn small (m.files old) (m.files mid) f so_far.each.any_moment.now (whole_of dir file_name (length turns) turn (m.files mid) f h));
-      any_loss = then_loses m.clock m.lost_since (EachOldOrGiven dir file_name turns) (IsOldOrGivenWhole dir file_name (length turns) turn) (EachOldOrGiven dir file_name (turns ++ turn ∷ []))
+      any_loss = then_loses m (EachOldOrGiven dir file_name turns) (IsOldOrGivenWhole dir file_name (length turns) turn) (EachOldOrGiven dir file_name (turns ++ turn ∷ []))
           old mid new so_far.each.any_loss one.any_loss (one_more dir file_name turns turn small) (its_own dir file_name turns turn small);
       kept = EachTurn-push (IsKept dir file_name (m.files new)) turns turn
           (still_kept dir file_name turns turn small (m.files mid) (m.files new) (whole_of dir file_name (length turns) turn (m.files mid) (m.files new) one.any_moment.now) so_far.each.kept) one.kept;

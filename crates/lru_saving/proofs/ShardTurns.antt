@@ -34,8 +34,8 @@ module _ {F E : Type 0} (m : Meaning F) (dir file_name : List ℕ) (shard word :
   given_so : (failed : Option (ShardSaveFailure E)) (f : Files) → IsOldOrNew (temp_path dir file_name shard word) (shard_path dir file_name shard) bytes.items (m.files old) f → IsOldOrGiven dir file_name shard (turn failed) (m.files old) f
   given_so failed f h = record { file = h.file; remnant = h.remnant; others = h.others }
 
-  any_moment : (failed : Option (ShardSaveFailure E)) → LeavesOnly m.clock m.stopped_since m.files (IsOldOrNew (temp_path dir file_name shard word) (shard_path dir file_name shard) bytes.items (m.files old)) old new
-      → LeavesOnly m.clock m.stopped_since m.files (IsOldOrGiven dir file_name shard (turn failed) (m.files old)) old new
+  any_moment : (failed : Option (ShardSaveFailure E)) → LeavesOnly m (IsOldOrNew (temp_path dir file_name shard word) (shard_path dir file_name shard) bytes.items (m.files old)) old new
+      → LeavesOnly m (IsOldOrGiven dir file_name shard (turn failed) (m.files old)) old new
   any_moment failed h = record {
     later = h.later;
     each = λ f s. given_so failed f (h.each f s);
@@ -46,12 +46,12 @@ module _ {F E : Type 0} (m : Meaning F) (dir file_name : List ℕ) (shard word :
     ];
   }
 
-  whole_so : (failed : Option (ShardSaveFailure E)) (f : Files) → IsFromStart m.clock m.lost_since (IsOldOrWhole (temp_path dir file_name shard word) (shard_path dir file_name shard) bytes.items) old f
-      → IsFromStart m.clock m.lost_since (IsOldOrGivenWhole dir file_name shard (turn failed)) old f
+  whole_so : (failed : Option (ShardSaveFailure E)) (f : Files) → IsFromStart m (IsOldOrWhole (temp_path dir file_name shard word) (shard_path dir file_name shard) bytes.items) old f
+      → IsFromStart m (IsOldOrGivenWhole dir file_name shard (turn failed)) old f
   whole_so failed f h = (h.0, (h.1.0, record { file = h.1.1.file; others = h.1.1.others }))
 
-  any_loss : (failed : Option (ShardSaveFailure E)) → LosesOnly m.clock m.lost_since (IsOldOrWhole (temp_path dir file_name shard word) (shard_path dir file_name shard) bytes.items) old new
-      → LosesOnly m.clock m.lost_since (IsOldOrGivenWhole dir file_name shard (turn failed)) old new
+  any_loss : (failed : Option (ShardSaveFailure E)) → LosesOnly m (IsOldOrWhole (temp_path dir file_name shard word) (shard_path dir file_name shard) bytes.items) old new
+      → LosesOnly m (IsOldOrGivenWhole dir file_name shard (turn failed)) old new
   any_loss failed h = record {
     later = h.later;
     each = λ f s. whole_so failed f (h.each f s);
@@ -111,8 +111,8 @@ module _ {F E : Type 0} (m : Meaning F) (dir file_name : List ℕ) (shard word :
       → IfIo failure (λ e. HasReason (is_there (m.folders old) (folder_of (temp_path dir file_name shard word))) (m.faults old) (m.faults old) (blame_of e).cause)
       → SavesOne m dir file_name shard refused old old
   ends_early only named reason = record {
-    any_moment = started m.clock m.stopped_since m.files (IsOldOrGiven dir file_name shard refused (m.files old)) old only unchanged (unchanged (m.files old) refl);
-    any_loss = loss_started m.clock m.lost_since (IsOldOrGivenWhole dir file_name shard refused) old (λ f. record { file = inl refl; others = λ q p t. refl });
+    any_moment = started m (IsOldOrGiven dir file_name shard refused (m.files old)) old only unchanged (unchanged (m.files old) refl);
+    any_loss = loss_started m (IsOldOrGivenWhole dir file_name shard refused) old (λ f. record { file = inl refl; others = λ q p t. refl });
     kept = tt;
     firm = tt;
     gone = tt;

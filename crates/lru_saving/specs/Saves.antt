@@ -21,8 +21,8 @@ SaveResultOf E = Result (ShardSaveReport E) (ShardSaveError E)
 -- The folder was made, and no file has changed yet.
 pub record IsMade {F : Type 0} (m : Meaning F) (dir : List ℕ) (old made : F) : Type 0 where
   pub all : MakesAll dir (m.folders old) (m.folders made)
-  pub time : Passes m.clock m.stopped_since m.files Same old made
-  pub loss : Loses m.clock m.files m.lost_since m.loose looking old made
+  pub time : Passes m Same old made
+  pub loss : Loses m looking old made
   pub faults : m.faults made ≡ m.faults old
 
 -- Each shard has its turn: the closure is called for its bytes, a word is drawn, and the bytes are saved. `step`: what a
@@ -50,7 +50,7 @@ pub record SavesShards {F S E : Type 0} (m : Meaning F) (step : S → ℕ → Gi
   pub early : IsErrOf result (Setup Memory) → new ≡ old
   pub reason : m.keeps old → IfErr result (λ e. IfCreateDir e (HasReason true (m.faults old) (m.faults new)))
   pub parents : m.keeps old → IfErr result (λ e. IfSetup e (MakesSome dir (m.folders old) (m.folders new)))
-  pub time : m.keeps old → IfErr result (λ e. IfSetup e (Passes m.clock m.stopped_since m.files Same old new))
-  pub loss : m.keeps old → IfErr result (λ e. IfSetup e (Loses m.clock m.files m.lost_since m.loose looking old new))
+  pub time : m.keeps old → IfErr result (λ e. IfSetup e (Passes m Same old new))
+  pub loss : m.keeps old → IfErr result (λ e. IfSetup e (Loses m looking old new))
   pub drawn : IfErr result (λ e. IfSetup e (rest ≡ drawn_from))
   pub kept : m.keeps old ↔ m.keeps new

@@ -28,9 +28,9 @@ pub record IsOldOrWhole (temp path bytes : List ℕ) (old m : Files) : Type 0 wh
 -- What is safe at every moment of a save of one file.
 pub record SparesFile {F : Type 0} (m : Meaning F) (temp path bytes : List ℕ) (old new : F) : Type 0 where
   -- a stop leaves the file as it was, or with these bytes,
-  pub any_moment : LeavesOnly m.clock m.stopped_since m.files (IsOldOrNew temp path bytes (m.files old)) old new
+  pub any_moment : LeavesOnly m (IsOldOrNew temp path bytes (m.files old)) old new
   -- and a loss of power as a loss at the start could have left it, or with these bytes
-  pub any_loss : LosesOnly m.clock m.lost_since (IsOldOrWhole temp path bytes) old new
+  pub any_loss : LosesOnly m (IsOldOrWhole temp path bytes) old new
   -- the temporary file alone becomes loose
   pub loosens : (q : List ℕ) → m.loose new q → loosened temp (m.loose old) q
 

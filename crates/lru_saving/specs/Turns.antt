@@ -107,9 +107,9 @@ pub record EachOldOrGiven {E : Type 0} (dir file_name : List ℕ) (turns : List 
 -- What one turn does to the folder.
 pub record SavesOne {F E : Type 0} (m : Meaning F) (dir file_name : List ℕ) (shard : ℕ) (turn : SaveTurn E) (old new : F) : Type 0 where
   -- a stop at any moment leaves the shard's file old or whole new
-  pub any_moment : LeavesOnly m.clock m.stopped_since m.files (IsOldOrGiven dir file_name shard turn (m.files old)) old new
+  pub any_moment : LeavesOnly m (IsOldOrGiven dir file_name shard turn (m.files old)) old new
   -- and a loss of power leaves it as a loss at the start could have left it, or whole new
-  pub any_loss : LosesOnly m.clock m.lost_since (IsOldOrGivenWhole dir file_name shard turn) old new
+  pub any_loss : LosesOnly m (IsOldOrGivenWhole dir file_name shard turn) old new
   -- where the shard was saved, its file has the bytes given, which no loss of power changes, and its temp file is gone
   pub kept : IsKept dir file_name (m.files new) shard turn
   pub firm : IsFirm dir file_name (m.loose new) shard turn
@@ -128,9 +128,9 @@ pub record SavesOne {F E : Type 0} (m : Meaning F) (dir file_name : List ℕ) (s
 -- What all turns do to the folder.
 pub record SavesEach {F E : Type 0} (m : Meaning F) (dir file_name : List ℕ) (turns : List (SaveTurn E)) (old new : F) : Type 0 where
   -- a stop at any moment leaves each shard's file old or whole new
-  pub any_moment : LeavesOnly m.clock m.stopped_since m.files (EachOldOrGiven dir file_name turns (m.files old)) old new
+  pub any_moment : LeavesOnly m (EachOldOrGiven dir file_name turns (m.files old)) old new
   -- and for each map that a loss of power may leave, one map that a loss at the start could have left is the old one of all
-  pub any_loss : LosesOnly m.clock m.lost_since (EachOldOrGiven dir file_name turns) old new
+  pub any_loss : LosesOnly m (EachOldOrGiven dir file_name turns) old new
   pub kept : EachTurn (IsKept dir file_name (m.files new)) turns
   pub firm : EachTurn (IsFirm dir file_name (m.loose new)) turns
   -- where the device did not fail, a shard failed only where its bytes or memory were refused

@@ -24,19 +24,19 @@ fn write_pieces<F: Folder>(folder: &mut F, bytes: &[u8]) -> Result<(), FolderFau
     requires { IsWriting (F.opened folder.old) }
 
     // All pieces together do what one write of the bytes does, to a file that is there.
-    ensures done { F.keeps folder.old → (held : List ℕ) → get (F.files folder.old) (written_path (F.opened folder.old)) ≡ Some held
-        → OnOk result (F.files folder.new ≡ appended (written_path (F.opened folder.old)) bytes.now (F.files folder.old)) }
-    ensures time { F.keeps folder.old → (held : List ℕ) → get (F.files folder.old) (written_path (F.opened folder.old)) ≡ Some held
-        → Passes F.clock F.stopped_since F.files (SomeFront (written_path (F.opened folder.old)) bytes.now) folder.old folder.new }
-    ensures loss { F.keeps folder.old → (held : List ℕ) → get (F.files folder.old) (written_path (F.opened folder.old)) ≡ Some held
-        → Loses F.clock F.files F.lost_since F.loose (writing (written_path (F.opened folder.old)) bytes.now) folder.old folder.new }
+    ensures done { F.meaning.keeps folder.old → (held : List ℕ) → get (F.meaning.files folder.old) (written_path (F.opened folder.old)) ≡ Some held
+        → OnOk result (F.meaning.files folder.new ≡ appended (written_path (F.opened folder.old)) bytes.now (F.meaning.files folder.old)) }
+    ensures time { F.meaning.keeps folder.old → (held : List ℕ) → get (F.meaning.files folder.old) (written_path (F.opened folder.old)) ≡ Some held
+        → Passes F.meaning (SomeFront (written_path (F.opened folder.old)) bytes.now) folder.old folder.new }
+    ensures loss { F.meaning.keeps folder.old → (held : List ℕ) → get (F.meaning.files folder.old) (written_path (F.opened folder.old)) ≡ Some held
+        → Loses F.meaning (writing (written_path (F.opened folder.old)) bytes.now) folder.old folder.new }
 
     ensures mode { F.opened folder.new ≡ F.opened folder.old }
-    ensures last { F.keeps folder.old → OnErr result (F.last_call folder.new ≡ FolderCall.Write) }
-    ensures cause { F.keeps folder.old → HasCause (F.faults folder.old) (F.faults folder.new) result }
-    ensures found { F.keeps folder.old → IsErrOf result FolderFault.NotFound → ⊥ }
-    ensures places { F.keeps folder.old → F.folders folder.new ≡ F.folders folder.old }
-    ensures kept { F.keeps folder.old ↔ F.keeps folder.new }
+    ensures last { F.meaning.keeps folder.old → OnErr result (F.meaning.last_call folder.new ≡ FolderCall.Write) }
+    ensures cause { F.meaning.keeps folder.old → HasCause (F.meaning.faults folder.old) (F.meaning.faults folder.new) result }
+    ensures found { F.meaning.keeps folder.old → IsErrOf result FolderFault.NotFound → ⊥ }
+    ensures places { F.meaning.keeps folder.old → F.meaning.folders folder.new ≡ F.meaning.folders folder.old }
+    ensures kept { F.meaning.keeps folder.old ↔ F.meaning.keeps folder.new }
 {
     for piece in bytes.chunks(PIECE_LEN) {
         folder.write(piece)?;
@@ -54,23 +54,23 @@ pub(crate) fn save_file<F: Folder>(
 ) -> Result<(), ShardFileError>
     requires { string_bytes temp ≢ string_bytes path }
 
-    ensures saved { F.keeps folder.old
-        → OnOk result (IsSaved (string_bytes temp) (string_bytes path) bytes.now (F.files folder.old) (F.files folder.new)) }
+    ensures saved { F.meaning.keeps folder.old
+        → OnOk result (IsSaved (string_bytes temp) (string_bytes path) bytes.now (F.meaning.files folder.old) (F.meaning.files folder.new)) }
 
     // A stop, and a loss of power, at any moment leaves the file as it was, or with these bytes. A saved file is not loose.
-    ensures any_moment { F.keeps folder.old → SparesFile (record { files = F.files; folders = F.folders; clock = F.clock; stopped_since = F.stopped_since; lost_since = F.lost_since; loose = F.loose; faults = F.faults; last_call = F.last_call; keeps = F.keeps })
+    ensures any_moment { F.meaning.keeps folder.old → SparesFile F.meaning
         (string_bytes temp) (string_bytes path) bytes.now folder.old folder.new }
-    ensures firm { F.keeps folder.old → OnOk result (¬ F.loose folder.new (string_bytes path)) }
+    ensures firm { F.meaning.keeps folder.old → OnOk result (¬ F.meaning.loose folder.new (string_bytes path)) }
 
     // An error names the call that failed, and it has its reason.
     ensures step { IfErr result (IsStepOf (string_bytes temp) (string_bytes path)) }
-    ensures named { F.keeps folder.old → IfErr result (λ e. F.last_call folder.new ≡ failed_call e) }
-    ensures reason { F.keeps folder.old → IfErr result (λ e. HasReason
-        (is_there (F.folders folder.old) (folder_of (string_bytes temp))) (F.faults folder.old) (F.faults folder.new) (blame_of e).cause) }
+    ensures named { F.meaning.keeps folder.old → IfErr result (λ e. F.meaning.last_call folder.new ≡ failed_call e) }
+    ensures reason { F.meaning.keeps folder.old → IfErr result (λ e. HasReason
+        (is_there (F.meaning.folders folder.old) (folder_of (string_bytes temp))) (F.meaning.faults folder.old) (F.meaning.faults folder.new) (blame_of e).cause) }
 
-    ensures faults { F.keeps folder.old → OnOk result (F.faults folder.new ≡ F.faults folder.old) }
-    ensures places { F.keeps folder.old → F.folders folder.new ≡ F.folders folder.old }
-    ensures kept { F.keeps folder.old ↔ F.keeps folder.new }
+    ensures faults { F.meaning.keeps folder.old → OnOk result (F.meaning.faults folder.new ≡ F.meaning.faults folder.old) }
+    ensures places { F.meaning.keeps folder.old → F.meaning.folders folder.new ≡ F.meaning.folders folder.old }
+    ensures kept { F.meaning.keeps folder.old ↔ F.meaning.keeps folder.new }
 {
     if let Err(source) = folder.create(&temp) {
         return Err(ShardFileError::Create { path: temp, source });
@@ -122,9 +122,9 @@ pub(crate) fn save_shard<F: Folder, E: Drop>(
     given: Result<Vec<u8>, E>,
 ) -> Result<(), ShardSaveFailure<E>>
     ensures ends { Ends dir_path.now file_name.now shard (turn_of word given result) }
-    ensures saves { F.keeps folder.old → SavesOne (record { files = F.files; folders = F.folders; clock = F.clock; stopped_since = F.stopped_since; lost_since = F.lost_since; loose = F.loose; faults = F.faults; last_call = F.last_call; keeps = F.keeps })
+    ensures saves { F.meaning.keeps folder.old → SavesOne F.meaning
         dir_path.now file_name.now shard (turn_of word given result) folder.old folder.new }
-    ensures kept { F.keeps folder.old ↔ F.keeps folder.new }
+    ensures kept { F.meaning.keeps folder.old ↔ F.meaning.keeps folder.new }
 {
     let Ok((temp, path)) = paths_of(alloc, dir_path, file_name, shard, word) else {
         return Err(ShardSaveFailure::Memory { shard });

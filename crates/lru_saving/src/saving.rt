@@ -42,7 +42,7 @@ where
     requires name { has_slash file_name.now ≡ false }
     requires callable { S.IsAlwaysCallable serialize }
 
-    ensures saves { SavesShards (record { files = F.files; folders = F.folders; clock = F.clock; stopped_since = F.stopped_since; lost_since = F.lost_since; loose = F.loose; faults = F.faults; last_call = F.last_call; keeps = F.keeps })
+    ensures saves { SavesShards F.meaning
         S.step dir_path.now file_name.now shards serialize (R.stream rng.old) folder.old result (R.stream rng.new) folder.new }
 
     // Where no shard had its turn, no word is drawn.

@@ -58,17 +58,17 @@ impl<E: Drop> ShardSaver<E> {
         requires { has_slash file_name.now ≡ false }
 
         ensures begun { IfOk result (λ saver. saver ≡ at_start dir_path.now file_name.now shards) }
-        ensures made { F.keeps folder.old → OnOk result (MakesAll dir_path.now (F.folders folder.old) (F.folders folder.new)) }
-        ensures parents { F.keeps folder.old → MakesSome dir_path.now (F.folders folder.old) (F.folders folder.new) }
+        ensures made { F.meaning.keeps folder.old → OnOk result (MakesAll dir_path.now (F.meaning.folders folder.old) (F.meaning.folders folder.new)) }
+        ensures parents { F.meaning.keeps folder.old → MakesSome dir_path.now (F.meaning.folders folder.old) (F.meaning.folders folder.new) }
 
         ensures refused { IfErr result (IsSetupOf dir_path.now) }
         ensures early { IsErrOf result (Setup Memory) → folder.new ≡ folder.old }
-        ensures reason { F.keeps folder.old → IfErr result (λ e. IfCreateDir e (HasReason true (F.faults folder.old) (F.faults folder.new))) }
+        ensures reason { F.meaning.keeps folder.old → IfErr result (λ e. IfCreateDir e (HasReason true (F.meaning.faults folder.old) (F.meaning.faults folder.new))) }
 
-        ensures time { F.keeps folder.old → Passes F.clock F.stopped_since F.files Same folder.old folder.new }
-        ensures loss { F.keeps folder.old → Loses F.clock F.files F.lost_since F.loose looking folder.old folder.new }
-        ensures faults { F.keeps folder.old → OnOk result (F.faults folder.new ≡ F.faults folder.old) }
-        ensures kept { F.keeps folder.old ↔ F.keeps folder.new }
+        ensures time { F.meaning.keeps folder.old → Passes F.meaning Same folder.old folder.new }
+        ensures loss { F.meaning.keeps folder.old → Loses F.meaning looking folder.old folder.new }
+        ensures faults { F.meaning.keeps folder.old → OnOk result (F.meaning.faults folder.new ≡ F.meaning.faults folder.old) }
+        ensures kept { F.meaning.keeps folder.old ↔ F.meaning.keeps folder.new }
     {
         let (Ok(failures), Ok(dir), Ok(file_name)) = (
             Vec::with_capacity(alloc, shards),
@@ -110,10 +110,10 @@ impl<E: Drop> ShardSaver<E> {
         requires { self.old.next < self.old.shards }
 
         ensures turn { (turn : SaveTurn E) × (turn.word ≡ word) × (turn.given ≡ given) × TakesTurn self.old self.new turn
-            × (F.keeps folder.old → SavesOne (record { files = F.files; folders = F.folders; clock = F.clock; stopped_since = F.stopped_since; lost_since = F.lost_since; loose = F.loose; faults = F.faults; last_call = F.last_call; keeps = F.keeps })
+            × (F.meaning.keeps folder.old → SavesOne F.meaning
             self.old.dir self.old.file_name self.old.next turn folder.old folder.new) }
 
-        ensures kept { F.keeps folder.old ↔ F.keeps folder.new }
+        ensures kept { F.meaning.keeps folder.old ↔ F.meaning.keeps folder.new }
     {
         let shard = self.next;
         let saved = save_shard(

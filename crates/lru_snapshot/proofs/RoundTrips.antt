@@ -26,7 +26,7 @@ use Rattle.lru_folder.specs.declared.errors.ShardSaveSetupError.TheVariants.{Cre
 use Rattle.lru_folder.specs.declared.errors.ShardSaveSetupError.TheVariants as setup
 use Rattle.lru_folder.specs.declared.fault.FolderFault.{FolderFault}
 use Rattle.lru_folder.specs.declared.fault.FolderFault.TheVariants.{NotFound, Memory, Io}
-use Rattle.lru_loading.specs.Loading.{LoadTurn, Missing, Unread, Given, is_loaded, CallsFrom, AreTrueFrom, IsLoad, IsUnread, failures_from}
+use Rattle.lru_loading.specs.Loading.{LoadTurn, Missing, Unread, Given, is_loaded, TurnCalls, CallsFrom, AreTrueFrom, IsLoad, IsUnread, failures_from}
 use Rattle.lru_saving.specs.Saves.{TakesTurns}
 use Rattle.lru_saving.specs.Turns as saving
 use Rattle.lru_saving.specs.Turns.{SaveTurn, RunsTo, SavesOne, Ends, IsKept, IsFailureOf, IsRefused, failures_of}
@@ -41,14 +41,14 @@ use Rattle.lru_snapshot.proofs.SnapshotLemmas.{length-bytes_of}
 use Rattle.lru_snapshot.proofs.SnapshotRestores.{counted}
 
 -- some element, the first one or a later one
-any-here : {X : Type 0} (P : X → Type 0) (x : X) (xs : List X) → P x → Any P (x ∷ xs)
+pub any-here : {X : Type 0} (P : X → Type 0) (x : X) (xs : List X) → P x → Any P (x ∷ xs)
 any-here P x xs p = (0, x, omega arith, refl, p)
 
-any-later : {X : Type 0} (P : X → Type 0) (x : X) (xs : List X) → Any P xs → Any P (x ∷ xs)
+pub any-later : {X : Type 0} (P : X → Type 0) (x : X) (xs : List X) → Any P xs → Any P (x ∷ xs)
 any-later P x xs a = (suc a.0, a.1, omega (arith, a.2), a.3, a.4)
 
 -- each turn of a save was given the bytes of its shard
-run_gives : (core : Core Keyed) (shard : ℕ) (f last : Unit {0}) (s rest : Stream) (turns : List (SaveTurn AllocError)) → RunsTo (GivesShard core) shard f s turns last rest
+pub run_gives : (core : Core Keyed) (shard : ℕ) (f last : Unit {0}) (s rest : Stream) (turns : List (SaveTurn AllocError)) → RunsTo (GivesShard core) shard f s turns last rest
     → (i : ℕ) (turn : SaveTurn AllocError) → slice_get turns i ≡ Some turn → IfOk turn.given (λ bytes. AreBytesOf core (shard + i) bytes.items)
 run_gives core shard f last s rest [] run i turn is = absurd (let f : ⊥ = cc in f)
 run_gives core shard f last s rest (t ∷ turns) run zero turn is =
@@ -60,7 +60,7 @@ run_gives core shard f last s rest (t ∷ turns) run (suc i) turn is =
     subst (λ (k : ℕ). IfOk turn.given (λ bytes. AreBytesOf core k bytes.items)) at (run_gives core (suc shard) run.0 last (next_u32 s).1 rest turns run.3 i turn is)
 
 -- a list has what stands below its length
-get_some : {X : Type 0} (xs : List X) (i : ℕ) → i < length xs → (x : X) × (slice_get xs i ≡ Some x)
+pub get_some : {X : Type 0} (xs : List X) (i : ℕ) → i < length xs → (x : X) × (slice_get xs i ≡ Some x)
 get_some [] i lt = absurd (omega arith)
 get_some (x ∷ xs) zero lt = (x, refl)
 get_some (x ∷ xs) (suc i) lt = get_some xs i (omega arith)
@@ -147,7 +147,7 @@ module _ {F : Type 0} (m : Meaning F) (dir file_name : List ℕ) (n : ℕ) (core
   saves_all (Err (Setup setup.Memory)) keeps some same h = inl tt
 
 -- a fault that is neither the device's nor a missing file's is one of memory
-of_memory : (fault : FolderFault) → fault ≢ NotFound → (fault ≡ Io → ⊥) → fault ≡ Memory
+pub of_memory : (fault : FolderFault) → fault ≢ NotFound → (fault ≡ Io → ⊥) → fault ≡ Memory
 of_memory NotFound there quiet = absurd (there refl)
 of_memory Memory there quiet = refl
 of_memory Io there quiet = absurd (quiet refl)
@@ -163,6 +163,37 @@ no_limit cap rows short light =
     let b : nat_lt cap (weight_of rows) ≡ false = false_from_ne_true _ (λ t. let lt = ltb-true cap (weight_of rows) t in omega arith) in
     (λ i. cond (a i) (Some cause.Length) (cond (b i) (Some cause.Weight) None))
 
+-- a shard's bytes, put into a shard without rows
+module _ (n : ℕ) (saved : Core Keyed) (valid : IsCore n saved) (tell : TellAllKeys saved) (shard : ℕ) (before : Core Keyed) (bytes : List ℕ) (lt : shard < n)
+    (long : length before.lists ≡ n) (empty : list_at before shard ≡ []) (those : AreBytesOf saved shard bytes) where
+  told : rows_of bytes ≡ list_at saved shard
+  told = those.back (tell shard)
+
+  rows_are : list_at before shard ++ rows_of bytes ≡ list_at saved shard
+  rows_are = ap (λ xs. xs ++ rows_of bytes) empty ∙ told
+
+  of_shard : IsShard (rows_and_cap.shard (list_at saved shard) (cap_of n))
+  of_shard = valid.valid shard [] (omega (arith, valid.count))
+
+  loadable : AreLoadable before shard bytes
+  loadable = record {
+    whole = ap (λ (l : List ℕ). length l % 24) those.those ∙ whole_rows (map pair_of (list_at saved shard));
+    joins = record {
+      homes = λ q some. ap (λ l. q % l) long ∙ valid.homes shard q (subst (λ (rows : List (Row Keyed)). 0 < times q rows) told some);
+      keys = subst (λ (rows : List (Row Keyed)). HasDistinctKeys rows) (sym rows_are) of_shard.keys;
+    };
+  }
+
+  passes_none : limit_passed (cap_of (length before.lists)) (list_at before shard ++ rows_of bytes) ≡ None
+  passes_none = (λ i. limit_passed (cap_of (long i)) (rows_are i)) ∙ no_limit (cap_of n) (list_at saved shard) of_shard.short of_shard.light
+
+  -- such bytes are refused for want of memory alone
+  pub refused : (error : LoadError) (after : Core Keyed) → Loads before shard bytes (Err error) after → error ≡ unloaded.Unit cause.Memory
+  refused unloaded.Damaged after h = absurd (h.0 loadable)
+  refused (unloaded.Unit cause.Memory) after h = refl
+  refused (unloaded.Unit cause.Weight) after h = absurd (let e = sym passes_none ∙ h.1.0 in let f : ⊥ = cc in f)
+  refused (unloaded.Unit cause.Length) after h = absurd (let e = sym passes_none ∙ h.1.0 in let f : ⊥ = cc in f)
+
 module _ (kept rose : Type 0) (files : Files) (dir file_name : List ℕ) (n : ℕ) (saved : Core Keyed) (k : kept) (quiet : rose → ⊥) (valid : IsCore n saved)
     (hold : HoldCore files dir file_name n saved) (tell : TellAllKeys saved) where
   unread : (shard : ℕ) (f : ShardLoadFailure LoadError) → IsUnread kept rose (shard_path dir file_name shard) shard f → LacksMemory f
@@ -170,37 +201,8 @@ module _ (kept rose : Type 0) (files : Files) (dir file_name : List ℕ) (n : �
   unread shard (failure.Memory number) h = tt
   unread shard (failure.Deserialize number source) h = absurd h
 
-  module _ (shard : ℕ) (before : Core Keyed) (bytes : List ℕ) (lt : shard < n) (long : length before.lists ≡ n) (empty : list_at before shard ≡ []) (is : get files (shard_path dir file_name shard) ≡ Some bytes) where
-    those : AreBytesOf saved shard bytes
-    those = let h = hold shard lt in subst (AreBytesOf saved shard) (let e : h.0 ≡ bytes = (let f : Some h.0 ≡ Some bytes = sym h.1.0 ∙ is in cc) in e) h.1.1
-
-    told : rows_of bytes ≡ list_at saved shard
-    told = those.back (tell shard)
-
-    rows_are : list_at before shard ++ rows_of bytes ≡ list_at saved shard
-    rows_are = ap (λ xs. xs ++ rows_of bytes) empty ∙ told
-
-    of_shard : IsShard (rows_and_cap.shard (list_at saved shard) (cap_of n))
-    of_shard = valid.valid shard [] (omega (arith, valid.count))
-
-    loadable : AreLoadable before shard bytes
-    loadable = record {
-      whole = ap (λ (l : List ℕ). length l % 24) those.those ∙ whole_rows (map pair_of (list_at saved shard));
-      joins = record {
-        homes = λ q some. ap (λ l. q % l) long ∙ valid.homes shard q (subst (λ (rows : List (Row Keyed)). 0 < times q rows) told some);
-        keys = subst (λ (rows : List (Row Keyed)). HasDistinctKeys rows) (sym rows_are) of_shard.keys;
-      };
-    }
-
-    passes_none : limit_passed (cap_of (length before.lists)) (list_at before shard ++ rows_of bytes) ≡ None
-    passes_none = (λ i. limit_passed (cap_of (long i)) (rows_are i)) ∙ no_limit (cap_of n) (list_at saved shard) of_shard.short of_shard.light
-
-    -- such bytes are refused for want of memory alone
-    refused : (error : LoadError) (after : Core Keyed) → Loads before shard bytes (Err error) after → error ≡ unloaded.Unit cause.Memory
-    refused unloaded.Damaged after h = absurd (h.0 loadable)
-    refused (unloaded.Unit cause.Memory) after h = refl
-    refused (unloaded.Unit cause.Weight) after h = absurd (let e = sym passes_none ∙ h.1.0 in let f : ⊥ = cc in f)
-    refused (unloaded.Unit cause.Length) after h = absurd (let e = sym passes_none ∙ h.1.0 in let f : ⊥ = cc in f)
+  those_held : (shard : ℕ) (bytes : List ℕ) → shard < n → get files (shard_path dir file_name shard) ≡ Some bytes → AreBytesOf saved shard bytes
+  those_held shard bytes lt is = let h = hold shard lt in subst (AreBytesOf saved shard) (let e : h.0 ≡ bytes = (let f : Some h.0 ≡ Some bytes = sym h.1.0 ∙ is in cc) in e) h.1.1
 
   -- each turn loads its shard, or tells that memory was refused
   all_or_memory : (shard : ℕ) (before after : Core Keyed) (turns : List (LoadTurn LoadError)) → CallsFrom LoadsShard shard before turns after → AreTrueFrom kept rose files dir file_name shard turns
@@ -212,7 +214,7 @@ module _ (kept rose : Type 0) (files : Files) (dir file_name : List ℕ) (n : �
   all_or_memory shard before after (Given bytes (Err error) ∷ turns) calls so count long rest =
       let shown = calls.1.0 in
       inl (any-here LacksMemory (failure.Deserialize shard error) (failures_from (suc shard) turns)
-      (refused shard before shown.now (omega arith) long (rest shard (omega arith)) (so.0 k ∙ ap Some (sym calls.1.1)) error calls.0 calls.1.2))
+      (refused n saved valid tell shard before shown.now (omega arith) long (rest shard (omega arith)) (those_held shard shown.now (omega arith) (so.0 k ∙ ap Some (sym calls.1.1))) error calls.0 calls.1.2))
   all_or_memory shard before after (Given bytes (Ok ok) ∷ turns) calls so count long rest =
       let shown = calls.1.0 in
       let loads = calls.1.2.1 in
@@ -237,22 +239,31 @@ module _ (kept rose : Type 0) (files : Files) (dir file_name : List ℕ) (n : �
     | inr all ↦ inr (loads.loaded_shards ∙ all ∙ loads.each)
   ]
 
+-- a refusal changes nothing
+pub unmoved : (before after : Core Keyed) (shard : ℕ) (bytes : List ℕ) (e : LoadError) → Loads before shard bytes (Err e) after → after ≡ before
+unmoved before after shard bytes unloaded.Damaged h = h.1
+unmoved before after shard bytes (unloaded.Unit cause.Memory) h = h
+unmoved before after shard bytes (unloaded.Unit cause.Weight) h = h.1.1
+unmoved before after shard bytes (unloaded.Unit cause.Length) h = h.1.1
+
+-- a turn of a load keeps the number of shards, and the rows of the others
+pub turn_length : (shard : ℕ) (before after : Core Keyed) (turn : LoadTurn LoadError) → TurnCalls LoadsShard shard before turn after → length after.lists ≡ length before.lists
+turn_length shard before after Missing call = ap (λ c. length c.lists) call
+turn_length shard before after (Unread f) call = ap (λ c. length c.lists) call
+turn_length shard before after (Given bytes (Ok ok)) call = ap (λ c. length c.lists) call.2.1.1.1.1 ∙ length-set before.lists shard (list_at before shard ++ rows_of (call.0).now)
+turn_length shard before after (Given bytes (Err error)) call = ap (λ c. length c.lists) (unmoved before after shard (call.0).now error call.2)
+
+pub turn_others : (shard : ℕ) (before after : Core Keyed) (turn : LoadTurn LoadError) → TurnCalls LoadsShard shard before turn after → (q : ℕ) → q ≢ shard → list_at after q ≡ list_at before q
+turn_others shard before after Missing call q ne = ap (λ c. list_at c q) call
+turn_others shard before after (Unread f) call q ne = ap (λ c. list_at c q) call
+turn_others shard before after (Given bytes (Ok ok)) call q ne =
+    ap (λ c. list_at c q) call.2.1.1.1.1 ∙ get_or-set_other before.lists shard q (list_at before shard ++ rows_of (call.0).now) [] ne
+turn_others shard before after (Given bytes (Err error)) call q ne = ap (λ c. list_at c q) (unmoved before after shard (call.0).now error call.2)
+
 -- a load keeps the number of shards
 calls_length : (shard : ℕ) (before after : Core Keyed) (turns : List (LoadTurn LoadError)) → CallsFrom LoadsShard shard before turns after → length after.lists ≡ length before.lists
 calls_length shard before after [] calls = ap (λ c. length c.lists) calls
-calls_length shard before after (Missing ∷ turns) calls = calls_length (suc shard) calls.0 after turns calls.2 ∙ ap (λ c. length c.lists) calls.1
-calls_length shard before after (Unread f ∷ turns) calls = calls_length (suc shard) calls.0 after turns calls.2 ∙ ap (λ c. length c.lists) calls.1
-calls_length shard before after (Given bytes (Ok ok) ∷ turns) calls =
-    calls_length (suc shard) calls.0 after turns calls.2 ∙ ap (λ c. length c.lists) calls.1.2.1.1.1.1
-    ∙ length-set before.lists shard (list_at before shard ++ rows_of (calls.1.0).now)
-calls_length shard before after (Given bytes (Err error) ∷ turns) calls =
-    calls_length (suc shard) calls.0 after turns calls.2 ∙ ap (λ c. length c.lists) (unmoved error calls.1.2)
-  where
-    unmoved : (e : LoadError) → Loads before shard (calls.1.0).now (Err e) calls.0 → calls.0 ≡ before
-    unmoved unloaded.Damaged h = h.1
-    unmoved (unloaded.Unit cause.Memory) h = h
-    unmoved (unloaded.Unit cause.Weight) h = h.1.1
-    unmoved (unloaded.Unit cause.Length) h = h.1.1
+calls_length shard before after (turn ∷ turns) calls = calls_length (suc shard) calls.0 after turns calls.2 ∙ turn_length shard before calls.0 turn calls.1
 
 pub loads_length : {F : Type 0} (m : Meaning F) (dir file_name : List ℕ) (n : ℕ) (before after : Core Keyed) (old new : F) (result : LoadResult) → AreLoaded n result
     → LoadsCore m dir file_name n before old result after new → length after.lists ≡ length before.lists

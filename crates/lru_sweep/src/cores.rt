@@ -159,8 +159,39 @@ fn two_limits<W: Write>(alloc: Global, writer: &mut W) -> io::Result<()> {
     side_by_side(&mut small, &mut large, alloc, writer)
 }
 
+// Once room was made for them, new rows ask for nothing: one that is refused is counted.
+fn filled<W: Write>(core: &mut LruCore<u64, 1>, writer: &mut W) -> io::Result<()> {
+    let mut refused = 0u32;
+    for key in 0..100u64 {
+        if core.admit(key, key, 0).is_err() {
+            refused = refused.saturating_add(1);
+        }
+    }
+    writeln!(writer, "of a hundred rows with room {refused} refused")
+}
+
+fn room_made<W: Write>(core: &mut LruCore<u64, 1>, writer: &mut W) -> io::Result<()> {
+    if core.reserve_shard(0, 100).is_err() {
+        core.reserve_shard(0, 100)?;
+    }
+    filled(core, writer)
+}
+
+fn roomy<W: Write>(alloc: Global, writer: &mut W) -> io::Result<()> {
+    filled(
+        &mut made(alloc, |alloc| LruCore::with_capacity(alloc, 10, 100))?,
+        writer,
+    )
+}
+
+fn late<W: Write>(alloc: Global, writer: &mut W) -> io::Result<()> {
+    room_made(&mut limited(alloc, 10)?, writer)
+}
+
 pub fn script<W: Write>(alloc: Global, writer: &mut W) -> io::Result<()> {
     one_shard(alloc, writer)?;
     two_shards(alloc, writer)?;
-    two_limits(alloc, writer)
+    two_limits(alloc, writer)?;
+    roomy(alloc, writer)?;
+    late(alloc, writer)
 }

@@ -1,6 +1,6 @@
 // Calls of one shard under a cap of 10, refusals among them.
 use crate::made;
-use lru_shard::unit::{Cause, LruUnit, Refused};
+use lru_shard::unit::{Cause, LruUnit, Refused, RefusedUpdate};
 use std::alloc::{AllocError, Global};
 use std::io;
 use std::io::Write;
@@ -82,10 +82,7 @@ fn update(
     key: u64,
     data: u64,
     weight: usize,
-) -> (
-    Result<(Option<usize>, usize), Refused<Option<(u64, usize)>>>,
-    bool,
-) {
+) -> (Result<(Option<usize>, usize), RefusedUpdate<u64>>, bool) {
     let before = shown(unit);
     let mut called = false;
     let answer = given(unit, key, data, weight, &mut called);
@@ -104,7 +101,7 @@ fn given(
     data: u64,
     weight: usize,
     called: &mut bool,
-) -> Result<(Option<usize>, usize), Refused<Option<(u64, usize)>>> {
+) -> Result<(Option<usize>, usize), RefusedUpdate<u64>> {
     unit.update_or_admit(
         key,
         |old: &mut u64, _: usize| {

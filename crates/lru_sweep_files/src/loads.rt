@@ -85,9 +85,20 @@ fn two_shards<W: Write>(alloc: Global, writer: &mut W) -> io::Result<()> {
     writeln!(writer, "files {files}, temp file {temp}")
 }
 
+// Twenty rows of the first of three shards: more than a shard has places for at first.
+fn twenty_rows() -> [u8; 480] {
+    let mut bytes = [0; 480];
+    for (number, row) in bytes.chunks_exact_mut(24).enumerate() {
+        if let Some(key) = row.first_mut() {
+            *key = (number as u8).wrapping_mul(3);
+        }
+    }
+    bytes
+}
+
 fn folder_of_three(alloc: Global) -> Result<MemoryFolder, AllocError> {
     MemoryFolder::new(alloc)
-        .with("d/c.0", &[0; 24])?
+        .with("d/c.0", &twenty_rows())?
         .with("d/c.2", &EVEN_BYTES[..25])
 }
 

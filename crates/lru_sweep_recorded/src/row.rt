@@ -214,7 +214,8 @@ fn run<B: Registry, R: Wait, W: Write>(
     requires blank { (blank.tie.table.shared.table_id ≡ B.table) × (blank.tie.table.shared.key ≡ record { shards = 1; seats = 1 }) }
     requires callers { B.seats ≡ 1 }
 {
-    let (lru, mut seats) = RecordedLru::<u64, B, 1>::new(alloc, blank, 1, 0, None, 1)?;
+    // There is room for eight rows, and more come.
+    let (lru, mut seats) = RecordedLru::<u64, B, 1>::new(alloc, blank, 1, 8, None, 1)?;
     let Some(mut seat) = seats.pop() else {
         return Ok(writeln!(out, "no seat"));
     };

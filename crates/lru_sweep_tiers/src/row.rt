@@ -4,7 +4,7 @@ use lru_shard::unit::{Cause, Refused};
 use lru_tiers::tiered::{BalanceError, Tier, TieredCore};
 use rand::rngs::StdRng;
 use rand_core::SeedableRng;
-use std::alloc::Global;
+use std::alloc::{AllocError, Global};
 use std::io;
 use std::io::Write;
 
@@ -148,11 +148,45 @@ fn many_rows<W: Write>(
     write_tiers(tiered, out)
 }
 
-pub fn script<W: Write>(alloc: Global, out: &mut W) -> io::Result<()> {
-    let mut tiered = match TieredCore::with_limits(alloc, 4, 4, 0) {
-        Ok(tiered) => tiered,
-        Err(_) => TieredCore::with_limits(alloc, 4, 4, 0)?,
-    };
+// Once room was made for them in both tiers, new rows ask for nothing, and neither do those that are spilled: a call that
+// is refused is counted.
+fn filled<W: Write>(tiered: &mut TieredCore<u64, 1>, out: &mut W) -> io::Result<()> {
+    let mut refused = 0u32;
+    for key in 0..20 {
+        if tiered.admit(key, key, 0).is_err() {
+            refused = refused.saturating_add(1);
+        }
+    }
+    for _ in 0..20 {
+        if tiered.spill_step(0, 0).is_err() {
+            refused = refused.saturating_add(1);
+        }
+    }
+    writeln!(
+        out,
+        "of twenty rows with room in both tiers {refused} refused"
+    )
+}
+
+// Tiers with room for so many rows each.
+fn tiers(alloc: Global, capacity: usize) -> Result<TieredCore<u64, 1>, AllocError> {
+    match TieredCore::with_limits(alloc, 4, 4, capacity) {
+        Ok(tiered) => Ok(tiered),
+        Err(_) => TieredCore::with_limits(alloc, 4, 4, capacity),
+    }
+}
+
+fn growing<W: Write>(alloc: Global, out: &mut W) -> io::Result<()> {
+    let mut tiered = tiers(alloc, 0)?;
     worked_row(&mut tiered, alloc, out)?;
     many_rows(&mut tiered, alloc, out)
+}
+
+fn roomy<W: Write>(alloc: Global, out: &mut W) -> io::Result<()> {
+    filled(&mut tiers(alloc, 20)?, out)
+}
+
+pub fn script<W: Write>(alloc: Global, out: &mut W) -> io::Result<()> {
+    growing(alloc, out)?;
+    roomy(alloc, out)
 }

@@ -3,3 +3,4 @@ pub mod Places
 pub mod Windows
 pub mod Distances
 pub mod Order
+pub mod Refused

@@ -1,7 +1,10 @@
 -- What a cache under a limit makes of a trace of requests: which objects it keeps, and the tally.
-use Rattle.std.specs.Prelude.{◌≡◌, ◌==◌, ℕ, suc, false, Option, Some, None, option_map, ◌+◌, ◌-◌, ◌%◌, ◌^◌, max, List, [], ◌∷◌, length, nat_le, nat_lt, Bool, if◌then◌else◌}
+use Rattle.std.specs.Prelude.{◌≡◌, ◌==◌, ◌≤◌, ℕ, suc, false, Option, Some, None, option_map, ◌+◌, ◌-◌, ◌%◌, ◌^◌, max, List, [], ◌∷◌, length, nat_le, nat_lt, Bool, if◌then◌else◌}
 use Rattle.std.specs.List.{All}
+use Rattle.lru_list.specs.Linked.{most_items}
 use Rattle.lru_shard.specs.Row.{Row, row, is_held, without, with_first}
+use Rattle.lru_shard.specs.declared.unit.Cause.{Cause}
+use Rattle.lru_shard.specs.declared.unit.Cause.TheVariants.{Memory, Weight, Length}
 use Rattle.lru_traces.specs.declared.player.Request.{Request}
 use Rattle.lru_traces.specs.declared.player.Tally.{Tally}
 
@@ -58,6 +61,13 @@ played_on limit rows t (q ∷ qs) = played_on limit (kept_after limit rows q) (t
 -- the tally of a trace by a cache that is empty at first
 abbrev pub played : ℕ → List Request → Tally
 played limit qs = played_on limit [] no_tally qs
+
+-- why a trace may be refused under a limit: want of memory, or a limit that is beyond a shard. For Length that is one of as
+-- many objects as a shard has places for, for Weight one that is half of all weights: an object is let in before others go
+abbrev pub MayRefuseUnder : ℕ → Cause → Type 0
+MayRefuseUnder limit Memory = Unit {0}
+MayRefuseUnder limit Weight = 2 ^ 63 ≤ limit
+MayRefuseUnder limit Length = most_items ≤ limit
 
 -- Distances. They say what a hit is where every object has the size 1.
 

@@ -5,7 +5,7 @@ pub mod one_pass;
 pub mod player;
 pub mod plot;
 pub mod program;
-mod progress;
+pub mod progress;
 pub mod requests;
 mod settings;
 pub mod table;

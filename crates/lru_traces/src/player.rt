@@ -1,8 +1,8 @@
 //! A player of traces: how often a cache under a limit has what is asked for.
-ghost use Rattle.std.specs.Prelude.{◌≡◌, ◌<◌, ◌^◌, ◌%◌, ◌+◌, ◌-◌, length, IfOk, OnOk};
-ghost use Rattle.lru_shard.specs.Row.{is_held};
+ghost use Rattle.std.specs.Prelude.{◌≡◌, ◌<◌, ◌≤◌, ◌^◌, ◌%◌, ◌+◌, ◌-◌, length, IfOk, IfErr, OnOk};
+ghost use Rattle.lru_shard.specs.Row.{is_held, weight_of};
 ghost use Rattle.lru_shard.specs.Shard.{shard};
-ghost use Rattle.lru_traces.specs.Traces.{front, kept_after, evicted_by, counted, played, no_tally};
+ghost use Rattle.lru_traces.specs.Traces.{front, kept_after, evicted_by, counted, played, no_tally, MayRefuseUnder};
 
 use lru_shard::unit::{Cause, LruUnit};
 use std::alloc::Global;
@@ -72,6 +72,8 @@ fn ask(unit: &mut LruUnit<()>, limit: usize, request: Request) -> Result<(bool, 
     ensures was { IfOk result (λ r. r.0 ≡ is_held unit.old.rows request.key) }
     ensures evicted { IfOk result (λ r. r.1 ≡ evicted_by limit unit.old.rows request) }
     ensures kept { OnOk result (unit.new.rows ≡ kept_after limit unit.old.rows request) }
+    ensures cap { OnOk result (unit.new.cap ≡ unit.old.cap) }
+    ensures refused { IfErr result (λ cause. unit.old.cap ≡ usize.MAX → length unit.old.rows ≤ limit → weight_of unit.old.rows ≤ limit → MayRefuseUnder limit cause) }
 {
     let weight = request.size.max(1);
     if weight > limit {
@@ -95,9 +97,11 @@ fn ask(unit: &mut LruUnit<()>, limit: usize, request: Request) -> Result<(bool, 
 /// The tally of a trace by a cache that is empty at first, and keeps what was used last, as much of it as weighs no more
 /// than the limit. An object that alone weighs more is not kept, and leaves the others as they are.
 ///
-/// It is refused for Memory, and for Length or Weight where a shard could not hold what the limit allows.
+/// It is refused for Memory; for Length only under a limit of 4294967293 or more, and for Weight only under one of 2^63 or
+/// more, since an object is let in before others are evicted.
 pub fn play(alloc: Global, limit: usize, requests: &[Request]) -> Result<Tally, Cause>
-    ensures { IfOk result (λ tally. tally ≡ played limit requests.now) }
+    ensures played { IfOk result (λ tally. tally ≡ played limit requests.now) }
+    ensures refused { IfErr result (λ cause. MayRefuseUnder limit cause) }
 {
     let Ok(mut unit) = LruUnit::with_capacity(alloc, 0, usize::MAX) else {
         return Err(Cause::Memory);

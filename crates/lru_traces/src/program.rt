@@ -17,9 +17,12 @@ use std::{fs, io};
 // How many lines are read between two writes of the line of progress.
 const LINES_A_STEP: usize = 1000000;
 
-/// The requests of standard input, or the number of a bad line.
-fn read_trace(rt: HostRuntime, progress: Progress) -> io::Result<Result<Vec<Request>, u64>> {
-    let mut input = BufReader::new(rt.alloc(), rt.reader())?;
+/// The requests of an input, or the number of its first bad line, from 1 on.
+pub fn read_trace<R: BufRead>(
+    rt: HostRuntime,
+    progress: Progress,
+    input: &mut R,
+) -> io::Result<Result<Vec<Request>, u64>> {
     let mut line = Vec::new(rt.alloc());
     let mut requests = Vec::new(rt.alloc());
     for number in 1..u64::MAX {
@@ -120,7 +123,8 @@ pub fn run(rt: HostRuntime) -> io::Result<ExitCode> {
         return Ok(ExitCode::from(2));
     };
     let progress = Progress::new(rt);
-    let read = read_trace(rt, progress)?;
+    let mut input = BufReader::new(rt.alloc(), rt.reader())?;
+    let read = read_trace(rt, progress, &mut input)?;
     progress.clear(rt);
     let requests = match read {
         Ok(requests) => requests,

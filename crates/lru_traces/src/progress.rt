@@ -1,4 +1,4 @@
-// A line of progress.
+//! A line of progress.
 
 use std::io::IsTerminal;
 

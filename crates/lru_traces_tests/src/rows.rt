@@ -2,9 +2,12 @@
 use lru_traces::one_pass::{are_of_size_one, play_all};
 use lru_traces::player::{Request, Tally, play};
 use lru_traces::plot::Plot;
+use lru_traces::program::read_trace;
+use lru_traces::progress::Progress;
 use lru_traces::requests::request_of;
 use lru_traces::table::Percent;
 use std::alloc::{AllocError, Global};
+use std::io;
 use std::test::Fail;
 
 #[rattlefmt::skip]
@@ -170,5 +173,36 @@ fn plays_and_tells_what_it_should(rt: HostRuntime) -> Result<(), Fail> {
     wrong.push_str(&wrong_pass(rt.alloc())?)?;
     wrong.push_str(&wrong_picture(rt.alloc())?)?;
     assert_eq!(rt; wrong.as_str(), "");
+    Ok(())
+}
+
+// Inputs, and what is read: how many requests, or the number of the first bad line.
+#[rattlefmt::skip]
+const INPUTS: [(&str, Result<usize, u64>); 6] = [
+    ("", Ok(0)),
+    ("1 2\n2 1\n", Ok(2)),
+    ("1 2\n2 1", Ok(2)),
+    ("x", Err(1)),
+    ("1 2\n\n3 4\n", Err(2)),
+    ("1 2\n2 1\n1 -2\nx\n", Err(3)),
+];
+
+// The place of the first input that is read otherwise.
+fn wrong_input(rt: HostRuntime) -> io::Result<Option<usize>> {
+    for (place, (input, wanted)) in INPUTS.iter().enumerate() {
+        let read = match read_trace(rt, Progress::new(rt), &mut input.as_bytes())? {
+            Ok(requests) => Ok(requests.len()),
+            Err(number) => Err(number),
+        };
+        if read != *wanted {
+            return Ok(Some(place));
+        }
+    }
+    Ok(None)
+}
+
+#[test]
+fn tells_the_number_of_a_bad_line(rt: HostRuntime) -> Result<(), Fail> {
+    assert!(rt; matches!(wrong_input(rt), Ok(None)));
     Ok(())
 }

@@ -23,3 +23,5 @@ pub use Rattle.lru_snapshot.specs.SnapshotLoads
 pub use Rattle.lru_snapshot.specs.SnapshotSaves
 pub use Rattle.lru_snapshot.specs.SnapshotTexts
 pub use Rattle.lru_snapshot.specs.Stores
+pub use Rattle.lru_folder.specs.Sparing
+pub use Rattle.lru_crashes.specs.Crashes

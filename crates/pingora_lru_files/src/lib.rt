@@ -3,4 +3,5 @@
 
 pub mod persistence;
 
+pub use lru_crashes::crash_law;
 pub use lru_snapshot::snapshot;

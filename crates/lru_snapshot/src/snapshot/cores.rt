@@ -31,7 +31,7 @@ pub fn save_core<F: Folder, R: Rng, L: Log, const N: usize>(
 ) -> Result<ShardSaveReport<AllocError>, ShardSaveError<AllocError>>
     requires { has_slash file_name.now ≡ false }
 
-    ensures saves { SavesCore (record { files = F.files; folders = F.folders; clock = F.clock; stopped_since = F.stopped_since; lost_since = F.lost_since; loose = F.loose; faults = F.faults; last_call = F.last_call; keeps = F.keeps })
+    ensures saves { SavesCore F.meaning
         dir_path.now file_name.now N core.now (R.stream rng.old) folder.old result (R.stream rng.new) folder.new }
 
     // Where no shard had its turn, no word is drawn.
@@ -39,8 +39,8 @@ pub fn save_core<F: Folder, R: Rng, L: Log, const N: usize>(
 
     // Where all shards were saved, their files have the bytes of all rows. Where the device did not fail, all are, or
     // the result tells that memory was refused.
-    ensures held { F.keeps folder.old → AreSaved N result → HoldCore (F.files folder.new) dir_path.now file_name.now N core.now }
-    ensures all { F.keeps folder.old → F.faults folder.new ≡ F.faults folder.old → TellsMemory result ⊎ AreSaved N result }
+    ensures held { F.meaning.keeps folder.old → AreSaved N result → HoldCore (F.meaning.files folder.new) dir_path.now file_name.now N core.now }
+    ensures all { F.meaning.keeps folder.old → F.meaning.faults folder.new ≡ F.meaning.faults folder.old → TellsMemory result ⊎ AreSaved N result }
 
     ensures valid { IsCore N core.now }
 {
@@ -78,13 +78,13 @@ pub fn load_core<F: Folder, L: Log, const N: usize>(
 ) -> Result<ShardLoadReport<LoadError>, AllocError>
     requires { has_slash file_name.now ≡ false }
 
-    ensures loads { LoadsCore (record { files = F.files; folders = F.folders; clock = F.clock; stopped_since = F.stopped_since; lost_since = F.lost_since; loose = F.loose; faults = F.faults; last_call = F.last_call; keeps = F.keeps })
+    ensures loads { LoadsCore F.meaning
         dir_path.now file_name.now N core.old folder.old result core.new folder.new }
 
     // A core without rows that loads all shards from files that tell another's rows has its lists. Where the files hold
     // another core and the device did not fail, it does load all, or the result tells that memory was refused.
-    ensures restores { F.keeps folder.old → Restores (F.files folder.old) dir_path.now file_name.now N core.old result core.new }
-    ensures all { F.keeps folder.old → F.faults folder.new ≡ F.faults folder.old → LoadsAllHeld (F.files folder.old) dir_path.now file_name.now N core.old result }
+    ensures restores { F.meaning.keeps folder.old → Restores (F.meaning.files folder.old) dir_path.now file_name.now N core.old result core.new }
+    ensures all { F.meaning.keeps folder.old → F.meaning.faults folder.new ≡ F.meaning.faults folder.old → LoadsAllHeld (F.meaning.files folder.old) dir_path.now file_name.now N core.old result }
 
     ensures valid { IsCore N core.old }
 {
@@ -128,10 +128,10 @@ pub fn save_and_load<F: Folder, R: Rng, L: Log, const N: usize>(
 )
     requires { has_slash file_name.now ≡ false }
 
-    ensures same { F.keeps folder.old → TellAllKeys core.now → HasNoRows back.old
+    ensures same { F.meaning.keeps folder.old → TellAllKeys core.now → HasNoRows back.old
         → AreSaved N result.0 → AreLoaded N result.1 → back.new.lists ≡ core.now.lists }
 
-    ensures all { F.keeps folder.old → F.faults folder.new ≡ F.faults folder.old → TellAllKeys core.now → HasNoRows back.old
+    ensures all { F.meaning.keeps folder.old → F.meaning.faults folder.new ≡ F.meaning.faults folder.old → TellAllKeys core.now → HasNoRows back.old
         → TellsMemory result.0 ⊎ (AreSaved N result.0 × (TellsLoadMemory result.1 ⊎ AreLoaded N result.1)) }
 {
     let saved = save_core(alloc, folder, rng, log, dir_path, file_name, core);

@@ -8,7 +8,7 @@ use Rattle.lru_engine.proofs.engine.run_buffered.Goals as goal
 
 pub returns-in-Ok-clause-served : goal.returns-in-Ok-clause-served
 returns-in-Ok-clause-served g c =
-    let m : Meaning g.row.F.Denot = record { files = g.F.Folder.files; folders = g.F.Folder.folders; clock = g.F.Folder.clock; stopped_since = g.F.Folder.stopped_since; lost_since = g.F.Folder.lost_since; loose = g.F.Folder.loose; faults = g.F.Folder.faults; last_call = g.F.Folder.last_call; keeps = g.F.Folder.keeps } in
+    let m : Meaning g.row.F.Denot = g.F.Folder.meaning in
     let contents = g.W.Write.contents in
     some_so (settings_of (map string_bytes c.args.arguments.now))
     (λ settings served known. some_so (g.R.Read.remaining c.args.reader.now)

@@ -9,13 +9,13 @@ use Rattle.lru_commands.specs.Commands.{asked, Possible}
 use Rattle.pingora_lru_files.specs.Stores.{Meaning}
 use Rattle.lru_replies.specs.Storing.{State}
 use Rattle.lru_replies.specs.Replies.{Serves, error_line_text}
-use Rattle.lru_replies.proofs.WriteLaws.{appends_none, appends_then}
+use Rattle.lru_streams.proofs.WriteLaws.{appends_none, appends_then}
 use Rattle.lru_engine.proofs.engine.serve.Invariants.{asked_all}
 use Rattle.lru_engine.proofs.engine.serve.Goals as goal
 
 pub loop-line-init : goal.loop-line-init
 loop-line-init g c =
-    let m : Meaning g.row.F.Denot = record { files = g.F.Folder.files; folders = g.F.Folder.folders; clock = g.F.Folder.clock; stopped_since = g.F.Folder.stopped_since; lost_since = g.F.Folder.lost_since; loose = g.F.Folder.loose; faults = g.F.Folder.faults; last_call = g.F.Folder.last_call; keeps = g.F.Folder.keeps } in
+    let m : Meaning g.row.F.Denot = g.F.Folder.meaning in
     let state : State g.row.F.Denot = record { core = c.args.core.now; folder = c.args.folder.now; words = g.R.Rng.stream c.args.rng.now } in
     let rest = c.into_iter-rest.result in
     let items : into_iter_items rest ≡ c.args.lines.items = c.into_iter-rest.ensures.rest in
@@ -39,7 +39,7 @@ loop-line-init g c =
 
 pub loop-line-preserved : goal.loop-line-preserved
 loop-line-preserved g c =
-    let m : Meaning g.row.F.Denot = record { files = g.F.Folder.files; folders = g.F.Folder.folders; clock = g.F.Folder.clock; stopped_since = g.F.Folder.stopped_since; lost_since = g.F.Folder.lost_since; loose = g.F.Folder.loose; faults = g.F.Folder.faults; last_call = g.F.Folder.last_call; keeps = g.F.Folder.keeps } in
+    let m : Meaning g.row.F.Denot = g.F.Folder.meaning in
     let before : State g.row.F.Denot = record { core = c.args.core.now; folder = c.args.folder.now; words = g.R.Rng.stream c.args.rng.now } in
     let state : State g.row.F.Denot = record { core = c.loop-line.core; folder = c.loop-line.folder; words = g.R.Rng.stream c.loop-line.rng } in
     let after : State g.row.F.Denot = record { core = c.answer.new.core; folder = c.answer.new.folder; words = g.R.Rng.stream c.answer.new.rng } in
@@ -76,7 +76,7 @@ loop-line-preserved g c =
 
 pub returns-clause-text : goal.returns-clause-text
 returns-clause-text g c =
-    let m : Meaning g.row.F.Denot = record { files = g.F.Folder.files; folders = g.F.Folder.folders; clock = g.F.Folder.clock; stopped_since = g.F.Folder.stopped_since; lost_since = g.F.Folder.lost_since; loose = g.F.Folder.loose; faults = g.F.Folder.faults; last_call = g.F.Folder.last_call; keeps = g.F.Folder.keeps } in
+    let m : Meaning g.row.F.Denot = g.F.Folder.meaning in
     let before : State g.row.F.Denot = record { core = c.args.core.now; folder = c.args.folder.now; words = g.R.Rng.stream c.args.rng.now } in
     let state : State g.row.F.Denot = record { core = c.loop-line.core; folder = c.loop-line.folder; words = g.R.Rng.stream c.loop-line.rng } in
     let inv = c.loop-line.invariant in
@@ -93,7 +93,7 @@ returns-clause-text g c =
 
 pub returns-in-None-clause-text : goal.returns-in-None-clause-text
 returns-in-None-clause-text g c =
-    let m : Meaning g.row.F.Denot = record { files = g.F.Folder.files; folders = g.F.Folder.folders; clock = g.F.Folder.clock; stopped_since = g.F.Folder.stopped_since; lost_since = g.F.Folder.lost_since; loose = g.F.Folder.loose; faults = g.F.Folder.faults; last_call = g.F.Folder.last_call; keeps = g.F.Folder.keeps } in
+    let m : Meaning g.row.F.Denot = g.F.Folder.meaning in
     let state : State g.row.F.Denot = record { core = c.loop-line.core; folder = c.loop-line.folder; words = g.R.Rng.stream c.loop-line.rng } in
     let inv = c.loop-line.invariant in
     let done = inv.0.0 in
@@ -105,6 +105,6 @@ returns-in-None-clause-text g c =
       done ++ text,
       (
         inv.0.1.1 number (omega (arith, c.len.ensures)) text c.loop-line.folder (subst (λ (ls : List (Option Command)). Serves m state (asked_all ls) number text c.loop-line.folder) (sym at) (refl, refl)),
-        appends_then (g.W.Write.contents c.args.writer.now) (g.W.Write.contents c.loop-line.writer) (g.W.Write.contents c.writeln.new.self) done text inv.0.1.0 c.in_ok-writeln-in-None.ensures.bytes,
+        appends_then (g.W.Write.contents c.args.writer.now) (g.W.Write.contents c.loop-line.writer) (g.W.Write.contents c.write_bad_line.new.writer) done text inv.0.1.0 c.in_ok-write_bad_line-in-None.ensures.text,
       ),
     )

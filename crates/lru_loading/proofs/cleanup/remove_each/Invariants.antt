@@ -10,18 +10,18 @@ use Rattle.lru_loading.proofs.cleanup.remove_each.Given as goal
 abbrev pub invariant-loop-path : goal.invariant-loop-path
 invariant-loop-path g l =
     let F = g.F.Folder in
-    let m : Meaning _ = record { files = F.files; folders = F.folders; clock = F.clock; stopped_since = F.stopped_since; lost_since = F.lost_since; loose = F.loose; faults = F.faults; last_call = F.last_call; keeps = F.keeps } in
+    let m : Meaning _ = F.meaning in
     record {
       can : (goal.iterator-loop-path g).can_next l.path-iterator;
       ends : (goal.iterator-loop-path g).is_finite l.path-iterator;
-      each : (each : EachSoFar (g.F.Folder.keeps l.fn.folder) (map string_bytes l.fn.paths.items) (map string_bytes (into_iter_items l.path-iterator))
-          (g.F.Folder.faults l.fn.folder < g.F.Folder.faults l.folder) (g.F.Folder.files l.fn.folder) (g.F.Folder.files l.folder)
+      each : (each : EachSoFar (g.F.Folder.meaning.keeps l.fn.folder) (map string_bytes l.fn.paths.items) (map string_bytes (into_iter_items l.path-iterator))
+          (g.F.Folder.meaning.faults l.fn.folder < g.F.Folder.meaning.faults l.folder) (g.F.Folder.meaning.files l.fn.folder) (g.F.Folder.meaning.files l.folder)
           l.removed_files (map blame_of l.fn.failures.items) (map blame_of l.failures.items))
-          × (F.keeps l.fn.folder → InOrder (RemovesOne m) 0 each.done l.fn.folder l.folder);
+          × (F.meaning.keeps l.fn.folder → InOrder (RemovesOne m) 0 each.done l.fn.folder l.folder);
       counted : l.removed_files + length (into_iter_items l.path-iterator) ≤ vec_len l.fn.paths;
       room : vec_len l.failures + length (into_iter_items l.path-iterator) ≤ vec_len l.fn.failures + vec_len l.fn.paths;
       capacity : vec_capacity l.fn.failures ≤ vec_capacity l.failures;
-      later : g.F.Folder.keeps l.fn.folder → g.F.Folder.faults l.fn.folder ≤ g.F.Folder.faults l.folder;
-      places : g.F.Folder.keeps l.fn.folder → g.F.Folder.folders l.folder ≡ g.F.Folder.folders l.fn.folder;
-      kept : (g.F.Folder.keeps l.fn.folder → g.F.Folder.keeps l.folder) × (g.F.Folder.keeps l.folder → g.F.Folder.keeps l.fn.folder);
+      later : g.F.Folder.meaning.keeps l.fn.folder → g.F.Folder.meaning.faults l.fn.folder ≤ g.F.Folder.meaning.faults l.folder;
+      places : g.F.Folder.meaning.keeps l.fn.folder → g.F.Folder.meaning.folders l.folder ≡ g.F.Folder.meaning.folders l.fn.folder;
+      kept : (g.F.Folder.meaning.keeps l.fn.folder → g.F.Folder.meaning.keeps l.folder) × (g.F.Folder.meaning.keeps l.folder → g.F.Folder.meaning.keeps l.fn.folder);
     }

@@ -4,14 +4,16 @@ use Rattle.std.specs.List.{filter_map}
 use Rattle.std.proofs.lemmas.List.{map-append}
 use Rattle.lru_folder.specs.declared.fault.FolderFault.TheVariants.{Io}
 use Rattle.lru_folder.specs.Blames.{Blame, blame_of, ReadDirEntry}
-use Rattle.lru_loading.specs.Cleanup.{AreThere, RemovesEach, removal_blame}
+use Rattle.lru_folder.specs.Sparing.{SparesAllBut}
+use Rattle.lru_folder.proofs.SparingLemmas.{spares_started}
+use Rattle.lru_loading.specs.Cleanup.{AreThere, RemovesEach, removal_blame, temp_paths}
 use Rattle.lru_loading.proofs.CleanupNames.{AreThere-temp_paths, found_listed, nameless_listed}
 use Rattle.lru_loading.proofs.cleanup.remove_listed.Goals as goal
 
 pub remove_each-removed_files-requires-clause-there : goal.remove_each-removed_files-requires-clause-there
 remove_each-removed_files-requires-clause-there g c k =
     let F = g.F.Folder in
-    let files = F.files c.args.folder.now in
+    let files = F.meaning.files c.args.folder.now in
     let dir = c.args.dir_path.now in
     let file_name = c.args.file_name.now in
     subst (AreThere files) (sym ((c.in_ok-paths.ensures {u = tt}).paths ∙ found_listed dir file_name files c.args.listed.now (c.requires k))) (AreThere-temp_paths dir file_name files)
@@ -19,9 +21,9 @@ remove_each-removed_files-requires-clause-there g c k =
 pub returns-clause-ok : goal.returns-clause-ok
 returns-clause-ok g c k =
     let F = g.F.Folder in
-    let files = F.files c.args.folder.now in
-    let new = F.files c.remove_each-removed_files.new.folder in
-    let rose = F.faults c.args.folder.now < F.faults c.remove_each-removed_files.new.folder in
+    let files = F.meaning.files c.args.folder.now in
+    let new = F.meaning.files c.remove_each-removed_files.new.folder in
+    let rose = F.meaning.faults c.args.folder.now < F.meaning.faults c.remove_each-removed_files.new.folder in
     let dir = c.args.dir_path.now in
     let file_name = c.args.file_name.now in
     let found = (c.in_ok-paths.ensures {u = tt}) in
@@ -42,3 +44,20 @@ returns-clause-ok g c k =
           ∙ ap (λ (bs : List Blame). bs ++ map blame_of unreadable) (tried.4 ∙ ap (λ fs. map blame_of fs ++ filter_map removal_blame removals) (c.in_ok-failures.ensures {u = tt}).items)
           ∙ ap (λ (bs : List Blame). filter_map removal_blame removals ++ bs) (found.unreadable ∙ names);
     }
+
+pub returns-clause-spares : goal.returns-clause-spares
+returns-clause-spares g c k =
+    let F = g.F.Folder in
+    let start = c.args.folder.now in
+    let paths = (c.in_ok-paths.ensures {u = tt}).paths ∙ found_listed c.args.dir_path.now c.args.file_name.now (F.meaning.files start) c.args.listed.now (c.requires k) in
+    subst (λ (ps : List (List ℕ)). SparesAllBut F.meaning ps start c.remove_each-removed_files.new.folder) paths (c.remove_each-removed_files.ensures.spares k)
+
+pub returns-in_err-paths-clause-spares : goal.returns-in_err-paths-clause-spares
+returns-in_err-paths-clause-spares g c k =
+    let start = c.args.folder.now in
+    spares_started g.F.Folder.meaning (temp_paths c.args.dir_path.now c.args.file_name.now (g.F.Folder.meaning.files start)) start (λ m s. g.met.F.Folder.only_now start m k s)
+
+pub returns-in_err-failures-clause-spares : goal.returns-in_err-failures-clause-spares
+returns-in_err-failures-clause-spares g c k =
+    let start = c.args.folder.now in
+    spares_started g.F.Folder.meaning (temp_paths c.args.dir_path.now c.args.file_name.now (g.F.Folder.meaning.files start)) start (λ m s. g.met.F.Folder.only_now start m k s)

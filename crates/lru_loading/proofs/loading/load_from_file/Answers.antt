@@ -19,6 +19,8 @@ returns-in_err-bytes-clause-turn g c =
         later = read.later k;
         files = read.files k;
         places = read.places k;
+        spares = read.spares k;
+        kept = read.kept.0 k;
       },
     )
 
@@ -35,6 +37,8 @@ returns-in-Ok-clause-turn g c = (
     later = read.later k;
     files = read.files k;
     places = read.places k;
+    spares = read.spares k;
+    kept = read.kept.0 k;
   },
 )
 
@@ -51,5 +55,7 @@ returns-clause-turn g c = (
     later = read.later k;
     files = read.files k;
     places = read.places k;
+    spares = read.spares k;
+    kept = read.kept.0 k;
   },
 )

@@ -21,7 +21,7 @@ save_file-requires g c same =
 pub returns-in-Ok-save_file-clause-saves : goal.returns-in-Ok-save_file-clause-saves
 returns-in-Ok-save_file-clause-saves g c k =
     let F = g.F.Folder in
-    let m : Meaning _ = record { files = F.files; folders = F.folders; clock = F.clock; stopped_since = F.stopped_since; lost_since = F.lost_since; loose = F.loose; faults = F.faults; last_call = F.last_call; keeps = F.keeps } in
+    let m : Meaning _ = F.meaning in
     let dir = c.args.dir_path.now in
     let name = c.args.file_name.now in
     let start = c.args.folder.now in
@@ -32,14 +32,14 @@ returns-in-Ok-save_file-clause-saves g c k =
     subst (λ given. SavesOne m dir name c.args.shard (record { word = c.args.word; given = given; failed = None }) start end) (sym c.in-Ok-given.is)
     (ends_well m dir name c.args.shard c.args.word bytes start end
     (at_paths (λ t p b. Leaves m b start end t p) (string_bytes c.in-Ok.temp) temp (string_bytes c.in-Ok.path) path c.deref.result.now bytes.items c.in-Ok.ensures.0 c.in-Ok.ensures.1 c.deref.ensures.value (c.save_file.ensures.any_moment k))
-    (at_paths (λ t p b. IsSaved t p b (F.files start) (F.files end)) (string_bytes c.in-Ok.temp) temp (string_bytes c.in-Ok.path) path c.deref.result.now bytes.items c.in-Ok.ensures.0 c.in-Ok.ensures.1 c.deref.ensures.value (c.in-Ok-save_file.ensures.saved k))
+    (at_paths (λ t p b. IsSaved t p b (F.meaning.files start) (F.meaning.files end)) (string_bytes c.in-Ok.temp) temp (string_bytes c.in-Ok.path) path c.deref.result.now bytes.items c.in-Ok.ensures.0 c.in-Ok.ensures.1 c.deref.ensures.value (c.in-Ok-save_file.ensures.saved k))
     (c.in-Ok-save_file.ensures.faults k) (c.save_file.ensures.places k)
-    (subst (λ (p : List ℕ). ¬ F.loose end p) c.in-Ok.ensures.1 (c.in-Ok-save_file.ensures.firm k)))
+    (subst (λ (p : List ℕ). ¬ F.meaning.loose end p) c.in-Ok.ensures.1 (c.in-Ok-save_file.ensures.firm k)))
 
 pub returns-in-Ok-given-clause-saves : goal.returns-in-Ok-given-clause-saves
 returns-in-Ok-given-clause-saves g c k =
     let F = g.F.Folder in
-    let m : Meaning _ = record { files = F.files; folders = F.folders; clock = F.clock; stopped_since = F.stopped_since; lost_since = F.lost_since; loose = F.loose; faults = F.faults; last_call = F.last_call; keeps = F.keeps } in
+    let m : Meaning _ = F.meaning in
     let dir = c.args.dir_path.now in
     let name = c.args.file_name.now in
     let start = c.args.folder.now in
@@ -52,19 +52,19 @@ returns-in-Ok-given-clause-saves g c k =
     (ends_badly m dir name c.args.shard c.args.word bytes start end source
     (at_paths (λ t p b. Leaves m b start end t p) (string_bytes c.in-Ok.temp) temp (string_bytes c.in-Ok.path) path c.deref.result.now bytes.items c.in-Ok.ensures.0 c.in-Ok.ensures.1 c.deref.ensures.value (c.save_file.ensures.any_moment k))
     (c.in-Err-save_file.ensures.named k)
-    (subst (λ t. HasReason (is_there (F.folders start) (folder_of t)) (F.faults start) (F.faults end) (blame_of source).cause) c.in-Ok.ensures.0 (c.in-Err-save_file.ensures.reason k))
+    (subst (λ t. HasReason (is_there (F.meaning.folders start) (folder_of t)) (F.meaning.faults start) (F.meaning.faults end) (blame_of source).cause) c.in-Ok.ensures.0 (c.in-Err-save_file.ensures.reason k))
     (c.save_file.ensures.places k))
 
 pub returns-in_default-clause-saves : goal.returns-in_default-clause-saves
 returns-in_default-clause-saves g c k =
     let F = g.F.Folder in
-    let m : Meaning _ = record { files = F.files; folders = F.folders; clock = F.clock; stopped_since = F.stopped_since; lost_since = F.lost_since; loose = F.loose; faults = F.faults; last_call = F.last_call; keeps = F.keeps } in
+    let m : Meaning _ = F.meaning in
     let start = c.args.folder.now in
     ends_early m c.args.dir_path.now c.args.file_name.now c.args.shard c.args.word c.args.given (Memory c.args.shard) start (λ f s. g.met.F.Folder.only_now start f k s) tt tt
 
 pub returns-clause-saves : goal.returns-clause-saves
 returns-clause-saves g c k =
     let F = g.F.Folder in
-    let m : Meaning _ = record { files = F.files; folders = F.folders; clock = F.clock; stopped_since = F.stopped_since; lost_since = F.lost_since; loose = F.loose; faults = F.faults; last_call = F.last_call; keeps = F.keeps } in
+    let m : Meaning _ = F.meaning in
     let start = c.args.folder.now in
     ends_early m c.args.dir_path.now c.args.file_name.now c.args.shard c.args.word c.args.given (Serialize c.args.shard c.in-Err.source) start (λ f s. g.met.F.Folder.only_now start f k s) tt tt

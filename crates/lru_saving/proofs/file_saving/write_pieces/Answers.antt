@@ -12,7 +12,7 @@ loop-piece-init g c =
     record {
       can = search rules;
       ends = tt;
-      written = λ k. pieces_none F.clock F.stopped_since F.files F.lost_since F.loose (written_path (F.opened start)) c.args.bytes.now start _ (search rules);
+      written = λ k. pieces_none F.meaning (written_path (F.opened start)) c.args.bytes.now start _ (search rules);
       mode = refl;
       quiet = λ k. refl;
       places = λ k. refl;
@@ -35,11 +35,11 @@ loop-piece-preserved g c =
     record {
       can = search rules;
       ends = tt;
-      written = λ k. pieces_more F.clock F.stopped_since F.files F.lost_since F.loose path c.args.bytes.now start mid new (written_path (F.opened mid)) piece rest at
-          (subst (SoFar F.clock F.stopped_since F.files F.lost_since F.loose path c.args.bytes.now start mid) parts (so_far.written k))
+      written = λ k. pieces_more F.meaning path c.args.bytes.now start mid new (written_path (F.opened mid)) piece rest at
+          (subst (SoFar F.meaning path c.args.bytes.now start mid) parts (so_far.written k))
           (c.write.ensures.time (so_far.kept.0 k)) (c.write.ensures.loss (so_far.kept.0 k)) (written.done (so_far.kept.0 k));
       mode = c.write.ensures.mode ∙ so_far.mode;
-      quiet = λ k. no_fault (F.faults mid) (F.faults new) _ (written.cause (so_far.kept.0 k)) (λ e. let f : ⊥ = cc in f) ∙ so_far.quiet k;
+      quiet = λ k. no_fault (F.meaning.faults mid) (F.meaning.faults new) _ (written.cause (so_far.kept.0 k)) (λ e. let f : ⊥ = cc in f) ∙ so_far.quiet k;
       places = λ k. c.write.ensures.places (so_far.kept.0 k) ∙ so_far.places k;
       kept = (λ k. c.write.ensures.kept.0 (so_far.kept.0 k), λ k. so_far.kept.1 (c.write.ensures.kept.1 k));
     }
@@ -51,8 +51,8 @@ returns-in_err-write-clause-time g c k held here =
     let mid = c.loop-piece.folder in
     let so_far = c.loop-piece.invariant in
     let path = written_path (F.opened start) in
-    piece_passes F.clock F.stopped_since F.files F.lost_since F.loose path c.args.bytes.now start mid c.write.new.self (written_path (F.opened mid)) c.in-Some.piece.now (chunks_rest c.next.new.self) (ap written_path so_far.mode)
-    (subst (SoFar F.clock F.stopped_since F.files F.lost_since F.loose path c.args.bytes.now start mid) c.in-Some.ensures.steps.1.0 (so_far.written k))
+    piece_passes F.meaning path c.args.bytes.now start mid c.write.new.self (written_path (F.opened mid)) c.in-Some.piece.now (chunks_rest c.next.new.self) (ap written_path so_far.mode)
+    (subst (SoFar F.meaning path c.args.bytes.now start mid) c.in-Some.ensures.steps.1.0 (so_far.written k))
     (c.write.ensures.time (so_far.kept.0 k)) held here
 
 pub returns-in_err-write-clause-loss : goal.returns-in_err-write-clause-loss
@@ -62,6 +62,6 @@ returns-in_err-write-clause-loss g c k held here =
     let mid = c.loop-piece.folder in
     let so_far = c.loop-piece.invariant in
     let path = written_path (F.opened start) in
-    piece_loses F.clock F.stopped_since F.files F.lost_since F.loose path c.args.bytes.now start mid c.write.new.self (written_path (F.opened mid)) c.in-Some.piece.now (chunks_rest c.next.new.self) (ap written_path so_far.mode)
-    (subst (SoFar F.clock F.stopped_since F.files F.lost_since F.loose path c.args.bytes.now start mid) c.in-Some.ensures.steps.1.0 (so_far.written k))
+    piece_loses F.meaning path c.args.bytes.now start mid c.write.new.self (written_path (F.opened mid)) c.in-Some.piece.now (chunks_rest c.next.new.self) (ap written_path so_far.mode)
+    (subst (SoFar F.meaning path c.args.bytes.now start mid) c.in-Some.ensures.steps.1.0 (so_far.written k))
     (c.write.ensures.loss (so_far.kept.0 k)) held here

@@ -10,9 +10,9 @@ invariant-loop-piece g l =
     record {
       can : (goal.iterator-loop-piece g).can_next l.piece-iterator;
       ends : (goal.iterator-loop-piece g).is_finite l.piece-iterator;
-      written : F.keeps l.fn.folder → WritesSoFar F.clock F.stopped_since F.files F.lost_since F.loose (written_path (F.opened l.fn.folder)) l.bytes l.fn.folder l.folder (chunks_rest l.piece-iterator);
+      written : F.meaning.keeps l.fn.folder → WritesSoFar F.meaning (written_path (F.opened l.fn.folder)) l.bytes l.fn.folder l.folder (chunks_rest l.piece-iterator);
       mode : F.opened l.folder ≡ F.opened l.fn.folder;
-      quiet : F.keeps l.fn.folder → F.faults l.folder ≡ F.faults l.fn.folder;
-      places : F.keeps l.fn.folder → F.folders l.folder ≡ F.folders l.fn.folder;
-      kept : (F.keeps l.fn.folder → F.keeps l.folder) × (F.keeps l.folder → F.keeps l.fn.folder);
+      quiet : F.meaning.keeps l.fn.folder → F.meaning.faults l.folder ≡ F.meaning.faults l.fn.folder;
+      places : F.meaning.keeps l.fn.folder → F.meaning.folders l.folder ≡ F.meaning.folders l.fn.folder;
+      kept : (F.meaning.keeps l.fn.folder → F.meaning.keeps l.folder) × (F.meaning.keeps l.folder → F.meaning.keeps l.fn.folder);
     }

@@ -10,7 +10,7 @@ use Rattle.lru_saving.proofs.saving.save_shards.Given as given
 pub loop-shard-init : goal.loop-shard-init
 loop-shard-init g c =
     let F = g.F.Folder in
-    let m : Meaning _ = record { files = F.files; folders = F.folders; clock = F.clock; stopped_since = F.stopped_since; lost_since = F.lost_since; loose = F.loose; faults = F.faults; last_call = F.last_call; keeps = F.keeps } in
+    let m : Meaning _ = F.meaning in
     let start = c.args.folder.now in
     let s = c.in_ok-saver.ensures in
     record {
@@ -32,7 +32,7 @@ loop-shard-init g c =
 pub loop-shard-preserved : goal.loop-shard-preserved
 loop-shard-preserved g c =
     let F = g.F.Folder in
-    let m : Meaning _ = record { files = F.files; folders = F.folders; clock = F.clock; stopped_since = F.stopped_since; lost_since = F.lost_since; loose = F.loose; faults = F.faults; last_call = F.last_call; keeps = F.keeps } in
+    let m : Meaning _ = F.meaning in
     let so_far = c.loop-shard.invariant in
     let turns = so_far.run.0 in
     let put = c.put.ensures.turn in
@@ -67,7 +67,7 @@ loop-shard-preserved g c =
 pub returns-clause-saves : goal.returns-clause-saves
 returns-clause-saves g c =
     let F = g.F.Folder in
-    let m : Meaning _ = record { files = F.files; folders = F.folders; clock = F.clock; stopped_since = F.stopped_since; lost_since = F.lost_since; loose = F.loose; faults = F.faults; last_call = F.last_call; keeps = F.keeps } in
+    let m : Meaning _ = F.meaning in
     let so_far = c.loop-shard.invariant in
     let run = so_far.run in
     saves_all m (given.S-step g) c.args.dir_path.now c.args.file_name.now c.args.shards c.args.serialize (g.R.Rng.stream c.args.rng.now) c.args.folder.now c.finish.result

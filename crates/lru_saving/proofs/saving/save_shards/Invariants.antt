@@ -9,13 +9,13 @@ use Rattle.lru_saving.proofs.saving.save_shards.Given as goal
 abbrev pub invariant-loop-shard : goal.invariant-loop-shard
 invariant-loop-shard g l =
     let F = g.F.Folder in
-    let m : Meaning _ = record { files = F.files; folders = F.folders; clock = F.clock; stopped_since = F.stopped_since; lost_since = F.lost_since; loose = F.loose; faults = F.faults; last_call = F.last_call; keeps = F.keeps } in
+    let m : Meaning _ = F.meaning in
     record {
       callable : goal.S-IsAlwaysCallable g l.serialize;
-      kept : (F.keeps l.fn.folder → F.keeps l.folder) × (F.keeps l.folder → F.keeps l.fn.folder);
+      kept : (F.meaning.keeps l.fn.folder → F.meaning.keeps l.folder) × (F.meaning.keeps l.folder → F.meaning.keeps l.fn.folder);
       run : (turns : List (SaveTurn _)) × RunsTo (goal.S-step g) 0 l.fn.serialize (g.R.Rng.stream l.fn.rng) turns l.serialize (g.R.Rng.stream l.rng)
           × IsSoFar l.fn.dir_path l.fn.file_name l.fn.shards turns l.saver
-          × (made : _) × (F.keeps l.fn.folder → IsMade m l.fn.dir_path l.fn.folder made × SavesSoFar m l.fn.dir_path l.fn.file_name turns l.fn.folder made l.folder);
+          × (made : _) × (F.meaning.keeps l.fn.folder → IsMade m l.fn.dir_path l.fn.folder made × SavesSoFar m l.fn.dir_path l.fn.file_name turns l.fn.folder made l.folder);
     }
 
 abbrev pub decreases-loop-shard : goal.decreases-loop-shard

@@ -5,4 +5,4 @@ use Rattle.lru_memory_folder.proofs.journal.Journal.after_loss.Given as goal
 
 -- the calls so far were made again
 abbrev pub invariant-loop-ended : goal.invariant-loop-ended
-invariant-loop-ended l = IsReplay (record { begun = l.self.begun; calls = map noted_of (take l.ended-index l.ended-items) }) l.replay
+invariant-loop-ended l = IsReplay l.names l.byte (record { begun = l.self.begun; calls = map noted_of (take l.ended-index l.ended-items) }) l.replay

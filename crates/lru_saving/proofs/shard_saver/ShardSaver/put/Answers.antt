@@ -9,7 +9,7 @@ use Rattle.lru_saving.proofs.shard_saver.ShardSaver.put.Goals.{in-Err, in_defaul
 pub returns-clause-turn : goal.returns-clause-turn
 returns-clause-turn g c =
     let F = g.F.Folder in
-    let m : Meaning _ = record { files = F.files; folders = F.folders; clock = F.clock; stopped_since = F.stopped_since; lost_since = F.lost_since; loose = F.loose; faults = F.faults; last_call = F.last_call; keeps = F.keeps } in
+    let m : Meaning _ = F.meaning in
     let old = c.args.self.now in
     let is = c.self.view_is in
     let dir_is = c.deref.ensures ∙ ap (λ p. p.dir) is in

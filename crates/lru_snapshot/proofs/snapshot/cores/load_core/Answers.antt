@@ -16,7 +16,7 @@ pub returns-clause-loads : goal.returns-clause-loads
 unfolding load_seen
 returns-clause-loads g c =
     let F = g.F.Folder in
-    let m : Meaning _ = record { files = F.files; folders = F.folders; clock = F.clock; stopped_since = F.stopped_since; lost_since = F.lost_since; loose = F.loose; faults = F.faults; last_call = F.last_call; keeps = F.keeps } in
+    let m : Meaning _ = F.meaning in
     let loaded = rw c.shards-shards.ensures.value at c.load_shards.ensures.loads in
     let Loaded : Core Keyed → ShardLoadReport LoadError → Type 0 = λ core report.
     LoadsAll m LoadsShard c.args.dir_path.now c.args.file_name.now g.row.N c.args.core.now c.args.folder.now report core c.load_shards.new.folder in
@@ -35,6 +35,7 @@ returns-clause-loads g c =
             loaded = h.loaded;
             in_order = h.in_order;
             cleaned = h.cleaned;
+            spares = h.spares;
           }))
           c.load_shards.result loaded.loads;
       unmoved = search rules;

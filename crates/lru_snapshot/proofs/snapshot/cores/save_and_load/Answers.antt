@@ -6,7 +6,7 @@ use Rattle.lru_snapshot.proofs.snapshot.cores.save_and_load.Goals as goal
 pub returns-clause-same : goal.returns-clause-same
 returns-clause-same g c = λ keeps tell empty saved loaded.
     let F = g.F.Folder in
-    let m : Meaning _ = record { files = F.files; folders = F.folders; clock = F.clock; stopped_since = F.stopped_since; lost_since = F.lost_since; loose = F.loose; faults = F.faults; last_call = F.last_call; keeps = F.keeps } in
+    let m : Meaning _ = F.meaning in
     let save = c.save_core-saved.ensures in
     let load = c.load_core-loaded.ensures in
     let core = c.args.core.now in
@@ -18,15 +18,15 @@ returns-clause-same g c = λ keeps tell empty saved loaded.
 pub returns-clause-all : goal.returns-clause-all
 returns-clause-all g c = λ keeps same tell empty.
     let F = g.F.Folder in
-    let m : Meaning _ = record { files = F.files; folders = F.folders; clock = F.clock; stopped_since = F.stopped_since; lost_since = F.lost_since; loose = F.loose; faults = F.faults; last_call = F.last_call; keeps = F.keeps } in
+    let m : Meaning _ = F.meaning in
     let save = c.save_core-saved.ensures in
     let load = c.load_core-loaded.ensures in
     let core = c.args.core.now in
     let still = save.saves.kept.0 keeps in
     let first = saves_later m c.args.dir_path.now c.args.file_name.now g.row.N core _ _ c.args.folder.now c.save_core-saved.new.folder c.save_core-saved.result keeps save.saves in
     let second = load.loads.later still in
-    let then_same : F.faults c.save_core-saved.new.folder ≡ F.faults c.args.folder.now = omega arith in
-    let last_same : F.faults c.load_core-loaded.new.folder ≡ F.faults c.save_core-saved.new.folder = omega arith in
+    let then_same : F.meaning.faults c.save_core-saved.new.folder ≡ F.meaning.faults c.args.folder.now = omega arith in
+    let last_same : F.meaning.faults c.load_core-loaded.new.folder ≡ F.meaning.faults c.save_core-saved.new.folder = omega arith in
     elim (save.all keeps then_same) [
       | inl told ↦ inl told
       | inr saved ↦ inr (saved, load.all still last_same core save.valid (save.held keeps saved) tell empty)

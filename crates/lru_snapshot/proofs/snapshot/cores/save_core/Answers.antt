@@ -12,11 +12,11 @@ returns-clause-saves g c = saves_seen _ _ (λ f. f.1.now) c.args.core.now g.row.
 pub returns-clause-held : goal.returns-clause-held
 returns-clause-held g c = λ keeps all.
     let F = g.F.Folder in
-    let m : Meaning _ = record { files = F.files; folders = F.folders; clock = F.clock; stopped_since = F.stopped_since; lost_since = F.lost_since; loose = F.loose; faults = F.faults; last_call = F.last_call; keeps = F.keeps } in
+    let m : Meaning _ = F.meaning in
     holds m c.args.dir_path.now c.args.file_name.now g.row.N c.args.core.now _ _ c.args.folder.now _ c.save_shards.result keeps (returns-clause-saves g c) all
 
 pub returns-clause-all : goal.returns-clause-all
 returns-clause-all g c = λ keeps same.
     let F = g.F.Folder in
-    let m : Meaning _ = record { files = F.files; folders = F.folders; clock = F.clock; stopped_since = F.stopped_since; lost_since = F.lost_since; loose = F.loose; faults = F.faults; last_call = F.last_call; keeps = F.keeps } in
+    let m : Meaning _ = F.meaning in
     saves_all m c.args.dir_path.now c.args.file_name.now g.row.N c.args.core.now _ _ c.args.folder.now _ c.save_shards.result keeps c.shards.ensures.valid.some same (returns-clause-saves g c)

@@ -1,0 +1,2 @@
+pub mod SavedFiles
+pub mod LoadedShards
