@@ -1,0 +1,9 @@
+pub mod Lives
+pub mod Orders
+pub mod Listed
+pub mod Found
+pub mod Kept
+pub mod Moves
+pub mod Viewed
+pub mod Pushed
+pub mod Gone

@@ -1,0 +1,6 @@
+//! Rows of keys, data and weights in the order of their last use, each found by its key.
+#![tactic(auto)]
+
+pub(crate) mod columns;
+pub(crate) mod order;
+pub mod rows;
