@@ -18,7 +18,7 @@ pub(crate) const MOST_SHIFT: u32 = 63;
 const LEAST_SHIFT: u32 = 33;
 
 // A small index grows by more than an eighth, since each growth is a request for memory.
-const LEAST_STEP: u32 = 8;
+const LEAST_STEP: u32 = 16;
 
 /// By how much a hash is shifted for a power of two of heads, at most one place a head. They are no fewer than at the
 /// shift `most`.
@@ -51,6 +51,7 @@ pub(crate) fn links_for(room: u32, places: u32, heads: usize) -> u32
     requires { heads ≤ 2147483648 }
     ensures places { places ≤ result }
     ensures some { 1 ≤ result }
+    ensures few { places ≤ heads + 2 → result ≤ heads + 2 }
 {
     let links = room.saturating_add((room / 8).max(LEAST_STEP)).max(places);
     let most = heads as u32 + 2;
