@@ -1,12 +1,13 @@
 -- What the calls of an index owe: bounds, what is kept, and of which keys it is the index then.
-use Rattle.std.proofs.Common.{◌≡◌, ℕ, ◌+◌, ◌-◌, ◌/◌, ◌^◌, ◌<◌, ◌≤◌, Bool, List, length, get_or, set, replicate, sym, ap, ◌∙◌, subst, arith, Option, None}
+use Rattle.std.proofs.Common.{◌≡◌, ℕ, ◌+◌, ◌-◌, ◌/◌, ◌^◌, ◌<◌, ◌≤◌, Bool, List, ◌++◌, length, get_or, set, replicate, sym, ap, ◌∙◌, subst, arith, Option, None}
 use Rattle.std.specs.Prelude.{IsTrue}
 use Rattle.std.specs.Cmp.{IsEquivalence}
-use Rattle.std.proofs.lemmas.List.{get_or_default}
+use Rattle.std.proofs.Math.Pow.{pow_mono}
+use Rattle.std.proofs.lemmas.List.{get_or_default, length-append}
 use Rattle.lru_index.specs.Index.{Index, room_of, IsFree, put, gone, known_of, HasKey, IsAbsent, Indexes}
 use Rattle.lru_index.specs.Representation.Cells.{IsTable, IsKept, at, homes_of, home_in, index_of, below, end_cell}
 use Rattle.lru_index.specs.Representation.Walks.{Reaches}
-use Rattle.lru_index.proofs.Tables.{kept, shown, empty_table}
+use Rattle.lru_index.proofs.Tables.{kept, shown, empty_table, longer_table}
 use Rattle.lru_index.proofs.Walked.{cell_within, has_link, split, tail_is, has_found}
 use Rattle.lru_index.proofs.Indexed.{length_homes, zero_free, room_is, put_keeps, cut_keeps, no_key, absent, put_index, cut_index, grown_index}
 
@@ -114,6 +115,30 @@ module _ {S : Type 0} (cells : List ℕ) (heads shift : ℕ) (hash_builder : S) 
 
       pub grown_indexes : Indexes eq hash (index_of cells' heads' shift' hash_builder) keys
       grown_indexes = grown_index eq laws hash respects cells heads shift hash_builder keeps keys of_in cells' heads' shift' table_in
+
+  -- ---- more cells behind the others
+  -- the heads do not become fewer where the shift does not become greater
+  pub heads_on : (heads' shift' : ℕ) → heads' ≡ 2 ^ (64 - shift') → shift' ≤ shift → heads ≤ heads'
+  heads_on heads' shift' scale small = omega (arith, scale, keeps.scale, pow_mono {i = 64 - shift} {j = 64 - shift'} (omega (arith, small)))
+
+  module _ (cells' more : List ℕ) (made : cells' ≡ cells ++ more) where
+    longer_in : IsTable cells' heads (home_in cells heads)
+    longer_in = subst (λ xs. IsTable xs heads (home_in cells heads)) (sym made) (longer_table cells more heads (home_in cells heads) keeps.table)
+
+    pub longer_kept : length cells' ≤ heads + 4294967295 → IsKept cells' heads shift
+    longer_kept few = record {
+      table = kept cells' heads (home_in cells heads) longer_in;
+      scale = keeps.scale;
+      least = keeps.least;
+      most = keeps.most;
+      some = omega (arith, keeps.some, ap length made, length-append cells more);
+      few = few;
+    }
+
+    pub longer_indexes : {K : Type 0} (eq : K → K → Bool) (hash : S → K → ℕ) (keys : ℕ → Option K) → Indexes eq hash index keys → Indexes eq hash (index_of cells' heads shift hash_builder) keys
+    longer_indexes eq hash keys of =
+        let old = subst (λ i. Indexes eq hash i keys) (sym view) of in
+        record { known = λ q. shown cells' heads (home_in cells heads) longer_in q ∙ old.known q; once = old.once }
 
 -- ---- no place at all
 module _ (cells : List ℕ) (heads : ℕ) (empty : cells ≡ replicate (length cells) 0) (some : heads < length cells) where

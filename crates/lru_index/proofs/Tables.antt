@@ -1,7 +1,7 @@
 -- Laws of tables: the home of each place is what its cells show, and a place put in, or taken out, changes its own home alone.
 use Rattle.std.proofs.Common.{◌≡◌, ℕ, ◌+◌, ◌-◌, ◌<◌, ◌≤◌, true, false, cond, eqb, List, [], ◌∷◌, ◌++◌, length, set, replicate, suc, zero, refl, sym, ap, ◌∙◌, subst, arith, inl, inr, Option, Some, None}
 use Rattle.std.specs.List.{list_any}
-use Rattle.std.proofs.lemmas.List.{get_or-set_same, get_or-set_other, length-set, get_or-replicate, length-replicate, get_or_past}
+use Rattle.std.proofs.lemmas.List.{get_or-set_same, get_or-set_other, length-set, length-append, get_or_append_left, get_or-replicate, length-replicate, get_or_past}
 use Rattle.std.proofs.lemmas.List.FromFn.{get_or-map-range_with_len, length-map-range_with_len}
 use Rattle.std.proofs.lemmas.Bool.{eq-eqb, ne_eqb, cases_eq, cases_Bool, cases_lt}
 use Rattle.lru_index.specs.Index.{put, gone}
@@ -117,6 +117,32 @@ empty_table n heads wide = record {
   chains = λ b h. ([], record { joined = get_or-replicate n b 0 0 (omega (arith, h, wide)); apart = tt; has = λ p e. absurd (none_is b e); only = λ p i. absurd i });
   homes = λ p b e. absurd (none_is b e);
 }
+
+-- ---- cells behind the others, which no chain reaches
+module _ (cells more : List ℕ) (heads : ℕ) where
+  read_on : (c : ℕ) → c < length cells → at (cells ++ more) c ≡ at cells c
+  read_on c h = get_or_append_left cells more 0 c h
+
+  chain_on : (v : ℕ) (ps : List ℕ) → IsChain cells heads v ps → IsChain (cells ++ more) heads v ps
+  chain_on v [] h = h
+  chain_on v (p ∷ ps) h =
+      let rest = chain_on (at cells (heads + p)) ps h.3 in
+      (h.0, h.1, omega (arith, h.2, length-append cells more), subst (λ w. IsChain (cells ++ more) heads w ps) (sym (read_on (heads + p) h.2)) rest)
+
+  pub longer_table : (home : ℕ → Option ℕ) → IsTable cells heads home → IsTable (cells ++ more) heads home
+  longer_table home table = record {
+    wide = omega (arith, table.wide, length-append cells more);
+    chains = λ b h. let c = table.chains b h in (
+      c.0,
+      record {
+        joined = subst (λ w. IsChain (cells ++ more) heads w c.0) (sym (read_on b (omega (arith, h, table.wide)))) (chain_on (at cells b) c.0 c.1.joined);
+        apart = c.1.apart;
+        has = c.1.has;
+        only = c.1.only;
+      },
+    );
+    homes = table.homes;
+  }
 
 -- ---- a place put first in a home
 module _ (cells : List ℕ) (heads : ℕ) (home : ℕ → Option ℕ) (table : IsTable cells heads home) (b p : ℕ) (low : b < heads) (some : 0 < p) (fits : heads + p < length cells) (free : home p ≡ None) where

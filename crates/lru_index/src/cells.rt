@@ -1,7 +1,7 @@
 //! The cells of an index: a head for each home, and behind the heads a link for each place.
 //!
 //! A head holds the first place of its home, and a link the place behind its own; 0 ends a chain.
-ghost use Rattle.std.specs.Prelude.{◌≡◌, ℕ, ◌+◌, ◌-◌, ◌^◌, ◌<◌, ◌≤◌, ◌/◌, length, vec_len, IfOk, IsSome, None, get_or, set, replicate};
+ghost use Rattle.std.specs.Prelude.{◌≡◌, ℕ, ◌+◌, ◌-◌, ◌^◌, ◌<◌, ◌≤◌, ◌/◌, ◌++◌, length, vec_len, IfOk, OnOk, OnErr, IsSome, None, get_or, set, replicate};
 ghost use Rattle.lru_index.specs.Representation.Cells.{IsTable, IsFilled, home_in};
 ghost use Rattle.lru_index.specs.Hashing.{key_hash};
 ghost use Rattle.lru_index.specs.Representation.Walks.{Reaches};
@@ -11,18 +11,24 @@ use crate::keys::Keys;
 use std::alloc::{AllocError, Global};
 use std::hash::{BuildHasher, Hash};
 
-// At least two heads.
-const MOST_SHIFT: u32 = 63;
+/// The shift of the fewest heads, which are two.
+pub(crate) const MOST_SHIFT: u32 = 63;
 
 // At most 2 to the 31 heads, so that there are fewer links than 2 to the 32.
 const LEAST_SHIFT: u32 = 33;
 
-/// By how much a hash is shifted for a power of two of heads, at most one place a head.
-pub(crate) fn shift_for(places: u32) -> u32
+// A small index grows by more than an eighth, since each growth is a request for memory.
+const LEAST_STEP: u32 = 16;
+
+/// By how much a hash is shifted for a power of two of heads, at most one place a head. They are no fewer than at the
+/// shift `most`.
+pub(crate) fn shift_for(most: u32, places: u32) -> u32
+    requires least { 33 ≤ most }
+    requires most { most ≤ 63 }
     ensures least { 33 ≤ result }
-    ensures most { result ≤ 63 }
+    ensures most { result ≤ most }
 {
-    let mut shift = MOST_SHIFT;
+    let mut shift = most;
     while shift > LEAST_SHIFT && heads_of(shift) + 2 < places as usize {
         shift -= 1;
     }
@@ -39,16 +45,43 @@ pub(crate) fn heads_of(shift: u32) -> usize
     1 << (64 - shift)
 }
 
+/// How many links there are to be behind so many heads, where there is room for `room` places: enough for the places
+/// that are asked for, and an eighth more than there were, but no more than the heads are for.
+pub(crate) fn links_for(room: u32, places: u32, heads: usize) -> u32
+    requires { heads ≤ 2147483648 }
+    ensures places { places ≤ result }
+    ensures some { 1 ≤ result }
+    ensures few { places ≤ heads + 2 → result ≤ heads + 2 }
+{
+    let links = room.saturating_add((room / 8).max(LEAST_STEP)).max(places);
+    let most = heads as u32 + 2;
+    if places <= most {
+        links.min(most)
+    } else {
+        links
+    }
+}
+
 /// The cells of an index with no live place.
-pub(crate) fn empty_cells(alloc: Global, heads: usize, places: u32) -> Result<Vec<u32>, AllocError>
+pub(crate) fn empty_cells(alloc: Global, heads: usize, links: u32) -> Result<Vec<u32>, AllocError>
     requires { heads ≤ 2147483648 }
     ensures empty { IfOk result (λ cells. cells.items ≡ replicate (vec_len cells) 0) }
-    ensures room { IfOk result (λ cells. heads + places ≤ vec_len cells) }
-    ensures some { IfOk result (λ cells. heads < vec_len cells) }
-    ensures few { IfOk result (λ cells. vec_len cells ≤ heads + 4294967295) }
+    ensures long { IfOk result (λ cells. vec_len cells ≡ heads + links) }
 {
-    let links = (heads + 2).max(places as usize);
-    vec![in alloc; 0u32; heads + links]
+    let mut cells = Vec::new(alloc);
+    lengthen(&mut cells, heads + links as usize)?;
+    Ok(cells)
+}
+
+/// Puts zeros behind the cells, until there are so many. Where there is no memory for them, nothing has changed.
+pub(crate) fn lengthen(cells: &mut Vec<u32>, len: usize) -> Result<(), AllocError>
+    requires { vec_len cells.old ≤ len }
+    ensures made { OnOk result (cells.new.items ≡ cells.old.items ++ replicate (len - vec_len cells.old) 0) }
+    ensures long { OnOk result (vec_len cells.new ≡ len) }
+    ensures refused { OnErr result (cells.new.items ≡ cells.old.items) }
+{
+    cells.reserve_exact(len - cells.len())?;
+    cells.resize(len, 0)
 }
 
 /// Puts a place first in its home.
@@ -86,7 +119,8 @@ pub(crate) fn cell_of<K: PartialEq, T: Keys<K>>(
     }
 }
 
-/// Puts each live place below `room` into the chain of its key's home, in the order of the places.
+/// Empties the cells, and puts each live place below `room` into the chain of its key's home, in the order of the
+/// places.
 pub(crate) fn fill<S: BuildHasher, K: Hash, T: Keys<K>>(
     cells: &mut [u32],
     shift: u32,
@@ -96,12 +130,12 @@ pub(crate) fn fill<S: BuildHasher, K: Hash, T: Keys<K>>(
 )
     requires least { 33 ≤ shift }
     requires most { shift ≤ 63 }
-    requires empty { cells.old ≡ replicate (length cells.old) 0 }
     requires some { 1 ≤ room }
     requires fits { 2 ^ (64 - shift) + room ≤ length cells.old }
     requires none { T.key_of keys.now 0 ≡ None }
     ensures { IsFilled (key_hash S.BuildHasher S.Hasher.Hasher K.hash_input hash_builder.now) shift room (T.key_of keys.now) cells.new }
 {
+    cells.fill(0);
     let heads = heads_of(shift);
     for place in 1..room {
         if keys.is_live(place) {

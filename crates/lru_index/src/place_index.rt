@@ -6,7 +6,10 @@ ghost use Rattle.std.specs.List.{fold};
 ghost use Rattle.lru_index.specs.Hashing.{key_hash};
 ghost use Rattle.lru_index.specs.Index.{room_of, IsEmpty, IsFree, Finds, Inserts, gone_at, Indexes};
 
-use crate::cells::{cell_of, empty_cells, fill, heads_of, home_of, put_first, shift_for};
+use crate::cells::{
+    MOST_SHIFT, cell_of, empty_cells, fill, heads_of, home_of, lengthen, links_for, put_first,
+    shift_for,
+};
 use crate::hashing::SeededHashes;
 use crate::keys::Keys;
 use std::alloc::{AllocError, Global};
@@ -85,9 +88,9 @@ impl<S: BuildHasher> PlaceIndex<S> {
         ensures room { IfOk result (λ index. places ≤ room_of index) }
         ensures hashes { IfOk result (λ index. index.hash_builder ≡ hash_builder) }
     {
-        let shift = shift_for(places);
+        let shift = shift_for(MOST_SHIFT, places);
         let heads = heads_of(shift);
-        let cells = empty_cells(alloc, heads, places)?;
+        let cells = empty_cells(alloc, heads, links_for(0, places, heads))?;
         Ok(PlaceIndex {
             cells,
             heads,
@@ -168,8 +171,8 @@ impl<S: BuildHasher> PlaceIndex<S> {
         self.grow(keys, places)
     }
 
-    // The new chains are made from the rows in the order of the places, since that reads the keys in order. Room grows
-    // by an eighth at least, so that the rows that are read again are few.
+    // Where there are heads enough, links are put behind the others, and no chain changes. Else all chains are made from
+    // the rows in the order of the places, since that reads the keys in order.
     fn grow<K: Hash, T: Keys<K>>(&mut self, keys: &T, places: u32) -> Result<(), AllocError>
         requires indexed { Indexes K.eq (key_hash S.BuildHasher S.Hasher.Hasher K.hash_input) self.old (T.key_of keys.now) }
         requires more { room_of self.old < places }
@@ -178,12 +181,14 @@ impl<S: BuildHasher> PlaceIndex<S> {
         ensures refused { IfErr result (λ _. self.new ≡ self.old) }
     {
         let room = self.room();
-        let places = places.max(room.saturating_add(room / 8));
-        let shift = shift_for(places);
+        let shift = shift_for(self.shift, places);
         let heads = heads_of(shift);
-        let mut cells = empty_cells(*self.cells.allocator(), heads, places)?;
-        fill(&mut cells, shift, room, &self.hash_builder, keys);
-        self.cells = cells;
+        let links = links_for(room, places, heads);
+        lengthen(&mut self.cells, heads + links as usize)?;
+        if shift == self.shift {
+            return Ok(());
+        }
+        fill(&mut self.cells, shift, room, &self.hash_builder, keys);
         self.heads = heads;
         self.shift = shift;
         Ok(())

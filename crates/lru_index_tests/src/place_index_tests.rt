@@ -52,9 +52,22 @@ fn finds_what_was_put(rt: HostRuntime) -> Result<(), Fail> {
 
 #[test]
 fn makes_room(rt: HostRuntime) -> Result<(), Fail> {
-    let index = PlaceIndex::with_capacity(rt.alloc(), 100)?;
-    // a power of two of heads, and links for two places more
-    assert_eq!(rt; index.room(), 130);
+    let mut rows = no_rows(rt.alloc())?;
+    // 128 heads
+    let mut index = PlaceIndex::with_capacity(rt.alloc(), 100)?;
+    assert_eq!(rt; index.room(), 100);
+    add_steps(&mut rows, &mut index, 0, 1, 99)?;
+    rows.reads.set(0);
+    index.reserve(&rows, 101)?;
+    assert_eq!(rt; (index.room(), rows.reads.get()), (116, 0));
+    index.reserve(&rows, 117)?;
+    // as far as the heads reach
+    assert_eq!(rt; (index.room(), rows.reads.get()), (130, 0));
+    index.reserve(&rows, 131)?;
+    // the chains are made anew
+    assert_eq!(rt; (index.room(), rows.reads.get()), (146, 99));
+    assert_eq!(rt; index.find(&rows, &98), Some(99));
+    assert_eq!(rt; index.find(&rows, &99), None);
     Ok(())
 }
 
