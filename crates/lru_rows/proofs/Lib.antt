@@ -7,3 +7,4 @@ pub mod Moves
 pub mod Viewed
 pub mod Pushed
 pub mod Gone
+pub mod Shown

@@ -2,7 +2,7 @@
 use Rattle.std.specs.Prelude.{◌≡◌, ℕ, ◌+◌, ◌-◌, ◌<◌, ◌≤◌, ◌==◌, max, not, Bool, List, [], ◌∷◌, ◌++◌, length, map, filter, find, count_by, slice_get, Option, Some, None, Result, Ok, Err, IsSome, if◌then◌else◌, refl}
 use Rattle.std.specs.Option.{option_map_or}
 use Rattle.std.specs.Coded.{Coded, code_by, coded×, coded_ℕ, coded_list}
-use Rattle.std.specs.Borrow.{MutBor}
+use Rattle.std.specs.Borrow.{Bor, MutBor}
 use Rattle.lru_list.specs.Linked.{most_items}
 use Rattle.lru_rows.specs.declared.rows.NoPlace.{NoPlace}
 use Rattle.lru_rows.specs.declared.rows.NoPlace.TheVariants.{Memory, Full}
@@ -68,6 +68,10 @@ module _ {K T : Type 0} where
   abbrev pub last_row : List (Placed K T) → Option (Placed K T)
   last_row rows = slice_get rows (length rows - 1)
 
+  -- what an iterator shows of a row
+  abbrev pub pair_of : Placed K T → T × ℕ
+  pair_of r = (r.value, r.weight)
+
   -- what is known of a row that was taken out
   abbrev pub taken : Placed K T → Taken K T
   taken r = record { key = r.key; value = r.value; weight = r.weight }
@@ -113,6 +117,10 @@ module _ {K T : Type 0} where
   abbrev pub MakesVacancy : Recency K T → Result (Unit {0}) NoPlace → Recency K T → Type 0
   MakesVacancy old (Ok _) new = (length old.rows < most_rows) × (new ≡ recency old.rows (max old.free 1))
   MakesVacancy old (Err cause) new = LacksPlace old cause × (new ≡ old)
+
+-- what an item of an iterator over rows shows
+abbrev pub shown : {T : Type 0} → Bor T × ℕ → T × ℕ
+shown item = (item.0.now, item.1)
 
 -- a closure that was lent the data, and given the weight, may give this answer and leave this data. `post` is the closure's own relation
 pub record Updates {T R : Type 0} (post : MutBor T → ℕ → R → MutBor T → Type 0) (old : T) (weight : ℕ) (answer : R) (new : T) : Type 0 where

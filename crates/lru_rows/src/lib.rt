@@ -2,5 +2,6 @@
 #![tactic(auto)]
 
 pub(crate) mod columns;
+pub mod iter;
 pub(crate) mod order;
 pub mod rows;

@@ -1,13 +1,14 @@
 //! Rows of keys, data and weights, most recent first.
-ghost use Rattle.std.specs.Prelude.{◌≡◌, ℕ, ◌<◌, ◌≤◌, ◌∷◌, ◌++◌, [], length, Some, None, IfOk, if◌then◌else◌};
+ghost use Rattle.std.specs.Prelude.{◌≡◌, ℕ, ◌<◌, ◌≤◌, ◌∷◌, ◌++◌, [], length, map, Some, None, IfOk, if◌then◌else◌};
 ghost use Rattle.std.specs.Option.{option_map, option_copied};
-ghost use Rattle.lru_rows.specs.Rows.{recency, placed, row_at, row_of, IsAt, promoted, with_weight, last_row, Finds, IsRecency, Removes, PopsLast, Pushes, MakesVacancy, UpdatesAt};
+ghost use Rattle.lru_rows.specs.Rows.{recency, pair_of, placed, row_at, row_of, IsAt, promoted, with_weight, last_row, Finds, IsRecency, Removes, PopsLast, Pushes, MakesVacancy, UpdatesAt};
 
 use crate::columns::Columns;
+use crate::iter::RowsIter;
 use crate::order::Order;
 use lru_index::hashing::SeededHashes;
 use lru_index::keys::Keys;
-use lru_list::linked_list::{LinkedList, MOST_ITEMS, PushError};
+use lru_list::linked_list::{LinkedList, LinkedListIter, MOST_ITEMS, PushError};
 use std::alloc::{AllocError, Global};
 use std::hash::{BuildHasher, Hash};
 use std::marker::Model;
@@ -161,6 +162,24 @@ impl<K: Hash, T, S: BuildHasher> Rows<K, T, S> {
     {
         let place = self.order.list.tail()?;
         Some(place as u32)
+    }
+
+    /// The data and the weight of each row, most recent first.
+    pub fn iter(&self) -> RowsIter<'_, K, T>
+        ensures { result ≡ map pair_of self.now.rows }
+    {
+        RowsIter {
+            places: self.order.list.indices(),
+            weights: self.columns.weights.as_slice(),
+            values: self.columns.values.as_slice(),
+        }
+    }
+
+    /// The keys of the rows, most recent first.
+    pub fn keys(&self) -> LinkedListIter<'_, K>
+        ensures { result ≡ map (λ r. r.key) self.now.rows }
+    {
+        self.order.list.iter()
     }
 
     /// The key of a place's row.

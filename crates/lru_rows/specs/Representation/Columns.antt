@@ -1,5 +1,5 @@
 -- What an order of keys, and the columns beside it, stand for.
-use Rattle.std.specs.Prelude.{◌≡◌, ℕ, ◌+◌, ◌≤◌, Bool, List, length, Option, Some, None, IsSome, get_or, set, filter_map}
+use Rattle.std.specs.Prelude.{◌≡◌, ℕ, ◌+◌, ◌<◌, ◌≤◌, Bool, List, [], ◌∷◌, length, Option, Some, None, IsSome, get_or, set, filter_map}
 use Rattle.std.specs.Option.{option_map}
 use Rattle.lru_list.specs.Linked.{Linked, IsNumbered, IsLive, item_of, made}
 use Rattle.lru_index.specs.Index.{Index, Indexes, room_of}
@@ -15,6 +15,16 @@ module _ {T : Type 0} where
   abbrev pub UpdatesValue : {R : Type 0} → (MutBor T → ℕ → R → MutBor T → Type 0) → List ℕ → List (Option T) → ℕ → R → List (Option T) → Type 0
   UpdatesValue post weights old p answer new =
       (d : T) → value_at old p ≡ Some d → (d' : T) × (Updates post d (get_or weights p 0) answer d' × (new ≡ set old p (Some d')))
+
+module _ {T : Type 0} (weights : List ℕ) (values : List (Option T)) where
+  -- the data and the weights at these places
+  abbrev pub pairs_at : List ℕ → List (T × ℕ)
+  pairs_at places = filter_map (λ p. option_map (λ d. (d, get_or weights p 0)) (value_at values p)) places
+
+  -- each place has data, and a weight
+  abbrev pub ShowsAll : List ℕ → Type 0
+  ShowsAll [] = Unit {0}
+  ShowsAll (p ∷ ps) = ((d : T) × (value_at values p ≡ Some d)) × ((p < length weights) × ShowsAll ps)
 
 module _ {K T : Type 0} (weights : List ℕ) (values : List (Option T)) where
   -- the row of a place and its key, where there are data

@@ -1,0 +1,26 @@
+use Rattle.std.proofs.Common.{length, ap, sym, ◌∙◌, arith, subst, ◌∷◌}
+use Rattle.std.specs.Prelude.{is_some}
+use Rattle.lru_rows.specs.Representation.Columns.{pairs_at, ShowsAll}
+use Rattle.lru_rows.proofs.Shown.{pairs-cons}
+use Rattle.lru_rows.proofs.iter.RowsIterIterator.next.Goals as goal
+
+pub pair_at-requires-clause-held : goal.pair_at-requires-clause-held
+pair_at-requires-clause-held g c =
+    ap is_some (subst (ShowsAll c.self.inside.weights.now c.self.inside.values.now) c.in_ok-place.ensures.steps c.self.invariant).0.1
+
+pub pair_at-requires-clause-weighed : goal.pair_at-requires-clause-weighed
+pair_at-requires-clause-weighed g c = (subst (ShowsAll c.self.inside.weights.now c.self.inside.values.now) c.in_ok-place.ensures.steps c.self.invariant).1.0
+
+pub invariant_of-self-2 : goal.invariant_of-self-2
+invariant_of-self-2 g c = (subst (ShowsAll c.self.inside.weights.now c.self.inside.values.now) c.in_ok-place.ensures.steps c.self.invariant).1.1
+
+pub returns-clause-steps : goal.returns-clause-steps
+returns-clause-steps g c =
+    let weights = c.self.inside.weights.now in
+    let values = c.self.inside.values.now in
+    rw (← c.self.view_is)
+    (ap (pairs_at weights values) c.in_ok-place.ensures.steps ∙ pairs-cons weights values c.in_ok-place.place c.next.new.self c.pair_at.result.0.now c.pair_at.ensures.value
+    ∙ ap (λ n. (c.pair_at.result.0.now, n) ∷ pairs_at weights values c.next.new.self) (sym c.pair_at.ensures.weight))
+
+pub returns-clause-goes : goal.returns-clause-goes
+returns-clause-goes g c = record { on = λ _. (tt, tt, omega (arith, ap length (returns-clause-steps g c))); keeps = tt; rests = λ _. tt }

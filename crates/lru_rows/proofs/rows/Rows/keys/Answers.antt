@@ -1,0 +1,7 @@
+use Rattle.lru_index.specs.Hashing.{key_hash}
+use Rattle.std.proofs.Common.{◌∙◌}
+use Rattle.lru_rows.proofs.Shown.{all_keys}
+use Rattle.lru_rows.proofs.rows.Rows.keys.Goals as goal
+
+pub returns : goal.returns
+returns g c = c.iter.ensures.rest ∙ all_keys g.K.PartialEq.eq (key_hash g.S.BuildHasher g.S.Hasher.Hasher g.K.Hash.hash_input) c.self.inside.order.list c.self.inside.columns.index c.self.inside.columns.weights.items c.self.inside.columns.values.items c.self.invariant c.args.self.now c.self.view_is
