@@ -150,7 +150,8 @@ impl<K: Hash, T, S: BuildHasher> Rows<K, T, S> {
     /// The place of a key's row.
     #[inline(always)]
     pub fn find(&self, key: &K) -> Option<Place>
-        ensures { Finds K.eq self.now.rows key.now result }
+        ensures finds { Finds K.eq self.now.rows key.now result }
+        ensures valid { IsRecency K.eq self.now.rows }
     {
         self.columns.index.find(&self.order, key)
     }

@@ -1,6 +1,9 @@
 use Rattle.lru_index.specs.Hashing.{key_hash}
-use Rattle.lru_rows.proofs.Viewed.{seen_finds}
+use Rattle.lru_rows.proofs.Viewed.{seen_finds, seen_valid}
 use Rattle.lru_rows.proofs.rows.Rows.find.Goals as goal
 
-pub returns : goal.returns
-returns g c = seen_finds g.K.PartialEq.eq (key_hash g.S.BuildHasher g.S.Hasher.Hasher g.K.Hash.hash_input) c.self.inside.order.list c.self.inside.columns.index c.self.inside.columns.weights.items c.self.inside.columns.values.items c.self.invariant c.args.self.now c.self.view_is g.met.K.Eq.laws c.args.key.now c.find.result c.find.ensures
+pub returns-clause-finds : goal.returns-clause-finds
+returns-clause-finds g c = seen_finds g.K.PartialEq.eq (key_hash g.S.BuildHasher g.S.Hasher.Hasher g.K.Hash.hash_input) c.self.inside.order.list c.self.inside.columns.index c.self.inside.columns.weights.items c.self.inside.columns.values.items c.self.invariant c.args.self.now c.self.view_is g.met.K.Eq.laws c.args.key.now c.find.result c.find.ensures
+
+pub returns-clause-valid : goal.returns-clause-valid
+returns-clause-valid g c = seen_valid g.K.PartialEq.eq (key_hash g.S.BuildHasher g.S.Hasher.Hasher g.K.Hash.hash_input) c.self.inside.order.list c.self.inside.columns.index c.self.inside.columns.weights.items c.self.inside.columns.values.items c.self.invariant c.args.self.now c.self.view_is g.met.K.Eq.laws

@@ -1,0 +1,192 @@
+-- Rows seen as entries.
+use Rattle.std.proofs.Common.{◌≡◌, ◌≢◌, ℕ, ◌+◌, ◌≤◌, cond, not, eqb, List, [], ◌∷◌, ◌++◌, length, Some, None, refl, sym, ap, ◌∙◌, inl, inr, arith, true, false, suc}
+use Rattle.std.specs.Prelude.{Bool, is_some, IsSome, count_by, ◌==◌}
+use Rattle.std.specs.Option.{option_map}
+use Rattle.std.proofs.lemmas.Bool.{cond_both, cases_eq, eq-eqb, ne_eqb, eqb-true, eqb-false, not-true, not-false, false≢true}
+use Rattle.std.proofs.lemmas.List.Sums.{sum_by-cons, sum_by-append}
+use Rattle.lru_rows.specs.Rows.{Placed, row_at, row_of, without as rows_without}
+use Rattle.lru_cache.specs.declared.cache.Entry.{Entry}
+use Rattle.lru_cache.specs.Cache.{entry_of, without, weight_of}
+use Rattle.lru_cache.specs.Representation.{entry_in, entries_in, weight_in}
+
+pub some_of : {A : Type 0} (a b : A) → Some a ≡ Some b → a ≡ b
+some_of a b e = cc
+
+-- by what a test answers
+pub by_bool : {P : Type 0} (b : Bool) → (b ≡ true → P) → (b ≡ false → P) → P
+by_bool true here other = here refl
+by_bool false here other = other refl
+
+module _ {K V : Type 0} where
+  -- ---- sums
+  pub weight-entries : (rows : List (Placed K V)) → weight_of (entries_in rows) ≡ weight_in rows
+  weight-entries [] = refl
+  weight-entries (r ∷ rs) =
+      sum_by-cons (λ (e : Entry K V). e.weight) (entry_in r) (entries_in rs) ∙ ap (λ n. r.weight + n) (weight-entries rs) ∙ sym (sum_by-cons (λ (x : Placed K V). x.weight) r rs)
+
+  pub length-entries : (rows : List (Placed K V)) → length (entries_in rows) ≡ length rows
+  length-entries [] = refl
+  length-entries (r ∷ rs) = ap suc (length-entries rs)
+
+  pub weight-cons : (r : Placed K V) (rs : List (Placed K V)) → weight_in (r ∷ rs) ≡ r.weight + weight_in rs
+  weight-cons r rs = sum_by-cons (λ (x : Placed K V). x.weight) r rs
+
+  pub weight-append : (xs ys : List (Placed K V)) → weight_in (xs ++ ys) ≡ weight_in xs + weight_in ys
+  weight-append xs ys = sum_by-append (λ (x : Placed K V). x.weight) xs ys
+
+  -- ---- the rows without a place's, by the two cases of the first
+  by_place : (p : ℕ) (r : Placed K V) (rs : List (Placed K V)) (P : List (Placed K V) → Type 0) → (r.place ≡ p → P (rows_without rs p)) → (r.place ≢ p → P (r ∷ rows_without rs p)) → P (rows_without (r ∷ rs) p)
+  by_place p r rs P here other =
+      cond_both (not (eqb r.place p)) (r ∷ rows_without rs p) (rows_without rs p) P (λ e. other (eqb-false _ _ (not-true _ e))) (λ e. here (eqb-true _ _ (not-false _ e)))
+
+  abbrev places : ℕ → List (Placed K V) → ℕ
+  places p rows = count_by (λ r. r.place == p) rows
+
+  places_here : (r : Placed K V) (rs : List (Placed K V)) (p : ℕ) → r.place ≡ p → places p (r ∷ rs) ≡ 1 + places p rs
+  places_here r rs p e = sum_by-cons (λ (x : Placed K V). cond (eqb x.place p) 1 0) r rs ∙ ap (λ b. cond b 1 0 + places p rs) (eq-eqb r.place p e)
+
+  places_other : (r : Placed K V) (rs : List (Placed K V)) (p : ℕ) → r.place ≢ p → places p (r ∷ rs) ≡ places p rs
+  places_other r rs p ne =
+      let h : places p (r ∷ rs) ≡ 0 + places p rs = sum_by-cons (λ (x : Placed K V). cond (eqb x.place p) 1 0) r rs ∙ ap (λ b. cond b 1 0 + places p rs) (ne_eqb r.place p ne) in
+      omega (arith, h)
+
+  -- a place that no row has
+  without_absent : (p : ℕ) (rows : List (Placed K V)) → places p rows ≡ 0 → rows_without rows p ≡ rows
+  without_absent p [] none = refl
+  without_absent p (r ∷ rs) none =
+      by_place p r rs (λ xs. xs ≡ r ∷ rs) (λ e. absurd (omega (arith, none, places_here r rs p e))) (λ ne. ap (λ xs. r ∷ xs) (without_absent p rs (sym (places_other r rs p ne) ∙ none)))
+
+  -- the row at a place has it
+  pub row_place : (rows : List (Placed K V)) (p : ℕ) (r : Placed K V) → row_at rows p ≡ Some r → r.place ≡ p
+  row_place [] p r found = absurd (false≢true (ap is_some found))
+  row_place (x ∷ xs) p r found =
+      elim (cases_eq x.place p) [
+        | inl e ↦ ap (λ (y : Placed K V). y.place) (sym (some_of x r (sym (ap (λ b. cond b (Some x) (row_at xs p)) (eq-eqb x.place p e)) ∙ found))) ∙ e
+        | inr ne ↦ row_place xs p r (sym (ap (λ b. cond b (Some x) (row_at xs p)) (ne_eqb x.place p ne)) ∙ found)
+      ]
+
+  -- what a row at a place weighs, and the others
+  pub weight-without : (p : ℕ) (rows : List (Placed K V)) (r : Placed K V) → row_at rows p ≡ Some r → places p rows ≤ 1 → weight_in rows ≡ r.weight + weight_in (rows_without rows p)
+  weight-without p [] r found once = absurd (false≢true (ap is_some found))
+  weight-without p (x ∷ xs) r found once =
+      by_place p x xs (λ ys. weight_in (x ∷ xs) ≡ r.weight + weight_in ys)
+      (λ e.
+      let is : x ≡ r = some_of x r (sym (ap (λ b. cond b (Some x) (row_at xs p)) (eq-eqb x.place p e)) ∙ found) in
+      let none : places p xs ≡ 0 = omega (arith, once, places_here x xs p e) in
+      weight-cons x xs ∙ ap (λ (y : Placed K V). y.weight + weight_in xs) is ∙ ap (λ ys. r.weight + weight_in ys) (sym (without_absent p xs none)))
+      (λ ne.
+      let rest = weight-without p xs r (sym (ap (λ b. cond b (Some x) (row_at xs p)) (ne_eqb x.place p ne)) ∙ found) (omega (arith, once, places_other x xs p ne)) in
+      omega (arith, rest, weight-cons x xs, weight-cons x (rows_without xs p)))
+
+  pub length-without : (p : ℕ) (rows : List (Placed K V)) → IsSome (row_at rows p) → places p rows ≤ 1 → length rows ≡ 1 + length (rows_without rows p)
+  length-without p [] found once = absurd (false≢true found)
+  length-without p (x ∷ xs) found once =
+      by_place p x xs (λ ys. length (x ∷ xs) ≡ 1 + length ys)
+      (λ e.
+      let none : places p xs ≡ 0 = omega (arith, once, places_here x xs p e) in
+      omega (arith, ap length (without_absent p xs none)))
+      (λ ne.
+      let rest = length-without p xs (sym (ap (λ b. is_some (cond b (Some x) (row_at xs p))) (ne_eqb x.place p ne)) ∙ found) (omega (arith, once, places_other x xs p ne)) in
+      omega (arith, rest))
+
+  tail_once_of : (x : Placed K V) (xs : List (Placed K V)) → ((p : ℕ) → places p (x ∷ xs) ≤ 1) → (p : ℕ) → places p xs ≤ 1
+  tail_once_of x xs once p =
+      elim (cases_eq x.place p) [
+        | inl h ↦ omega (arith, once p, places_here x xs p h)
+        | inr ne ↦ omega (arith, once p, places_other x xs p ne)
+      ]
+
+  module _ (eq : K → K → Bool) where
+    -- the entry of a key
+    pub entry-row : (rows : List (Placed K V)) (key : K) → entry_of eq (entries_in rows) key ≡ option_map entry_in (row_of eq rows key)
+    entry-row [] key = refl
+    entry-row (r ∷ rs) key =
+        cond_both (eq r.key key) (Some r) (row_of eq rs key) (λ o. cond (eq r.key key) (Some (entry_in r)) (entry_of eq (entries_in rs) key) ≡ option_map entry_in o)
+        (λ e. ap (λ b. cond b (Some (entry_in r)) (entry_of eq (entries_in rs) key)) e)
+        (λ e. ap (λ b. cond b (Some (entry_in r)) (entry_of eq (entries_in rs) key)) e ∙ entry-row rs key)
+
+    abbrev keyed : K → List (Placed K V) → ℕ
+    keyed key rows = count_by (λ r. eq r.key key) rows
+
+    keyed-cons : (key : K) (r : Placed K V) (rs : List (Placed K V)) → keyed key (r ∷ rs) ≡ cond (eq r.key key) 1 0 + keyed key rs
+    keyed-cons key r rs = sum_by-cons (λ (x : Placed K V). cond (eq x.key key) 1 0) r rs
+
+    pub keyed-entries : (key : K) (rows : List (Placed K V)) → count_by (λ (e : Entry K V). eq e.key key) (entries_in rows) ≡ keyed key rows
+    keyed-entries key [] = refl
+    keyed-entries key (r ∷ rs) =
+        sum_by-cons (λ (e : Entry K V). cond (eq e.key key) 1 0) (entry_in r) (entries_in rs) ∙ ap (λ n. cond (eq r.key key) 1 0 + n) (keyed-entries key rs) ∙ sym (keyed-cons key r rs)
+
+    counts : (r : Placed K V) (key : K) (b : Bool) → eq r.key key ≡ b → ◌≡◌ {A = ℕ} (cond (eq r.key key) 1 0) (cond b 1 0)
+    counts r key b e = ap (λ x. cond x 1 0) e
+
+    -- a key that no row has
+    keyless : (key : K) (rows : List (Placed K V)) → keyed key rows ≡ 0 → without eq (entries_in rows) key ≡ entries_in rows
+    keyless key [] none = refl
+    keyless key (r ∷ rs) none =
+        by_bool (eq r.key key)
+        (λ e. absurd (omega (arith, none, keyed-cons key r rs, counts r key true e)))
+        (λ e.
+        let less : ◌≡◌ {A = ℕ} (keyed key rs) 0 = omega (arith, none, keyed-cons key r rs, counts r key false e) in
+        ap (λ b. cond (not b) (entry_in r ∷ without eq (entries_in rs) key) (without eq (entries_in rs) key)) e ∙ ap (λ es. entry_in r ∷ es) (keyless key rs less))
+
+    pub absent_without : (key : K) (rows : List (Placed K V)) → row_of eq rows key ≡ None → without eq (entries_in rows) key ≡ entries_in rows
+    absent_without key [] none = refl
+    absent_without key (r ∷ rs) none =
+        by_bool (eq r.key key)
+        (λ e. absurd (false≢true (ap is_some (sym none ∙ ap (λ b. cond b (Some r) (row_of eq rs key)) e))))
+        (λ e.
+        ap (λ b. cond (not b) (entry_in r ∷ without eq (entries_in rs) key) (without eq (entries_in rs) key)) e
+        ∙ ap (λ es. entry_in r ∷ es) (absent_without key rs (sym (ap (λ b. cond b (Some r) (row_of eq rs key)) e) ∙ none)))
+
+    -- a row that is found stands there
+    found_there : (key : K) (rows : List (Placed K V)) (r : Placed K V) → row_of eq rows key ≡ Some r → 1 ≤ places r.place rows
+    found_there key [] r found = absurd (false≢true (ap is_some found))
+    found_there key (x ∷ xs) r found =
+        by_bool (eq x.key key)
+        (λ e.
+        let is : x ≡ r = some_of x r (sym (ap (λ b. cond b (Some x) (row_of eq xs key)) e) ∙ found) in
+        omega (arith, places_here x xs r.place (ap (λ (y : Placed K V). y.place) is)))
+        (λ e.
+        let rest = found_there key xs r (sym (ap (λ b. cond b (Some x) (row_of eq xs key)) e) ∙ found) in
+        elim (cases_eq x.place r.place) [
+          | inl here ↦ omega (arith, rest, places_here x xs r.place here)
+          | inr ne ↦ omega (arith, rest, places_other x xs r.place ne)
+        ])
+
+    -- and is the one at its place
+    pub row_there : (key : K) (rows : List (Placed K V)) (r : Placed K V) → row_of eq rows key ≡ Some r → ((p : ℕ) → places p rows ≤ 1) → row_at rows r.place ≡ Some r
+    row_there key [] r found once = absurd (false≢true (ap is_some found))
+    row_there key (x ∷ xs) r found once =
+        by_bool (eq x.key key)
+        (λ e.
+        let is : x ≡ r = some_of x r (sym (ap (λ b. cond b (Some x) (row_of eq xs key)) e) ∙ found) in
+        ap (λ b. cond b (Some x) (row_at xs r.place)) (eq-eqb x.place r.place (ap (λ (y : Placed K V). y.place) is)) ∙ ap (λ y. Some y) is)
+        (λ e.
+        let rest = sym (ap (λ b. cond b (Some x) (row_of eq xs key)) e) ∙ found in
+        let there = found_there key xs r rest in
+        let ne : x.place ≢ r.place = λ here. absurd (omega (arith, once r.place, there, places_here x xs r.place here)) in
+        ap (λ b. cond b (Some x) (row_at xs r.place)) (ne_eqb x.place r.place ne) ∙ row_there key xs r rest (tail_once_of x xs once))
+
+    -- the entries without a key's are the rows without that at its place
+    pub entries-without : (key : K) (rows : List (Placed K V)) (r : Placed K V) → row_of eq rows key ≡ Some r → ((p : ℕ) → places p rows ≤ 1) → keyed key rows ≤ 1 →
+        entries_in (rows_without rows r.place) ≡ without eq (entries_in rows) key
+    entries-without key [] r found once one = absurd (false≢true (ap is_some found))
+    entries-without key (x ∷ xs) r found once one =
+        by_bool (eq x.key key)
+        (λ e.
+        let is : x ≡ r = some_of x r (sym (ap (λ b. cond b (Some x) (row_of eq xs key)) e) ∙ found) in
+        let here : x.place ≡ r.place = ap (λ (y : Placed K V). y.place) is in
+        let none : places r.place xs ≡ 0 = omega (arith, once r.place, places_here x xs r.place here) in
+        let less : ◌≡◌ {A = ℕ} (keyed key xs) 0 = omega (arith, one, keyed-cons key x xs, counts x key true e) in
+        by_place r.place x xs (λ ys. entries_in ys ≡ without eq (entries_in (x ∷ xs)) key)
+        (λ _. ap entries_in (without_absent r.place xs none) ∙ sym (keyless key xs less)
+        ∙ sym (ap (λ b. cond (not b) (entry_in x ∷ without eq (entries_in xs) key) (without eq (entries_in xs) key)) e))
+        (λ ne. absurd (ne here)))
+        (λ e.
+        let rest = sym (ap (λ b. cond b (Some x) (row_of eq xs key)) e) ∙ found in
+        let there = found_there key xs r rest in
+        let off = entries-without key xs r rest (tail_once_of x xs once) (omega (arith, one, keyed-cons key x xs)) in
+        by_place r.place x xs (λ ys. entries_in ys ≡ without eq (entries_in (x ∷ xs)) key)
+        (λ here. absurd (omega (arith, once r.place, there, places_here x xs r.place here)))
+        (λ ne. ap (λ es. entry_in x ∷ es) off
+        ∙ sym (ap (λ b. cond (not b) (entry_in x ∷ without eq (entries_in xs) key) (without eq (entries_in xs) key)) e)))

@@ -1,0 +1,5 @@
+pub mod Entries
+pub mod Views
+pub mod Shrunk
+pub mod Placing
+pub mod Putting

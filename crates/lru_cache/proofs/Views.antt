@@ -1,0 +1,190 @@
+-- What calls make of a cache, by what they make of its rows.
+use Rattle.std.proofs.Common.{◌≡◌, ℕ, ◌+◌, ◌-◌, ◌≤◌, List, [], ◌∷◌, ◌++◌, length, map, Some, None, refl, sym, ap, ◌∙◌, subst, arith}
+use Rattle.std.specs.Prelude.{Option, Bool, is_some, max}
+use Rattle.std.specs.Option.{option_map, option_map_or}
+use Rattle.std.proofs.lemmas.List.{map-append, length-append}
+use Rattle.lru_rows.specs.declared.rows.Taken.{Taken}
+use Rattle.lru_rows.specs.Rows.{Placed, Recency, recency, row_at, row_of, IsAt, Finds, IsRecency, promoted, Removes as RowsRemoves, PopsLast as RowsPopsLast, without as rows_without}
+use Rattle.lru_cache.specs.declared.cache.Entry.{Entry}
+use Rattle.lru_cache.specs.Cache.{Cached, entry, entry_of, without, used, weight_of, with_entries, IsCache, PopsLast}
+use Rattle.lru_cache.specs.Representation.{entry_in, entries_in, weight_in, cached_in, IsKept}
+use Rattle.lru_cache.proofs.Entries.{row_place, row_there, weight-entries, length-entries, weight-cons, weight-append, weight-without, length-without, entry-row, keyed-entries, entries-without, absent_without}
+
+-- the greater of two, where that is known
+max_left : (a b : ℕ) → b ≤ a → max a b ≡ a
+max_left a b le = omega (arith, le)
+
+keys_in : {K V : Type 0} (rows : List (Placed K V)) → map (λ (x : Placed K V). x.key) rows ≡ map (λ (e : Entry K V). e.key) (entries_in rows)
+keys_in [] = refl
+keys_in (r ∷ rs) = ap (λ ks. r.key ∷ ks) (keys_in rs)
+
+module _ {K V : Type 0} (eq : K → K → Bool) (r : Recency K V) (used_is most_weight most_entries : ℕ) (kept : IsKept r used_is most_weight most_entries) (c : Cached K V)
+    (view : cached_in r most_weight most_entries ≡ c) where
+  pub entries_are : entries_in r.rows ≡ c.entries
+  entries_are = ap (λ (x : Cached K V). x.entries) view
+
+  -- a cache whose entries stand for these rows
+  pub with_rows : (rows : List (Placed K V)) (free : ℕ) → length rows + free ≡ max (length r.rows + r.free) (length rows) → cached_in (recency rows free) most_weight most_entries ≡ with_entries c (entries_in rows)
+  with_rows rows free is =
+      ap (λ n. record { entries = entries_in rows; places = n; most_weight = most_weight; most_entries = most_entries })
+      (is ∙ ap (max (length r.rows + r.free)) (sym (length-entries rows)))
+      ∙ ap (λ (x : Cached K V). with_entries x (entries_in rows)) view
+
+  pub weighs : used_is ≡ weight_of c.entries
+  weighs = kept.used_is ∙ sym (weight-entries r.rows) ∙ ap weight_of entries_are
+
+  pub keys_are : map (λ (x : Placed K V). x.key) r.rows ≡ map (λ (e : Entry K V). e.key) c.entries
+  keys_are = keys_in r.rows ∙ ap (map (λ (e : Entry K V). e.key)) entries_are
+
+  pub valid_cache : IsRecency eq r.rows → IsCache eq c
+  valid_cache valid = subst (IsCache eq) view (record {
+    keys = λ k. omega (arith, keyed-entries eq k r.rows, valid.keys k);
+    fits = (omega (arith, weight-entries r.rows, kept.used_is, kept.light), omega (arith, length-entries r.rows, kept.few));
+    placed = omega (arith, length-entries r.rows);
+    short = omega (arith, length-entries r.rows, valid.short);
+  })
+
+  module _ (key : K) where
+    found_entry : entry_of eq c.entries key ≡ option_map entry_in (row_of eq r.rows key)
+    found_entry = ap (λ es. entry_of eq es key) (sym entries_are) ∙ entry-row eq r.rows key
+
+    -- what is found
+    pub found_some : (o : Option ℕ) → Finds eq r.rows key o → is_some o ≡ is_some (entry_of eq c.entries key)
+    found_some None none = sym (ap is_some (found_entry ∙ ap (option_map entry_in) none))
+    found_some (Some p) (x, found, at) = sym (ap is_some (found_entry ∙ ap (option_map entry_in) found))
+
+    pub is_at : (p : ℕ) → Finds eq r.rows key (Some p) → IsAt r.rows p
+    is_at p (x, found, at) = ap is_some at
+
+    pub value_found : (p : ℕ) (v : V) → Finds eq r.rows key (Some p) → option_map (λ (x : Placed K V). x.value) (row_at r.rows p) ≡ Some v → Some v ≡ option_map (λ (e : Entry K V). e.value) (entry_of eq c.entries key)
+    value_found p v (x, found, at) is =
+        sym is ∙ ap (option_map (λ (y : Placed K V). y.value)) at ∙ sym (ap (option_map (λ (e : Entry K V). e.value)) (found_entry ∙ ap (option_map entry_in) found))
+
+    pub weight_found : (p : ℕ) (w : ℕ) → Finds eq r.rows key (Some p) → option_map (λ (x : Placed K V). x.weight) (row_at r.rows p) ≡ Some w → Some w ≡ option_map (λ (e : Entry K V). e.weight) (entry_of eq c.entries key)
+    weight_found p w (x, found, at) is =
+        sym is ∙ ap (option_map (λ (y : Placed K V). y.weight)) at ∙ sym (ap (option_map (λ (e : Entry K V). e.weight)) (found_entry ∙ ap (option_map entry_in) found))
+
+    pub nothing_found : {B : Type 0} (f : Entry K V → B) → Finds eq r.rows key None → None ≡ option_map f (entry_of eq c.entries key)
+    nothing_found f none = sym (ap (option_map f) (found_entry ∙ ap (option_map entry_in) none))
+
+    -- what is not there is not taken out
+    pub unfound : (o : Option (Entry K V)) → o ≡ None → row_of eq r.rows key ≡ None → o ≡ entry_of eq c.entries key
+    unfound o is none = is ∙ sym (found_entry ∙ ap (option_map entry_in) none)
+
+    -- nothing changes for a key without an entry
+    same_entries : with_entries c c.entries ≡ c
+    same_entries =
+        subst (λ x. with_entries x x.entries ≡ x) view
+        (ap (λ n. record { entries = entries_in r.rows; places = n; most_weight = most_weight; most_entries = most_entries })
+        (max_left (length r.rows + r.free) (length (entries_in r.rows)) (omega (arith, length-entries r.rows))))
+
+    pub unused : Finds eq r.rows key None → c ≡ with_entries c (used eq c.entries key)
+    unused none =
+        sym same_entries
+        ∙ ap (with_entries c) (sym (ap (λ o. option_map_or (λ e. e ∷ without eq c.entries key) o c.entries) (found_entry ∙ ap (option_map entry_in) none)))
+
+    pub nothing_gone : row_of eq r.rows key ≡ None → c ≡ with_entries c (without eq c.entries key)
+    nothing_gone none =
+        sym same_entries ∙ ap (with_entries c) (sym (ap (λ es. without eq es key) (sym entries_are) ∙ absent_without eq key r.rows none ∙ entries_are))
+
+    pub view_unremoved : (r' : Recency K V) → r' ≡ r → row_of eq r.rows key ≡ None → cached_in r' most_weight most_entries ≡ with_entries c (without eq c.entries key)
+    view_unremoved r' is none = ap (λ x. cached_in x most_weight most_entries) is ∙ view ∙ nothing_gone none
+
+    module _ (valid : IsRecency eq r.rows) where
+      -- the key's entry goes first
+      module _ (p : ℕ) (finds : Finds eq r.rows key (Some p)) where
+        first : promoted r.rows p ≡ finds.0 ∷ rows_without r.rows p
+        first = ap (λ o. option_map_or (λ x. x ∷ rows_without r.rows p) o r.rows) finds.2
+
+        place_is : finds.0.place ≡ p
+        place_is = row_place r.rows p finds.0 finds.2
+
+        others : entries_in (rows_without r.rows p) ≡ without eq c.entries key
+        others =
+            ap (λ q. entries_in (rows_without r.rows q)) (sym place_is)
+            ∙ entries-without eq key r.rows finds.0 finds.1 valid.places (valid.keys key) ∙ ap (λ es. without eq es key) entries_are
+
+        as_long : length r.rows ≡ 1 + length (rows_without r.rows p)
+        as_long = length-without p r.rows (ap is_some finds.2) (valid.places p)
+
+        as_heavy : weight_in r.rows ≡ finds.0.weight + weight_in (rows_without r.rows p)
+        as_heavy = weight-without p r.rows finds.0 finds.2 (valid.places p)
+
+        pub kept_used : (r' : Recency K V) → r' ≡ recency (promoted r.rows p) r.free → IsKept r' used_is most_weight most_entries
+        kept_used r' is = subst (λ x. IsKept x used_is most_weight most_entries) (sym (is ∙ ap (λ rs. recency rs r.free) first)) (record {
+          used_is = kept.used_is ∙ as_heavy ∙ sym (weight-cons finds.0 (rows_without r.rows p));
+          light = kept.light;
+          few = omega (arith, kept.few, as_long);
+        })
+
+        pub view_used : (r' : Recency K V) → r' ≡ recency (promoted r.rows p) r.free → cached_in r' most_weight most_entries ≡ with_entries c (used eq c.entries key)
+        view_used r' is =
+            ap (λ x. cached_in x most_weight most_entries) (is ∙ ap (λ rs. recency rs r.free) first)
+            ∙ with_rows (finds.0 ∷ rows_without r.rows p) r.free (omega (arith, as_long))
+            ∙ ap (with_entries c)
+            (ap (λ es. entry_in finds.0 ∷ es) others
+            ∙ sym (ap (λ o. option_map_or (λ e. e ∷ without eq c.entries key) o c.entries) (found_entry ∙ ap (option_map entry_in) finds.1)))
+
+      -- the key's entry is taken out
+      module _ (t : Taken K V) (r' : Recency K V) (removes : RowsRemoves eq r key (Some t) r') where
+        gone_heavy : weight_in r.rows ≡ removes.0.weight + weight_in (rows_without r.rows removes.0.place)
+        gone_heavy = weight-without removes.0.place r.rows removes.0 (row_there eq key r.rows removes.0 removes.1 valid.places) (valid.places removes.0.place)
+
+        gone_long : length r.rows ≡ 1 + length (rows_without r.rows removes.0.place)
+        gone_long = length-without removes.0.place r.rows (ap is_some (row_there eq key r.rows removes.0 removes.1 valid.places)) (valid.places removes.0.place)
+
+        weight_is : t.weight ≡ removes.0.weight
+        weight_is = ap (λ (x : Taken K V). x.weight) removes.2
+
+        pub out_light : t.weight ≤ used_is
+        out_light = omega (arith, weight_is, gone_heavy, kept.used_is)
+
+        pub kept_gone : IsKept r' (used_is - t.weight) most_weight most_entries
+        kept_gone = subst (λ x. IsKept x (used_is - t.weight) most_weight most_entries) (sym removes.3) (record {
+          used_is = omega (arith, weight_is, gone_heavy, kept.used_is);
+          light = omega (arith, kept.light);
+          few = omega (arith, kept.few, gone_long);
+        })
+
+        pub answer_gone : Some (entry t.key t.value t.weight) ≡ entry_of eq c.entries key
+        answer_gone = ap (λ (x : Taken K V). Some (entry x.key x.value x.weight)) removes.2 ∙ sym (found_entry ∙ ap (option_map entry_in) removes.1)
+
+        pub view_gone : cached_in r' most_weight most_entries ≡ with_entries c (without eq c.entries key)
+        view_gone =
+            ap (λ x. cached_in x most_weight most_entries) removes.3
+            ∙ with_rows (rows_without r.rows removes.0.place) (r.free + 1) (omega (arith, gone_long))
+            ∙ ap (with_entries c) (entries-without eq key r.rows removes.0 removes.1 valid.places (valid.keys key) ∙ ap (λ es. without eq es key) entries_are)
+
+  -- the last entry is taken out
+  module _ (t : Taken K V) (r' : Recency K V) (pops : RowsPopsLast r (Some t) r') where
+    last_heavy : weight_in r.rows ≡ weight_in pops.1 + pops.0.weight
+    last_heavy = omega (arith, ap weight_in pops.2, weight-append pops.1 (pops.0 ∷ []), weight-cons pops.0 [])
+
+    last_long : length r.rows ≡ length pops.1 + 1
+    last_long = ap length pops.2 ∙ length-append pops.1 (pops.0 ∷ [])
+
+    last_weight : t.weight ≡ pops.0.weight
+    last_weight = ap (λ (x : Taken K V). x.weight) pops.3
+
+    pub last_light : t.weight ≤ used_is
+    last_light = omega (arith, last_weight, last_heavy, kept.used_is)
+
+    pub kept_popped : IsKept r' (used_is - t.weight) most_weight most_entries
+    kept_popped = subst (λ x. IsKept x (used_is - t.weight) most_weight most_entries) (sym pops.4) (record {
+      used_is = omega (arith, last_weight, last_heavy, kept.used_is);
+      light = omega (arith, kept.light);
+      few = omega (arith, kept.few, last_long);
+    })
+
+    pub view_popped : PopsLast c (Some (entry t.key t.value t.weight)) (cached_in r' most_weight most_entries)
+    view_popped = (
+      entries_in pops.1,
+      (
+        sym entries_are ∙ ap entries_in pops.2 ∙ map-append entry_in pops.1 (pops.0 ∷ [])
+            ∙ ap (λ e. entries_in pops.1 ++ e ∷ []) (sym (ap (λ (x : Taken K V). entry x.key x.value x.weight) pops.3)),
+        ap (λ x. cached_in x most_weight most_entries) pops.4 ∙ with_rows pops.1 (r.free + 1) (omega (arith, last_long)),
+      ),
+    )
+
+  pub view_unpopped : RowsPopsLast r None r → PopsLast c None c
+  view_unpopped pops = (sym entries_are ∙ ap entries_in pops.0, refl)

@@ -1,0 +1,118 @@
+-- A cache: its entries, most recent first, under two limits.
+use Rattle.std.specs.Prelude.{◌≡◌, ℕ, ◌+◌, ◌-◌, ◌<◌, ◌≤◌, ◌⊎◌, max, not, Bool, List, [], ◌∷◌, ◌++◌, length, filter, find, reverse, sum_by, count_by, Option, Some, None, Result, Ok, Err, refl}
+use Rattle.std.specs.Option.{option_map_or}
+use Rattle.std.specs.List.{FoldsTo}
+use Rattle.std.specs.Coded.{Coded, code_by, coded×, coded_ℕ, coded_list}
+use Rattle.lru_rows.specs.Rows.{most_rows}
+use Rattle.lru_cache.specs.declared.cache.Entry.{Entry}
+use Rattle.lru_cache.specs.declared.cache.Refused.{Refused}
+use Rattle.lru_cache.specs.declared.cache.Cause.{Cause}
+use Rattle.lru_cache.specs.declared.cache.Cause.TheVariants.{TooHeavy, Full, Memory}
+
+abbrev pub entry_code : {K V : Type 0} → Coded K → Coded V → Coded (Entry K V)
+entry_code {K} {V} key value =
+    code_by (K × (V × ℕ)) (coded× key (coded× value coded_ℕ)) (λ e. (e.key, (e.value, e.weight)))
+    (λ p. record { key = p.0; value = p.1.0; weight = p.1.1 }) (λ _. refl)
+
+-- the entries, most recent first; for how many there is memory; and how heavy and how many they may be
+pub record Cached (K V : Type 0) : Type 0 where
+  pub entries : List (Entry K V)
+  pub places : ℕ
+  pub most_weight : ℕ
+  pub most_entries : ℕ
+
+abbrev pub cached_code : {K V : Type 0} → Coded K → Coded V → Coded (Cached K V)
+cached_code {K} {V} key value =
+    code_by (List (Entry K V) × (ℕ × (ℕ × ℕ))) (coded× (coded_list (entry_code key value)) (coded× coded_ℕ (coded× coded_ℕ coded_ℕ)))
+    (λ c. (c.entries, (c.places, (c.most_weight, c.most_entries))))
+    (λ p. record { entries = p.0; places = p.1.0; most_weight = p.1.1.0; most_entries = p.1.1.1 }) (λ _. refl)
+
+module _ {K V : Type 0} where
+  abbrev pub entry : K → V → ℕ → Entry K V
+  entry k v w = record { key = k; value = v; weight = w }
+
+  -- no entries
+  abbrev pub empty : ℕ → ℕ → Cached K V
+  empty most_weight most_entries = record { entries = []; places = 0; most_weight = most_weight; most_entries = most_entries }
+
+  abbrev pub weight_of : List (Entry K V) → ℕ
+  weight_of es = sum_by (λ e. e.weight) es
+
+  -- entries of at most this weight, and of at most this number
+  abbrev pub Fit : ℕ → ℕ → List (Entry K V) → Type 0
+  Fit w n es = (weight_of es ≤ w) × (length es ≤ n)
+
+  -- the cache with other entries. It gives no place back, and makes one only where it needs one more
+  abbrev pub with_entries : Cached K V → List (Entry K V) → Cached K V
+  with_entries c es = record { entries = es; places = max c.places (length es); most_weight = c.most_weight; most_entries = c.most_entries }
+
+  -- the last entry is taken out, if there is one
+  abbrev pub PopsLast : Cached K V → Option (Entry K V) → Cached K V → Type 0
+  PopsLast old None new = (old.entries ≡ []) × (new ≡ old)
+  PopsLast old (Some e) new = (front : List (Entry K V)) × ((old.entries ≡ front ++ e ∷ []) × (new ≡ with_entries old front))
+
+  -- these entries stay and those go, so that what stays fits: no more go than have to
+  pub record Leaves (w n : ℕ) (es front gone : List (Entry K V)) : Type 0 where
+    pub parts : es ≡ front ++ gone
+    pub fits : Fit w n front
+    pub needed : (e : Entry K V) (rest : List (Entry K V)) → gone ≡ e ∷ rest → Fit w n (front ++ e ∷ []) → ⊥
+
+  -- a closure was called with these entries, the last first
+  abbrev pub IsShown : {F : Type 0} → (F → Entry K V → F → Type 0) → F → List (Entry K V) → Type 0
+  IsShown {F} Step visit gone = (left : F) × FoldsTo Step visit (reverse gone) left
+
+  -- there is a place for an entry of this weight: one is free, or another entry has to go for it
+  abbrev pub HasPlace : Cached K V → ℕ → Type 0
+  HasPlace c w = ((length c.entries < c.places) × (length c.entries < most_rows)) ⊎ ((length c.entries ≤ most_rows) × (Fit (c.most_weight - w) (c.most_entries - 1) c.entries → ⊥))
+
+  -- the cache with this many places
+  abbrev pub with_places : Cached K V → ℕ → Cached K V
+  with_places c n = record { entries = c.entries; places = n; most_weight = c.most_weight; most_entries = c.most_entries }
+
+  -- a place is made sure of: a free one where nothing has to go, or it is refused
+  abbrev pub MakesPlace : Cached K V → ℕ → Result (Unit {0}) Cause → Cached K V → Type 0
+  MakesPlace old w (Ok _) new =
+      ((new ≡ old) × ((length old.entries ≤ most_rows) × (Fit (old.most_weight - w) (old.most_entries - 1) old.entries → ⊥)))
+      ⊎ ((new ≡ with_places old (max old.places (length old.entries + 1))) × ((length old.entries < most_rows) × Fit (old.most_weight - w) (old.most_entries - 1) old.entries))
+  MakesPlace old w (Err TooHeavy) new = ⊥
+  MakesPlace old w (Err Full) new = (new ≡ old) × (length old.entries ≡ most_rows)
+  MakesPlace old w (Err Memory) new = (new ≡ old) × (Fit (old.most_weight - w) (old.most_entries - 1) old.entries × (old.places ≡ length old.entries))
+
+  -- an entry is put first, and the shortest end of the others goes that has to
+  abbrev pub PutsFirst : {F : Type 0} → (F → Entry K V → F → Type 0) → F → Cached K V → K → V → ℕ → Cached K V → Type 0
+  PutsFirst Step visit old k v w new =
+      (front : List (Entry K V)) × ((gone : List (Entry K V)) × (Leaves (old.most_weight - w) (old.most_entries - 1) old.entries front gone × (IsShown Step visit gone
+      × (new ≡ record { entries = entry k v w ∷ front; places = old.places; most_weight = old.most_weight; most_entries = old.most_entries }))))
+
+  module _ (eq : K → K → Bool) where
+    -- the entry of a key, if there is one
+    abbrev pub entry_of : List (Entry K V) → K → Option (Entry K V)
+    entry_of es key = find (λ e. eq e.key key) es
+
+    -- the entries without that key's
+    abbrev pub without : List (Entry K V) → K → List (Entry K V)
+    without es key = filter (λ e. not (eq e.key key)) es
+
+    -- a key's entry goes first, if it has one
+    abbrev pub used : List (Entry K V) → K → List (Entry K V)
+    used es key = option_map_or (λ e. e ∷ without es key) (entry_of es key) es
+
+    -- what holds of every cache: no key has two entries, and it is over no limit
+    pub record IsCache (c : Cached K V) : Type 0 where
+      pub keys : (k : K) → count_by (λ e. eq e.key k) c.entries ≤ 1
+      pub fits : Fit c.most_weight c.most_entries c.entries
+      pub placed : length c.entries ≤ c.places
+      pub short : length c.entries ≤ most_rows
+
+    -- why an entry may be refused: it is too heavy by itself, or there may be none; or its key has no entry, nothing has to go for it, and there is no place for it
+    abbrev pub MayRefuse : Cached K V → K → ℕ → Cause → Type 0
+    MayRefuse old k w TooHeavy = (old.most_weight < w) ⊎ (old.most_entries ≡ 0)
+    MayRefuse old k w Full = (entry_of old.entries k ≡ None) × (length old.entries ≡ most_rows)
+    MayRefuse old k w Memory = (entry_of old.entries k ≡ None) × (Fit (old.most_weight - w) (old.most_entries - 1) old.entries × (old.places ≡ length old.entries))
+
+    -- an entry is put first in place of its key's, which is answered, and the shortest end of the others goes that has to. Or it is refused: key and value are handed back, and nothing has changed
+    abbrev pub Puts : {F : Type 0} → (F → Entry K V → F → Type 0) → F → Cached K V → K → V → ℕ → Result (Option (Entry K V)) (Refused K V) → Cached K V → Type 0
+    Puts Step visit old k v w (Ok was) new =
+        (was ≡ entry_of old.entries k) × ((front : List (Entry K V)) × ((gone : List (Entry K V)) × (Leaves (old.most_weight - w) (old.most_entries - 1) (without old.entries k) front gone
+        × (IsShown Step visit gone × (new ≡ with_entries old (entry k v w ∷ front))))))
+    Puts Step visit old k v w (Err r) new = MayRefuse old k w r.cause × ((r.key ≡ k) × ((r.value ≡ v) × (new ≡ old)))

@@ -1,0 +1,308 @@
+//! A cache of one owner.
+ghost use Rattle.std.specs.Prelude.{◌≡◌, ◌<◌, ◌≤◌, None, length, map, is_some, nat_eq, IfOk};
+ghost use Rattle.std.specs.Option.{option_map, option_copied};
+ghost use Rattle.lru_cache.specs.Cache.{empty, weight_of, entry_of, without, used, with_entries, Puts, PutsFirst, HasPlace, MakesPlace, PopsLast, IsCache};
+
+use crate::shrinking::{fits, shrink};
+use lru_index::hashing::SeededHashes;
+use lru_list::linked_list::LinkedListIter;
+use lru_rows::rows::{NoPlace, Rows};
+use std::alloc::{AllocError, Global};
+use std::hash::{BuildHasher, Hash};
+use std::marker::Model;
+
+/// A key with its value and its weight.
+#[derive(Debug, Drop)]
+pub struct Entry<K, V> {
+    /// The key.
+    pub key: K,
+    /// The value.
+    pub value: V,
+    /// The weight.
+    pub weight: usize,
+}
+
+/// Why an entry was refused. The number of a cause is its value.
+#[derive(Clone, Copy, Debug, PartialEq, Eq)]
+pub enum Cause {
+    /// There is no memory for another entry.
+    Memory = 1,
+    /// The entry is heavier than all entries may be together, or there may be none.
+    TooHeavy = 2,
+    /// There are 4294967293 entries, and there can be no more.
+    Full = 3,
+}
+
+/// A refused entry: why, and its key and value, handed back.
+#[derive(Debug, Drop)]
+pub struct Refused<K, V> {
+    /// Why the entry was refused.
+    pub cause: Cause,
+    /// The key.
+    pub key: K,
+    /// The value.
+    pub value: V,
+}
+
+impl<K, V> Refused<K, V> {
+    fn new(cause: Cause, key: K, value: V) -> Self
+        ensures cause { result.cause ≡ cause }
+        ensures key { result.key ≡ key }
+        ensures value { result.value ≡ value }
+    {
+        Refused { cause, key, value }
+    }
+}
+
+/// A cache of keys and values under two limits, one on the weight of its entries and one on their number.
+///
+/// Its entries stand in the order of their last use. It is over no limit after any call: what has to go for a new entry
+/// goes from the end, the entry that was used longest ago first, and is handed to the caller. A key that stands twice is
+/// found by `Eq`, also where hashes collide. Only a constructor, and a call that puts an entry where no place is free,
+/// take memory.
+#[derive(Drop)]
+pub struct Cache<K: Hash, V, S: BuildHasher = SeededHashes> {
+    rows: Rows<K, V, S>,
+    weight: usize,
+    most_weight: usize,
+    most_entries: usize,
+}
+
+impl<K: Hash, V, S: BuildHasher> Model for Cache<K, V, S> {
+    ghost use Rattle.lru_cache.specs.Cache.{Cached, cached_code};
+    ghost use Rattle.lru_cache.specs.Representation.{cached_in, IsKept};
+
+    ghost Value = { Cached K V };
+
+    ghost coded = { cached_code K.code V.code };
+
+    ghost view = { λ c. cached_in c.rows c.most_weight c.most_entries };
+
+    ghost invariant = { λ c. IsKept c.rows c.weight c.most_weight c.most_entries };
+}
+
+impl<K: Hash + Default + Drop, V: Drop> Cache<K, V, SeededHashes> {
+    /// A cache of no entries, of at most `most_entries`, which may weigh `most_weight` together. The seed of the hashes
+    /// stays the same from run to run.
+    ///
+    /// # Errors
+    ///
+    /// There is no memory.
+    pub fn new(alloc: Global, most_weight: usize, most_entries: usize) -> Result<Self, AllocError>
+        ensures { IfOk result (λ cache. cache ≡ empty most_weight most_entries) }
+    {
+        Ok(Cache {
+            rows: Rows::with_capacity(alloc, 0)?,
+            weight: 0,
+            most_weight,
+            most_entries,
+        })
+    }
+
+    /// A cache as `new` makes it, with a seed for the hashes: who picks the keys and does not know it can't pick keys that
+    /// collide.
+    ///
+    /// # Errors
+    ///
+    /// There is no memory.
+    pub fn with_seed(
+        alloc: Global,
+        most_weight: usize,
+        most_entries: usize,
+        seed: u64,
+    ) -> Result<Self, AllocError>
+        ensures { IfOk result (λ cache. cache ≡ empty most_weight most_entries) }
+    {
+        Ok(Cache {
+            rows: Rows::with_capacity_and_seed(alloc, 0, seed)?,
+            weight: 0,
+            most_weight,
+            most_entries,
+        })
+    }
+}
+
+impl<K: Hash, V, S: BuildHasher> Cache<K, V, S> {
+    /// How many entries there are.
+    pub fn len(&self) -> usize
+        ensures value { result ≡ length self.now.entries }
+        ensures valid { IsCache K.eq self.now }
+    {
+        self.rows.len()
+    }
+
+    /// Whether there are no entries.
+    pub fn is_empty(&self) -> bool
+        ensures { result ≡ nat_eq (length self.now.entries) 0 }
+    {
+        self.rows.len() == 0
+    }
+
+    /// What the entries weigh together.
+    pub fn weight(&self) -> usize
+        ensures { result ≡ weight_of self.now.entries }
+    {
+        self.weight
+    }
+
+    /// What the entries may weigh together.
+    pub fn most_weight(&self) -> usize
+        ensures { result ≡ self.now.most_weight }
+    {
+        self.most_weight
+    }
+
+    /// How many entries there may be.
+    pub fn most_entries(&self) -> usize
+        ensures { result ≡ self.now.most_entries }
+    {
+        self.most_entries
+    }
+
+    /// Whether a key has an entry.
+    pub fn contains(&self, key: &K) -> bool
+        ensures { result ≡ is_some (entry_of K.eq self.now.entries key.now) }
+    {
+        self.rows.find(key).is_some()
+    }
+
+    /// The value of a key, which is not used by that.
+    pub fn peek(&self, key: &K) -> Option<&V>
+        ensures { option_copied result ≡ option_map (λ e. e.value) (entry_of K.eq self.now.entries key.now) }
+    {
+        let place = self.rows.find(key)?;
+        Some(self.rows.value_at(place))
+    }
+
+    /// The weight of a key's entry.
+    pub fn weight_of(&self, key: &K) -> Option<usize>
+        ensures { result ≡ option_map (λ e. e.weight) (entry_of K.eq self.now.entries key.now) }
+    {
+        let place = self.rows.find(key)?;
+        Some(self.rows.weight_at(place))
+    }
+
+    /// The keys, most recent first.
+    pub fn keys(&self) -> LinkedListIter<'_, K>
+        ensures { result ≡ map (λ e. e.key) self.now.entries }
+    {
+        self.rows.keys()
+    }
+
+    /// Uses a key: its entry goes first. It answers whether there is one.
+    pub fn promote(&mut self, key: &K) -> bool
+        ensures answer { result ≡ is_some (entry_of K.eq self.old.entries key.now) }
+        ensures entries { self.new ≡ with_entries self.old (used K.eq self.old.entries key.now) }
+    {
+        let Some(place) = self.rows.find(key) else {
+            return false;
+        };
+        self.rows.promote(place);
+        true
+    }
+}
+
+impl<K: Hash + Default + Drop, V: Drop, S: BuildHasher> Cache<K, V, S> {
+    /// Puts an entry first, in place of its key's, and answers that one. Then the entries that were used longest ago go,
+    /// as many as have to for the others to be within the limits, and each is handed to `visit`.
+    ///
+    /// # Errors
+    ///
+    /// The entry is too heavy by itself, or there is no place for it, because memory is refused or there are as many
+    /// entries as there can be. Key and value are handed back, and nothing changes. A key that has an entry is refused
+    /// only where it is too heavy, and so is one for which another entry goes.
+    pub fn put<F: FnMut(Entry<K, V>) + Drop>(
+        &mut self,
+        key: K,
+        value: V,
+        weight: usize,
+        visit: F,
+    ) -> Result<Option<Entry<K, V>>, Refused<K, V>>
+        requires { F.IsAlwaysCallable visit }
+        ensures { Puts K.eq (λ p x q. F.step p x tt q) visit self.old key value weight result self.new }
+    {
+        if weight > self.most_weight || self.most_entries == 0 {
+            return Err(Refused::new(Cause::TooHeavy, key, value));
+        }
+        let was = self.remove(&key);
+        if was.is_none() {
+            if let Err(cause) = self.make_place(weight) {
+                return Err(Refused::new(cause, key, value));
+            }
+        }
+        self.put_first(key, value, weight, visit);
+        Ok(was)
+    }
+
+    // Makes sure of a place for an entry of this weight, whose key has none. Where another has to go for it, its place is
+    // free then.
+    fn make_place(&mut self, weight: usize) -> Result<(), Cause>
+        requires light { weight ≤ self.old.most_weight }
+        requires some { 0 < self.old.most_entries }
+        ensures { MakesPlace self.old weight result self.new }
+    {
+        let most_weight = self.most_weight - weight;
+        let most_entries = self.most_entries - 1;
+        if !fits(self.weight, self.rows.len(), most_weight, most_entries) {
+            return Ok(());
+        }
+        match self.rows.make_vacancy() {
+            Ok(()) => Ok(()),
+            Err(NoPlace::Memory) => Err(Cause::Memory),
+            Err(NoPlace::Full) => Err(Cause::Full),
+        }
+    }
+
+    // Puts an entry first whose key has none, for which there is a place, and lets go of those that have to go for it.
+    fn put_first<F: FnMut(Entry<K, V>) + Drop>(&mut self, key: K, value: V, weight: usize, visit: F)
+        requires visit { F.IsAlwaysCallable visit }
+        requires light { weight ≤ self.old.most_weight }
+        requires some { 0 < self.old.most_entries }
+        requires absent { entry_of K.eq self.old.entries key ≡ None }
+        requires place { HasPlace self.old weight }
+        ensures { PutsFirst (λ p x q. F.step p x tt q) visit self.old key value weight self.new }
+    {
+        let most_weight = self.most_weight - weight;
+        let most_entries = self.most_entries - 1;
+        self.weight = shrink(
+            &mut self.rows,
+            self.weight,
+            most_weight,
+            most_entries,
+            visit,
+        );
+        match self.rows.push_first(key, value, weight) {
+            Ok(_) => {}
+            Err(_) => unreachable!(),
+        }
+        self.weight += weight;
+    }
+
+    /// Takes a key's entry out.
+    pub fn remove(&mut self, key: &K) -> Option<Entry<K, V>>
+        ensures answer { result ≡ entry_of K.eq self.old.entries key.now }
+        ensures entries { self.new ≡ with_entries self.old (without K.eq self.old.entries key.now) }
+        ensures valid { IsCache K.eq self.old }
+    {
+        let row = self.rows.remove(key)?;
+        self.weight -= row.weight;
+        Some(Entry {
+            key: row.key,
+            value: row.value,
+            weight: row.weight,
+        })
+    }
+
+    /// Takes the entry out that was used longest ago.
+    pub fn pop_last(&mut self) -> Option<Entry<K, V>>
+        ensures { PopsLast self.old result self.new }
+    {
+        let row = self.rows.pop_last()?;
+        self.weight -= row.weight;
+        Some(Entry {
+            key: row.key,
+            value: row.value,
+            weight: row.weight,
+        })
+    }
+}
