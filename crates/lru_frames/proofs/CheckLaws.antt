@@ -1,9 +1,13 @@
 -- The check of bytes changes with any one of them.
-use Rattle.std.proofs.Common.{◌≡◌, ℕ, zero, suc, ◌+◌, ◌*◌, ◌/◌, ◌%◌, ◌^◌, ◌<◌, List, [], ◌∷◌, length, get_or, refl, sym, ap, ◌∙◌, arith}
+use Rattle.std.proofs.Common.{◌≡◌, ℕ, zero, suc, ◌+◌, ◌*◌, ◌/◌, ◌%◌, ◌^◌, ◌<◌, List, [], ◌∷◌, length, get_or, drop, ◌++◌, refl, sym, ap, ◌∙◌, arith}
 use Rattle.std.specs.List.{fold}
 use Rattle.std.specs.Prelude.{◌-◌}
 use Rattle.std.proofs.Math.ListN.{set}
 use Rattle.std.proofs.Math.Nat.{mod-add-mod, add-mul-mod_self_left, div-add-mod, mul_assoc, add_assoc, add_comm, mod-eq_of_lt}
+use Rattle.std.proofs.Math.Nat.{add-mod, add-mul, mul-one}
+use Rattle.std.proofs.Math.Seq.{drop-cons}
+use Rattle.std.proofs.lemmas.List.{drop_all}
+use Rattle.std.proofs.lemmas.List.Sums.{fold-append}
 use Rattle.std.proofs.lemmas.Nat.{mul-mod_first, mul-mod_second, mod_below}
 use Rattle.lru_frames.specs.Check.{multiplier, first_check, step, check_of}
 
@@ -71,3 +75,57 @@ below_from (b ∷ bytes) s p = below_from bytes (step s b) (step_below s b)
 pub check_below : (bytes : List ℕ) → check_of bytes < 2 ^ 64
 unfolding check_of
 check_below bytes = below_from bytes first_check (omega arith)
+
+-- a sum with one more byte is the check with one more byte, each multiplied by what is still to come
+next_sum : (m k f b p q sum : ℕ) → (k * p) % m ≡ q → sum ≡ (f * q) % m → (sum + (b * p) % m) % m ≡ ((f * k + b) % m * p) % m
+next_sum m k f b p q sum power so_far =
+    let left : sum ≡ (f * k * p) % m = so_far ∙ ap (λ x. (f * x) % m) (sym power) ∙ mul-mod_second f (k * p) m ∙ ap (λ x. x % m) (sym (mul_assoc f k p)) in
+    ap (λ x. (x + (b * p) % m) % m) left ∙ sym (add-mod (f * k * p) (b * p) m) ∙ ap (λ x. x % m) (sym (add-mul (f * k) b p)) ∙ sym (mul-mod_first (f * k + b) p m)
+
+-- the sums of eight bytes, one after the other
+pub record AreSums (check : ℕ) (bytes : List ℕ) (none one two three four five six seven eight : ℕ) : Type 0 where
+  pub at_first : none ≡ (check * 13086856194709077281) % 2 ^ 64
+  pub with_one : one ≡ (none + (get_or bytes 0 0 * 8758975453663301189) % 2 ^ 64) % 2 ^ 64
+  pub with_two : two ≡ (one + (get_or bytes 1 0 * 17333513496047876729) % 2 ^ 64) % 2 ^ 64
+  pub with_three : three ≡ (two + (get_or bytes 2 0 * 7596774164172298237) % 2 ^ 64) % 2 ^ 64
+  pub with_four : four ≡ (three + (get_or bytes 3 0 * 18108194425815612945) % 2 ^ 64) % 2 ^ 64
+  pub with_five : five ≡ (four + (get_or bytes 4 0 * 793875393913628917) % 2 ^ 64) % 2 ^ 64
+  pub with_six : six ≡ (five + (get_or bytes 5 0 * 7520897724310334953) % 2 ^ 64) % 2 ^ 64
+  pub with_seven : seven ≡ (six + (get_or bytes 6 0 * 6364136223846793005) % 2 ^ 64) % 2 ^ 64
+  pub with_eight : eight ≡ (seven + (get_or bytes 7 0 * 1) % 2 ^ 64) % 2 ^ 64
+
+next : (f b p q sum new : ℕ) → (multiplier * p) % 2 ^ 64 ≡ q → sum ≡ (f * q) % 2 ^ 64 → new ≡ (sum + (b * p) % 2 ^ 64) % 2 ^ 64 → new ≡ (step f b * p) % 2 ^ 64
+next f b p q sum new power so_far h = h ∙ next_sum (2 ^ 64) multiplier f b p q sum power so_far
+
+step_on : (bytes : List ℕ) (i s : ℕ) → i < length bytes → fold step s (drop i bytes) ≡ fold step (step s (get_or bytes i 0)) (drop (suc i) bytes)
+step_on bytes i s lt = ap (fold step s) (drop-cons bytes i 0 lt)
+
+-- the last sum is the check
+pub eight_steps : (check : ℕ) (bytes : List ℕ) (none one two three four five six seven eight : ℕ) → length bytes ≡ 8
+    → AreSums check bytes none one two three four five six seven eight → eight ≡ fold step check bytes
+eight_steps check bytes none one two three four five six seven eight e sums =
+    let f1 = step check (get_or bytes 0 0) in
+    let f2 = step f1 (get_or bytes 1 0) in
+    let f3 = step f2 (get_or bytes 2 0) in
+    let f4 = step f3 (get_or bytes 3 0) in
+    let f5 = step f4 (get_or bytes 4 0) in
+    let f6 = step f5 (get_or bytes 5 0) in
+    let f7 = step f6 (get_or bytes 6 0) in
+    let f8 = step f7 (get_or bytes 7 0) in
+    let s1 = next check _ 8758975453663301189 13086856194709077281 none one refl sums.at_first sums.with_one in
+    let s2 = next f1 _ 17333513496047876729 8758975453663301189 one two refl s1 sums.with_two in
+    let s3 = next f2 _ 7596774164172298237 17333513496047876729 two three refl s2 sums.with_three in
+    let s4 = next f3 _ 18108194425815612945 7596774164172298237 three four refl s3 sums.with_four in
+    let s5 = next f4 _ 793875393913628917 18108194425815612945 four five refl s4 sums.with_five in
+    let s6 = next f5 _ 7520897724310334953 793875393913628917 five six refl s5 sums.with_six in
+    let s7 = next f6 _ 6364136223846793005 7520897724310334953 six seven refl s6 sums.with_seven in
+    let s8 = next f7 _ 1 6364136223846793005 seven eight refl s7 sums.with_eight in
+    let whole : fold step check bytes ≡ fold step f8 (drop 8 bytes) =
+    step_on bytes 0 check (omega arith) ∙ step_on bytes 1 f1 (omega arith) ∙ step_on bytes 2 f2 (omega arith) ∙ step_on bytes 3 f3 (omega arith)
+    ∙ step_on bytes 4 f4 (omega arith) ∙ step_on bytes 5 f5 (omega arith) ∙ step_on bytes 6 f6 (omega arith) ∙ step_on bytes 7 f7 (omega arith) in
+    let done : fold step f8 (drop 8 bytes) ≡ f8 = ap (fold step f8) (drop_all 8 bytes (omega arith)) in
+    s8 ∙ ap (λ x. x % 2 ^ 64) (mul-one f8) ∙ mod-eq_of_lt (step_below f7 (get_or bytes 7 0)) ∙ sym (whole ∙ done)
+
+-- the check of the rest, eight bytes further on
+pub eight_on : (check : ℕ) (rest front after : List ℕ) → rest ≡ front ++ after → fold step (fold step check front) after ≡ fold step check rest
+eight_on check rest front after h = sym (fold-append step check front after) ∙ ap (fold step check) (sym h)

@@ -3,6 +3,7 @@ pub mod WordLaws
 pub mod Check
 pub mod Envelope
 pub mod Errors
+pub mod StoredErrors
 pub mod Rows
 pub mod RowLaws
 pub mod Frame

@@ -5,6 +5,9 @@ ghost use Rattle.lru_frames.specs.declared.stored.StoredError.TheVariants.{Damag
 mod values;
 
 use std::alloc::{AllocError, AllocFailed, Global};
+use std::error::Error;
+use std::fmt;
+use std::fmt::Display;
 
 /// Why no value was read.
 #[derive(Clone, Copy, Debug, PartialEq, Eq)]
@@ -14,6 +17,22 @@ pub enum StoredError {
     /// No memory was found for the value.
     Memory,
 }
+
+impl Display for StoredError {
+    ghost use Rattle.std.specs.Prelude.{Some};
+    ghost use Rattle.lru_frames.specs.StoredErrors.{stored_error_text};
+
+    ghost output = { λ error. Some (stored_error_text error) };
+
+    fn fmt<W: fmt::Write>(&self, f: &mut fmt::Formatter<W>) -> fmt::Result {
+        match self {
+            StoredError::Damaged => f.write_str("damaged"),
+            StoredError::Memory => f.write_str("out of memory"),
+        }
+    }
+}
+
+impl Error for StoredError {}
 
 impl From<AllocError> for StoredError {
     ghost from_gives = { λ _ error. error ≡ Memory };
