@@ -166,3 +166,13 @@ longer_refused r bytes whole rest others small some h =
     let lengths : length bytes ≡ told + length rest = omega (arith, ap length h, length-append (sealed whole) rest, total) in
     others told _ (omega arith) (λ e. more (omega (arith, e, lengths)))
     (h ∙ ap (λ (x : List ℕ). x ++ rest) (sealed_parts whole) ∙ append_assoc (head_of told) (whole ++ word (check_of (front_of whole))) rest) (omega (arith, lengths))
+
+-- sealed bytes begin no others
+pub begins_none : (a b rest : List ℕ) → length (sealed b) < 2 ^ 64 → sealed a ++ rest ≡ sealed b → (rest ≡ []) × (a ≡ b)
+begins_none a b rest small h =
+    let w = word (check_of (front_of a)) in
+    let lengths : length a + 32 + length rest ≡ length b + 32 = omega (arith, ap length h, length-append (sealed a) rest, length-sealed a, length-sealed b) in
+    let told = one_head (length a + around) (length b + around) ((a ++ w) ++ rest) _ (omega (arith, length-sealed b)) (omega (arith, length-sealed b))
+    (sym (append_assoc (head_of (length a + around)) (a ++ w) rest) ∙ ap (λ (x : List ℕ). x ++ rest) (sym (sealed_parts a)) ∙ h ∙ sealed_parts b) in
+    let none : rest ≡ [] = nil_from_length rest (omega (arith, told, lengths)) in
+    (none, one_content a b (sym (append-nil (sealed a)) ∙ ap (λ (x : List ℕ). sealed a ++ x) (sym none) ∙ h))

@@ -16,7 +16,7 @@ use Rattle.lru_frames.specs.WordLaws.{length-word, one_word}
 use Rattle.lru_frames.specs.Rows.{row_bytes, IsRow, IsSameRow, AreSame}
 use Rattle.lru_frames.specs.RowLaws.{one_row}
 use Rattle.lru_frames.proofs.RowsLaws.{same_values}
-use Rattle.lru_frames.specs.Frame.{header_bytes, content_of, Fits, IsDamaged}
+use Rattle.lru_frames.specs.Frame.{header_bytes, content_of, Fits, IsDamaged, IsHeader}
 
 -- numbers of 8 bytes each
 pub record AreNarrow (header : Header) (count : ℕ) : Type 0 where
@@ -62,14 +62,15 @@ one_header a b m n x y p q h =
       count.1,
     )
 
+pub no_header : (bytes rest : List ℕ) (header : Header) (count : ℕ) → length bytes < 32 → bytes ≡ header_bytes header count ++ rest → ⊥
+no_header bytes rest header count short h = omega (arith, short, ap length h, length-append (header_bytes header count) rest, length-header header count)
+
+pub header_narrow : (header : Header) (count : ℕ) → IsHeader header → count < 2 ^ 64 → AreNarrow header count
+header_narrow header count is_header small = record { shards = is_header.shards; shard = omega (arith, is_header.shard, is_header.shards); generation = is_header.generation; rows = small }
+
 module _ {K V : Type 0} (key_bytes : K → List ℕ) (data_bytes : V → List ℕ) (IsKey : K → Type 0) (IsData : V → Type 0) where
   pub fits_narrow : (header : Header) (rows : List (Row K V)) → Fits IsKey IsData header rows → AreNarrow header (length rows)
-  fits_narrow header rows fits = record {
-    shards = fits.numbers.shards;
-    shard = omega (arith, fits.numbers.shard, fits.numbers.shards);
-    generation = fits.numbers.generation;
-    rows = fits.count;
-  }
+  fits_narrow header rows fits = header_narrow header (length rows) fits.numbers fits.count
 
   -- what was read at the front of a content
   pub content_parts : (bytes rest : List ℕ) (read header : Header) (count : ℕ) (rows : List (Row K V)) → AreNarrow read count → Fits IsKey IsData header rows

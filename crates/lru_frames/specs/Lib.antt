@@ -7,3 +7,4 @@ pub mod StoredErrors
 pub mod Rows
 pub mod RowLaws
 pub mod Frame
+pub mod Causes

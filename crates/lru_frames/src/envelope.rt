@@ -1,7 +1,8 @@
 // What stands around the content of a frame.
-ghost use Rattle.std.specs.Prelude.{◌≡◌, ◌≢◌, ◌+◌, ◌<◌, ◌^◌, ◌++◌, ℕ, List, length, ◌≤◌, MatchResult, MatchOption, IfSome, OnOk, take, drop, vec_len, Err};
+ghost use Rattle.std.specs.Prelude.{◌≡◌, ◌≢◌, ◌+◌, ◌<◌, ◌^◌, ◌++◌, ℕ, List, length, ◌≤◌, MatchResult, MatchOption, IfSome, IfErr, OnOk, take, drop, vec_len, Err};
 ghost use Rattle.lru_frames.specs.declared.errors.Part.TheVariants.{Length};
 ghost use Rattle.lru_frames.specs.Words.{word};
+ghost use Rattle.lru_frames.specs.Causes.{IsWrongAround};
 ghost use Rattle.lru_frames.specs.Envelope.{head_of, with_check, sealed};
 
 use crate::check::check_of;
@@ -64,9 +65,10 @@ fn behind(bytes: &[u8], number: u64) -> Option<&[u8]>
 
 // The length that the head tells.
 fn told_length(bytes: &[u8]) -> Result<u64, Part>
-    ensures { MatchResult result
+    ensures head { MatchResult result
         (λ told. (rest : List ℕ) × (bytes.now ≡ head_of told ++ rest))
         (λ _. (told : ℕ) (rest : List ℕ) → bytes.now ≡ head_of told ++ rest → ⊥) }
+    ensures wrong { IfErr result (λ part. IsWrongAround part bytes.now) }
 {
     let Some(rest) = behind(bytes, MAGIC) else {
         return Err(Part::Magic);
@@ -100,6 +102,7 @@ pub(crate) fn opened(bytes: &[u8]) -> Result<&[u8], Part>
     ensures content { MatchResult result
         (λ content. bytes.now ≡ sealed content.now)
         (λ _. (content : List ℕ) → bytes.now ≡ sealed content → ⊥) }
+    ensures wrong { IfErr result (λ part. IsWrongAround part bytes.now) }
     ensures short { length bytes.now < 32 → result ≡ Err Length }
     ensures told { (told : ℕ) (rest : List ℕ) → told < 2 ^ 64 → told ≢ length bytes.now → bytes.now ≡ head_of told ++ rest → 32 ≤ length bytes.now → result ≡ Err Length }
 {

@@ -6,10 +6,11 @@ use std::error::Error;
 use std::fmt;
 use std::fmt::Display;
 
-/// The part of a frame where damage was found, the first one in this order.
+/// The part of a frame where damage was found. Magic and version are looked at before the length that
+/// is told, then the check, then header and rows.
 #[derive(Clone, Copy, Debug, PartialEq, Eq)]
 pub enum Part {
-    /// The bytes are no more than a beginning, or there are more than the frame has.
+    /// There are fewer bytes than any frame has, or not as many as the head tells.
     Length,
     /// The bytes begin as no frame does.
     Magic,
@@ -17,9 +18,9 @@ pub enum Part {
     Version,
     /// The check is not that of the bytes.
     Check,
-    /// The numbers of the shard do not fit each other.
+    /// The content begins with no header: the shard's number is not below the number of shards.
     Header,
-    /// The rows are no rows of these types, or not as many as told.
+    /// Behind the header there are not just as many rows of these types as it tells.
     Rows,
 }
 

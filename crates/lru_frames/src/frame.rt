@@ -5,6 +5,7 @@ ghost use Rattle.lru_frames.specs.declared.errors.Part.TheVariants.{Length};
 ghost use Rattle.lru_frames.specs.declared.frame.Header.{Header};
 ghost use Rattle.lru_frames.specs.declared.row.Row.{Row};
 ghost use Rattle.lru_frames.specs.Words.{word};
+ghost use Rattle.lru_frames.specs.Causes.{IsWrongInside, IsWrong};
 ghost use Rattle.lru_frames.specs.Envelope.{head_of, sealed, ChangesOneByte};
 ghost use Rattle.lru_frames.specs.Rows.{IsSameRow, AreSame};
 ghost use Rattle.lru_frames.specs.Frame.{header_bytes, content_of, frame_of, Fits, IsDamaged};
@@ -12,10 +13,13 @@ ghost use Rattle.lru_frames.specs.Frame.{header_bytes, content_of, frame_of, Fit
 use crate::envelope::{open_head, opened, seal};
 use crate::errors::{FrameError, Part};
 use crate::row::Row;
-use crate::rows::{put_rows, take_rows};
+use crate::rows::{LIKELY_ROW, put_rows, take_rows};
 use crate::stored::{Stored, StoredError};
 use crate::words::{put_word, take_word};
 use std::alloc::{AllocError, Global};
+
+// The bytes of a frame that has no rows.
+const FEWEST: usize = 64;
 
 /// Which shard of how many the rows are of, and of which generation of checkpoints.
 #[derive(Clone, Copy, Debug, PartialEq, Eq)]
@@ -81,7 +85,8 @@ pub fn encode<K: Stored, V: Stored>(
     ensures bytes { IfOk result (λ bytes. bytes.items ≡ frame_of K.bytes_of V.bytes_of header rows.now) }
     ensures fits { IfOk result (λ bytes. Fits K.is_value V.is_value header rows.now) }
 {
-    let mut out = Vec::new(alloc);
+    let room = rows.len().saturating_mul(LIKELY_ROW).saturating_add(FEWEST);
+    let mut out = Vec::with_capacity(alloc, room)?;
     open_head(&mut out)?;
     put_header(&mut out, header, rows.len() as u64)?;
     put_rows(&mut out, rows)?;
@@ -95,6 +100,7 @@ fn frame_in<K: Stored, V: Stored>(alloc: Global, content: &[u8]) -> Result<Frame
     ensures content { IfOk result (λ frame. content.now ≡ content_of K.bytes_of V.bytes_of frame.header frame.rows.items) }
     ensures refused { IfErr result (λ error. IsDamaged error → (header : Header) (rows : List (Row K V)) → Fits K.is_value V.is_value header rows
         → content.now ≡ content_of K.bytes_of V.bytes_of header rows → ⊥) }
+    ensures wrong { IfErr result (λ error. IsWrongInside K.bytes_of K.is_value V.bytes_of V.is_value error content.now) }
 {
     let Some((header, count, rest)) = take_header(content) else {
         return Err(FrameError::Damaged(Part::Header));
@@ -132,6 +138,9 @@ pub fn decode<K: Stored, V: Stored>(alloc: Global, bytes: &[u8]) -> Result<Frame
         → MatchResult result
         (λ frame. (frame.header ≡ header) × AreSame (IsSameRow K.is_same V.is_same) frame.rows.items rows)
         (λ error. error ≡ Memory) }
+
+    // An error tells what is wrong with the bytes, or that memory ran out.
+    ensures wrong { IfErr result (λ error. IsWrong K.bytes_of K.is_value V.bytes_of V.is_value error bytes.now) }
 
     // What was written and then changed in one byte is damaged.
     ensures one_byte { (header : Header) (rows : List (Row K V))

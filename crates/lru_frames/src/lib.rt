@@ -5,6 +5,7 @@ mod check;
 mod envelope;
 pub mod errors;
 pub mod frame;
+pub mod laws;
 pub mod row;
 mod rows;
 pub mod stored;

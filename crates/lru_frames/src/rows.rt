@@ -9,8 +9,8 @@ use crate::row::Row;
 use crate::stored::{Stored, StoredError};
 use std::alloc::{AllocError, Global};
 
-// Each row has 8 bytes at least, those of its weight.
-const LEAST: usize = 8;
+// The bytes of a row whose key and data have 8 bytes each, as few as those of numbers, text and bytes.
+pub(crate) const LIKELY_ROW: usize = 24;
 
 // Adds rows at the end.
 pub(crate) fn put_rows<K: Stored, V: Stored>(
@@ -26,8 +26,8 @@ pub(crate) fn put_rows<K: Stored, V: Stored>(
     Ok(())
 }
 
-// So many rows at the front, and the bytes behind them. It makes room for no more of them than the
-// bytes may have.
+// So many rows at the front, and the bytes behind them. At first it makes room for as many as the
+// bytes may have, whatever the count tells.
 pub(crate) fn take_rows<K: Stored, V: Stored>(
     alloc: Global,
     count: u64,
@@ -39,7 +39,7 @@ pub(crate) fn take_rows<K: Stored, V: Stored>(
     ensures damaged { result ≡ Err Damaged → (rows : List (Row K V)) (rest : List ℕ) → AllByRecursion (IsRow K.is_value V.is_value) rows → length rows ≡ count
         → bytes.now ≡ flat_map (row_bytes K.bytes_of V.bytes_of) rows ++ rest → ⊥ }
 {
-    let room = (count as usize).min(bytes.len() / LEAST);
+    let room = (count as usize).min(bytes.len() / LIKELY_ROW);
     let mut rows = Vec::with_capacity(alloc, room)?;
     let mut rest = bytes;
     for _ in 0..count {

@@ -13,7 +13,7 @@ seal-requires g c =
       arith,
       length-head 0,
       ap length c.in_ok-open_head.ensures,
-      length-append c.new-out.result.items (head_of 0),
+      length-append c.in_ok-out.out.items (head_of 0),
       ap length c.in_ok-put_header.ensures,
       length-append c.open_head.new.out.items (header_bytes c.args.header (length c.args.rows.now)),
       ap length c.in_ok-put_rows.ensures.bytes,
