@@ -104,7 +104,8 @@ pub(crate) fn opened(bytes: &[u8]) -> Result<&[u8], Part>
         (λ _. (content : List ℕ) → bytes.now ≡ sealed content → ⊥) }
     ensures wrong { IfErr result (λ part. IsWrongAround part bytes.now) }
     ensures short { length bytes.now < 32 → result ≡ Err Length }
-    ensures told { (told : ℕ) (rest : List ℕ) → told < 2 ^ 64 → told ≢ length bytes.now → bytes.now ≡ head_of told ++ rest → 32 ≤ length bytes.now → result ≡ Err Length }
+    ensures told { (told : ℕ) (rest : List ℕ) → told < 2 ^ 64 → told ≢ length bytes.now
+        → bytes.now ≡ head_of told ++ rest → 32 ≤ length bytes.now → result ≡ Err Length }
 {
     if bytes.len() < HEAD + CHECK {
         return Err(Part::Length);

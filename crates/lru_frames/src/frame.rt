@@ -1,4 +1,9 @@
 //! A frame: the rows of one shard as bytes that are read whole or refused.
+//!
+//! All numbers have 8 bytes, the lowest first. A frame begins with the text `LRUFRAME`, its version,
+//! which is 1, and the length of the whole frame in bytes. The number of shards, the number of the
+//! shard, the generation and the number of rows follow, then each row with key, data and weight, and
+//! at the end a check of all bytes before it.
 ghost use Rattle.std.specs.Prelude.{◌≡◌, ◌≢◌, ◌<◌, ◌≤◌, ◌^◌, ◌++◌, ◌↔◌, ℕ, List, [], length, vec_len, IsTrue, OnOk, IfOk, IfErr, IsErrAnd, MatchOption, MatchResult, Err};
 ghost use Rattle.lru_frames.specs.declared.errors.FrameError.TheVariants.{Damaged, Memory};
 ghost use Rattle.lru_frames.specs.declared.errors.Part.TheVariants.{Length};
@@ -98,7 +103,8 @@ pub fn encode<K: Stored, V: Stored>(
 fn frame_in<K: Stored, V: Stored>(alloc: Global, content: &[u8]) -> Result<Frame<K, V>, FrameError>
     ensures fits { IfOk result (λ frame. Fits K.is_value V.is_value frame.header frame.rows.items) }
     ensures content { IfOk result (λ frame. content.now ≡ content_of K.bytes_of V.bytes_of frame.header frame.rows.items) }
-    ensures refused { IfErr result (λ error. IsDamaged error → (header : Header) (rows : List (Row K V)) → Fits K.is_value V.is_value header rows
+    ensures refused { IfErr result (λ error. IsDamaged error → (header : Header) (rows : List (Row K V))
+        → Fits K.is_value V.is_value header rows
         → content.now ≡ content_of K.bytes_of V.bytes_of header rows → ⊥) }
     ensures wrong { IfErr result (λ error. IsWrongInside K.bytes_of K.is_value V.bytes_of V.is_value error content.now) }
 {
@@ -123,10 +129,9 @@ fn frame_in<K: Stored, V: Stored>(alloc: Global, content: &[u8]) -> Result<Frame
 /// The frame whose bytes these are, read whole or refused.
 ///
 /// The check is compared before any row is read, so that damage is told as damage. A change of one
-/// byte, wherever it is, is always found, and so is a frame that is cut short or has bytes behind
-/// it. Of other changes no more is promised than that what is read is what these bytes are written
-/// for: a frame that is changed into another one is that other one, which for a change by chance
-/// comes once in about 2 ^ 64.
+/// byte is found, whichever byte it is, and so is a frame that is cut short or has bytes behind it.
+/// A change of two bytes or more is found too where the check changes with it. That is not promised:
+/// about one in 2 ^ 64 of such changes makes another frame, and that frame is read.
 pub fn decode<K: Stored, V: Stored>(alloc: Global, bytes: &[u8]) -> Result<Frame<K, V>, FrameError>
     // What is read is what these bytes are written for.
     ensures found { IfOk result (λ frame. bytes.now ≡ frame_of K.bytes_of V.bytes_of frame.header frame.rows.items) }
@@ -147,8 +152,8 @@ pub fn decode<K: Stored, V: Stored>(alloc: Global, bytes: &[u8]) -> Result<Frame
         → ChangesOneByte (frame_of K.bytes_of V.bytes_of header rows) bytes.now → IsErrAnd result IsDamaged }
 
     // A beginning of what was written is told by its length, and so is what has bytes behind it.
-    ensures cut { (header : Header) (rows : List (Row K V)) (rest : List ℕ) → length (frame_of K.bytes_of V.bytes_of header rows) < 2 ^ 64
-        → rest ≢ [] → frame_of K.bytes_of V.bytes_of header rows ≡ bytes.now ++ rest → result ≡ Err (Damaged Length) }
+    ensures cut { (header : Header) (rows : List (Row K V)) (rest : List ℕ)
+        → length (frame_of K.bytes_of V.bytes_of header rows) < 2 ^ 64 → rest ≢ [] → frame_of K.bytes_of V.bytes_of header rows ≡ bytes.now ++ rest → result ≡ Err (Damaged Length) }
     ensures longer { (header : Header) (rows : List (Row K V)) (rest : List ℕ)
         → rest ≢ [] → bytes.now ≡ frame_of K.bytes_of V.bytes_of header rows ++ rest → result ≡ Err (Damaged Length) }
 {

@@ -36,7 +36,8 @@ pub(crate) fn take_rows<K: Stored, V: Stored>(
     ensures rows { IfOk result (λ found. AllByRecursion (IsRow K.is_value V.is_value) found.0.items) }
     ensures count { IfOk result (λ found. length found.0.items ≡ count) }
     ensures bytes { IfOk result (λ found. bytes.now ≡ flat_map (row_bytes K.bytes_of V.bytes_of) found.0.items ++ found.1.now) }
-    ensures damaged { result ≡ Err Damaged → (rows : List (Row K V)) (rest : List ℕ) → AllByRecursion (IsRow K.is_value V.is_value) rows → length rows ≡ count
+    ensures damaged { result ≡ Err Damaged → (rows : List (Row K V)) (rest : List ℕ)
+        → AllByRecursion (IsRow K.is_value V.is_value) rows → length rows ≡ count
         → bytes.now ≡ flat_map (row_bytes K.bytes_of V.bytes_of) rows ++ rest → ⊥ }
 {
     let room = (count as usize).min(bytes.len() / LIKELY_ROW);

@@ -67,13 +67,15 @@ pub trait Stored: Drop {
         ensures bytes { OnOk result (out.new.items ≡ out.old.items ++ bytes_of self.now) }
         ensures value { OnOk result (is_value self.now) };
 
-    /// The value whose bytes stand at the front, and the bytes behind it. It takes no more memory
-    /// than there are bytes.
+    /// The value whose bytes stand at the front, and the bytes behind it. No count in the bytes is
+    /// trusted: memory is taken for bytes that are there.
     fn load(alloc: Global, bytes: &[u8]) -> Result<(Self, &[u8]), StoredError>
         ensures value { IfOk result (λ found. is_value found.0) }
         ensures bytes { IfOk result (λ found. bytes.now ≡ bytes_of found.0 ++ found.1.now) }
-        ensures damaged { result ≡ Err Damaged → (value : Self) (rest : List ℕ) → is_value value → bytes.now ≡ bytes_of value ++ rest → ⊥ };
+        ensures damaged { result ≡ Err Damaged → (value : Self) (rest : List ℕ)
+            → is_value value → bytes.now ≡ bytes_of value ++ rest → ⊥ };
 
     /// No value's bytes begin those of another one.
-    ghost tells_its_end: { (a b : Self) (x y : List ℕ) → is_value a → is_value b → bytes_of a ++ x ≡ bytes_of b ++ y → is_same a b × (x ≡ y) };
+    ghost tells_its_end: { (a b : Self) (x y : List ℕ) → is_value a → is_value b
+        → bytes_of a ++ x ≡ bytes_of b ++ y → is_same a b × (x ≡ y) };
 }
