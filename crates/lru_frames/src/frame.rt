@@ -4,14 +4,13 @@
 //! which is 1, and the length of the whole frame in bytes. The number of shards, the number of the
 //! shard, the generation and the number of rows follow, then each row with key, data and weight, and
 //! at the end a check of all bytes before it.
-ghost use Rattle.std.specs.Prelude.{◌≡◌, ◌≢◌, ◌<◌, ◌≤◌, ◌^◌, ◌++◌, ◌↔◌, ℕ, List, [], length, vec_len, IsTrue, OnOk, IfOk, IfErr, IsErrAnd, MatchOption, MatchResult, Err};
+ghost use Rattle.std.specs.Prelude.{◌≡◌, ◌≢◌, ◌<◌, ◌^◌, ◌++◌, ℕ, List, [], length, OnOk, IfOk, IfErr, IsErrAnd, MatchOption, MatchResult, Err};
 ghost use Rattle.lru_frames.specs.declared.errors.FrameError.TheVariants.{Damaged, Memory};
 ghost use Rattle.lru_frames.specs.declared.errors.Part.TheVariants.{Length};
 ghost use Rattle.lru_frames.specs.declared.frame.Header.{Header};
 ghost use Rattle.lru_frames.specs.declared.row.Row.{Row};
-ghost use Rattle.lru_frames.specs.Words.{word};
 ghost use Rattle.lru_frames.specs.Causes.{IsWrongInside, IsWrong};
-ghost use Rattle.lru_frames.specs.Envelope.{head_of, sealed, ChangesOneByte};
+ghost use Rattle.lru_frames.specs.Envelope.{ChangesOneByte};
 ghost use Rattle.lru_frames.specs.Rows.{IsSameRow, AreSame};
 ghost use Rattle.lru_frames.specs.Frame.{header_bytes, content_of, frame_of, Fits, IsDamaged};
 
@@ -130,8 +129,8 @@ fn frame_in<K: Stored, V: Stored>(alloc: Global, content: &[u8]) -> Result<Frame
 ///
 /// The check is compared before any row is read, so that damage is told as damage. A change of one
 /// byte is found, whichever byte it is, and so is a frame that is cut short or has bytes behind it.
-/// A change of two bytes or more is found too where the check changes with it. That is not promised:
-/// about one in 2 ^ 64 of such changes makes another frame, and that frame is read.
+/// A change of two bytes or more is found wherever it changes the check, which is all but about one
+/// in 2 ^ 64 of them: that one is found too is not promised.
 pub fn decode<K: Stored, V: Stored>(alloc: Global, bytes: &[u8]) -> Result<Frame<K, V>, FrameError>
     // What is read is what these bytes are written for.
     ensures found { IfOk result (λ frame. bytes.now ≡ frame_of K.bytes_of V.bytes_of frame.header frame.rows.items) }
@@ -153,12 +152,30 @@ pub fn decode<K: Stored, V: Stored>(alloc: Global, bytes: &[u8]) -> Result<Frame
 
     // A beginning of what was written is told by its length, and so is what has bytes behind it.
     ensures cut { (header : Header) (rows : List (Row K V)) (rest : List ℕ)
-        → length (frame_of K.bytes_of V.bytes_of header rows) < 2 ^ 64 → rest ≢ [] → frame_of K.bytes_of V.bytes_of header rows ≡ bytes.now ++ rest → result ≡ Err (Damaged Length) }
+        → length (frame_of K.bytes_of V.bytes_of header rows) < 2 ^ 64 → rest ≢ []
+        → frame_of K.bytes_of V.bytes_of header rows ≡ bytes.now ++ rest → result ≡ Err (Damaged Length) }
     ensures longer { (header : Header) (rows : List (Row K V)) (rest : List ℕ)
         → rest ≢ [] → bytes.now ≡ frame_of K.bytes_of V.bytes_of header rows ++ rest → result ≡ Err (Damaged Length) }
 {
     match opened(bytes) {
         Err(part) => Err(FrameError::Damaged(part)),
         Ok(content) => frame_in(alloc, content),
+    }
+}
+
+/// What is read of what was written: the same header and the same rows, unless memory runs out.
+pub fn encode_and_decode<K: Stored, V: Stored>(
+    alloc: Global,
+    header: Header,
+    rows: &[Row<K, V>],
+) -> Result<Frame<K, V>, FrameError>
+    requires { header.shard < header.shards }
+    ensures { MatchResult result
+        (λ frame. (frame.header ≡ header) × AreSame (IsSameRow K.is_same V.is_same) frame.rows.items rows.now)
+        (λ error. error ≡ Memory) }
+{
+    match encode(alloc, header, rows) {
+        Err(_) => Err(FrameError::Memory),
+        Ok(bytes) => decode(alloc, &bytes),
     }
 }

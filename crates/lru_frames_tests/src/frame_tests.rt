@@ -1,5 +1,5 @@
 //! Frames whose bytes are written out.
-use lru_frames::frame::{Header, decode, encode};
+use lru_frames::frame::{Header, decode, encode, encode_and_decode};
 use lru_frames::row::Row;
 use std::alloc::{AllocError, Global};
 use std::test::Fail;
@@ -111,8 +111,7 @@ fn numbered(alloc: Global, count: u64) -> Result<Vec<Row<u64, u64>>, AllocError>
 // Whether a frame of so many rows tells them again, in order.
 fn tells_again(alloc: Global, count: u64) -> Result<bool, Fail> {
     let rows = numbered(alloc, count)?;
-    let bytes = encode(alloc, HEADER, &rows)?;
-    let frame = decode::<u64, u64>(alloc, &bytes)?;
+    let frame = encode_and_decode(alloc, HEADER, &rows)?;
     if frame.rows.len() != rows.len() {
         return Ok(false);
     }
