@@ -1,0 +1,4 @@
+pub mod CheckLaws
+pub mod EnvelopeLaws
+pub mod RowsLaws
+pub mod FrameLaws

@@ -1,0 +1,10 @@
+pub mod Words
+pub mod WordLaws
+pub mod Check
+pub mod Envelope
+pub mod Errors
+pub mod StoredErrors
+pub mod Rows
+pub mod RowLaws
+pub mod Frame
+pub mod Causes

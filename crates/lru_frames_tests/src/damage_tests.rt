@@ -1,0 +1,159 @@
+//! Frames that are changed, cut short, or have bytes behind them.
+use lru_frames::errors::{FrameError, Part};
+use lru_frames::frame::{Frame, Header, decode, encode};
+use lru_frames::row::Row;
+use std::alloc::{AllocError, Global};
+use std::test::Fail;
+
+// A frame of two rows.
+fn two_rows(alloc: Global) -> Result<Vec<u8>, AllocError> {
+    let mut rows = Vec::new(alloc);
+    rows.push(Row {
+        key: 1u64,
+        data: 10u64,
+        weight: 2,
+    })?;
+    rows.push(Row {
+        key: 3u64,
+        data: 30u64,
+        weight: 1,
+    })?;
+    encode(
+        alloc,
+        Header {
+            shards: 2,
+            shard: 1,
+            generation: 5,
+        },
+        &rows,
+    )
+}
+
+fn read(alloc: Global, bytes: &[u8]) -> Result<Frame<u64, u64>, FrameError> {
+    decode(alloc, bytes)
+}
+
+// The part that is told as damaged, if one is.
+fn damage(alloc: Global, bytes: &[u8]) -> Option<Part> {
+    match read(alloc, bytes) {
+        Err(FrameError::Damaged(part)) => Some(part),
+        _ => None,
+    }
+}
+
+// The first place at which a change to some other byte is not told as damage.
+fn first_unseen(alloc: Global, bytes: &mut Vec<u8>) -> Option<usize> {
+    for place in 0..bytes.len() {
+        for change in 1..=255u8 {
+            bytes[place] ^= change;
+            let seen = damage(alloc, bytes).is_some();
+            bytes[place] ^= change;
+            if !seen {
+                return Some(place);
+            }
+        }
+    }
+    None
+}
+
+#[test]
+fn each_changed_byte(rt: HostRuntime) -> Result<(), Fail> {
+    let mut bytes = two_rows(rt.alloc())?;
+    assert_eq!(rt; bytes.len(), 112);
+    assert_eq!(rt; first_unseen(rt.alloc(), &mut bytes), None);
+    assert!(rt; read(rt.alloc(), &bytes).is_ok());
+    Ok(())
+}
+
+// The shortest beginning that is not told by its length.
+fn first_uncut(alloc: Global, bytes: &[u8]) -> Option<usize> {
+    (0..bytes.len()).find(|&end| damage(alloc, &bytes[..end]) != Some(Part::Length))
+}
+
+#[test]
+fn each_cut(rt: HostRuntime) -> Result<(), Fail> {
+    let bytes = two_rows(rt.alloc())?;
+    assert_eq!(rt; first_uncut(rt.alloc(), &bytes), None);
+    Ok(())
+}
+
+#[test]
+fn bytes_behind(rt: HostRuntime) -> Result<(), Fail> {
+    let mut bytes = two_rows(rt.alloc())?;
+    for byte in 0..40u8 {
+        bytes.push(byte)?;
+        assert_eq!(rt; damage(rt.alloc(), &bytes), Some(Part::Length));
+    }
+    Ok(())
+}
+
+// The frame with another byte at a place, and which part is told as damaged.
+fn damage_at(alloc: Global, bytes: &mut Vec<u8>, place: usize) -> Option<Part> {
+    if place >= bytes.len() {
+        return None;
+    }
+    bytes[place] ^= 1;
+    let part = damage(alloc, bytes);
+    bytes[place] ^= 1;
+    part
+}
+
+#[test]
+fn which_part(rt: HostRuntime) -> Result<(), Fail> {
+    let mut bytes = two_rows(rt.alloc())?;
+    assert_eq!(rt; damage_at(rt.alloc(), &mut bytes, 0), Some(Part::Magic));
+    assert_eq!(rt; damage_at(rt.alloc(), &mut bytes, 8), Some(Part::Version));
+    assert_eq!(rt; damage_at(rt.alloc(), &mut bytes, 16), Some(Part::Length));
+    assert_eq!(rt; damage_at(rt.alloc(), &mut bytes, 24), Some(Part::Check));
+    assert_eq!(rt; damage_at(rt.alloc(), &mut bytes, 111), Some(Part::Check));
+    Ok(())
+}
+
+#[test]
+fn other_types(rt: HostRuntime) -> Result<(), Fail> {
+    let bytes = two_rows(rt.alloc())?;
+    let read = decode::<String, u64>(rt.alloc(), &bytes);
+    assert!(rt; matches!(read, Err(FrameError::Damaged(Part::Rows))));
+    Ok(())
+}
+
+// The check of the bytes, as it is defined: one byte after the other.
+fn check_of(bytes: &[u8]) -> u64 {
+    bytes
+        .iter()
+        .fold(1_442_695_040_888_963_407, |check: u64, byte| {
+            check
+                .wrapping_mul(6_364_136_223_846_793_005)
+                .wrapping_add(u64::from(*byte))
+        })
+}
+
+// A frame whose check is right, with these numbers after its version.
+fn sealed(alloc: Global, numbers: &[u64]) -> Result<Vec<u8>, AllocError> {
+    let mut bytes = Vec::from_slice(alloc, b"LRUFRAME")?;
+    bytes.extend_from_slice(&1u64.to_le_bytes())?;
+    for number in numbers {
+        bytes.extend_from_slice(&number.to_le_bytes())?;
+    }
+    let check = check_of(&bytes);
+    bytes.extend_from_slice(&check.to_le_bytes())?;
+    Ok(bytes)
+}
+
+#[test]
+fn what_a_right_check_does_not_mend(rt: HostRuntime) -> Result<(), Fail> {
+    // length, shards, shard, generation, rows; key, data and weight of each row
+    let right = sealed(rt.alloc(), &[88, 1, 0, 0, 1, 5, 9, 3])?;
+    assert!(rt; read(rt.alloc(), &right).is_ok());
+    let shard_too_great = sealed(rt.alloc(), &[88, 1, 1, 0, 1, 5, 9, 3])?;
+    assert_eq!(rt; damage(rt.alloc(), &shard_too_great), Some(Part::Header));
+    let no_header = sealed(rt.alloc(), &[48, 1, 0])?;
+    assert_eq!(rt; damage(rt.alloc(), &no_header), Some(Part::Header));
+    let rows_missing = sealed(rt.alloc(), &[88, 1, 0, 0, 2, 5, 9, 3])?;
+    assert_eq!(rt; damage(rt.alloc(), &rows_missing), Some(Part::Rows));
+    let rows_untold = sealed(rt.alloc(), &[88, 1, 0, 0, 0, 5, 9, 3])?;
+    assert_eq!(rt; damage(rt.alloc(), &rows_untold), Some(Part::Rows));
+    let countless_rows = sealed(rt.alloc(), &[88, 1, 0, 0, u64::MAX, 5, 9, 3])?;
+    assert_eq!(rt; damage(rt.alloc(), &countless_rows), Some(Part::Rows));
+    Ok(())
+}
