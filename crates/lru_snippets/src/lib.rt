@@ -1,6 +1,7 @@
 //! The snippets of `docs/CALLING.md`, each a function that is proved.
 #![tactic(auto)]
 
+pub mod caches;
 pub mod cores;
 pub mod files;
 pub mod keys;
