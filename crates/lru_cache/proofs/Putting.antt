@@ -1,6 +1,7 @@
 -- An entry is put in place of its key's.
 use Rattle.std.proofs.Common.{◌≡◌, ℕ, ◌+◌, ◌-◌, ◌≤◌, cond, not, List, [], ◌∷◌, ◌++◌, length, Some, None, Ok, Err, refl, sym, ap, ◌∙◌, subst, arith, true, false, append-nil, inl, inr}
 use Rattle.std.specs.Prelude.{Option, Bool, is_some, max}
+use Rattle.std.specs.Option.{option_map_or}
 use Rattle.std.proofs.lemmas.Bool.{false≢true}
 use Rattle.std.proofs.lemmas.List.{length-append}
 use Rattle.std.proofs.lemmas.List.Sums.{sum_by-cons, sum_by-append}
@@ -8,7 +9,7 @@ use Rattle.lru_cache.specs.declared.cache.Entry.{Entry}
 use Rattle.lru_cache.specs.declared.cache.Refused.{Refused}
 use Rattle.lru_cache.specs.declared.cache.Cause.{Cause}
 use Rattle.lru_cache.specs.declared.cache.Cause.TheVariants.{TooHeavy, Full, Memory}
-use Rattle.lru_cache.specs.Cache.{Cached, entry, entry_of, without, weight_of, Fit, IsCache, HasPlace, MakesPlace, MayRefuse, Leaves, PutsFirst, Puts, with_entries}
+use Rattle.lru_cache.specs.Cache.{Cached, entry, entry_of, without, weight_of, Fit, IsCache, HasPlace, MakesPlace, MayRefuse, Leaves, PutsFirst, Puts, with_entries, used}
 use Rattle.lru_cache.proofs.Entries.{by_bool}
 
 pub none_is : {A : Type 0} (o : Option A) → is_some o ≡ false → o ≡ None
@@ -169,3 +170,20 @@ module _ {K V : Type 0} (eq : K → K → Bool) where
       refuses Step visit v cause new made r cause_is key_is value_is =
           let told = refuse cause new (subst (λ c. MakesPlace c w (Err cause) new) unremoved made) in
           (subst (MayRefuse eq old key w) (sym cause_is) told.0, (key_is, (value_is, told.1)))
+
+  -- a key without an entry is used by nothing, and one is put of it
+  module _ (old : Cached K V) (valid : IsCache eq old) (key : K) (none : entry_of eq old.entries key ≡ None) (m : Cached K V) (m_is : m ≡ with_entries old (used eq old.entries key)) where
+    pub same_unused : m ≡ old
+    same_unused =
+        m_is ∙ ap (with_entries old) (ap (λ o. option_map_or (λ e. e ∷ without eq old.entries key) o old.entries) none)
+        ∙ ap (λ n. record { entries = old.entries; places = n; most_weight = old.most_weight; most_entries = old.most_entries }) (omega (arith, valid.placed))
+
+    module _ {F : Type 0} (Step : F → Entry K V → F → Type 0) (visit : F) (v : V) (w : ℕ) (new : Cached K V) where
+      from_old : (o : Option (Entry K V)) → Puts eq Step visit old key v w (Ok o) new → Puts eq Step visit old key v w (Ok None) new
+      from_old o puts = (sym none, puts.1)
+
+      pub put_new : (o : Option (Entry K V)) → Puts eq Step visit m key v w (Ok o) new → Puts eq Step visit old key v w (Ok None) new
+      put_new o puts = from_old o (subst (λ c. Puts eq Step visit c key v w (Ok o) new) same_unused puts)
+
+      pub put_refused : (r : Refused K V) → Puts eq Step visit m key v w (Err r) new → Puts eq Step visit old key v w (Err r) new
+      put_refused r puts = subst (λ c. Puts eq Step visit c key v w (Err r) new) same_unused puts

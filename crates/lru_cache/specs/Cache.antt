@@ -1,5 +1,5 @@
 -- A cache: its entries, most recent first, under two limits.
-use Rattle.std.specs.Prelude.{◌≡◌, ℕ, ◌+◌, ◌-◌, ◌<◌, ◌≤◌, ◌⊎◌, max, not, Bool, List, [], ◌∷◌, ◌++◌, length, filter, find, reverse, sum_by, count_by, Option, Some, None, Result, Ok, Err, refl}
+use Rattle.std.specs.Prelude.{◌≡◌, ℕ, ◌+◌, ◌-◌, ◌<◌, ◌≤◌, ◌⊎◌, max, not, Bool, true, false, List, [], ◌∷◌, ◌++◌, length, filter, find, reverse, sum_by, count_by, Option, Some, None, Result, Ok, Err, refl, IsSome}
 use Rattle.std.specs.Option.{option_map_or}
 use Rattle.std.specs.List.{FoldsTo}
 use Rattle.std.specs.Coded.{Coded, code_by, coded×, coded_ℕ, coded_list}
@@ -7,6 +7,8 @@ use Rattle.std.specs.Borrow.{MutBor}
 use Rattle.lru_rows.specs.Rows.{most_rows, Updates}
 use Rattle.lru_cache.specs.declared.cache.Entry.{Entry}
 use Rattle.lru_cache.specs.declared.cache.Refused.{Refused}
+use Rattle.lru_cache.specs.declared.cache.NotPut.{NotPut}
+use Rattle.lru_cache.specs.declared.cache.NotPut.TheVariants.{Unmade, Refused as EntryRefused}
 use Rattle.lru_cache.specs.declared.cache.Cause.{Cause}
 use Rattle.lru_cache.specs.declared.cache.Cause.TheVariants.{TooHeavy, Full, Memory}
 
@@ -129,3 +131,10 @@ module _ {K V : Type 0} where
     UpdatesEntry post old key None new = (entry_of old.entries key ≡ None) × (new ≡ old)
     UpdatesEntry post old key (Some answer) new =
         (e : Entry K V) × ((entry_of old.entries key ≡ Some e) × ((v : V) × (Updates post e.value e.weight answer v × (new ≡ with_entries old (entry e.key v e.weight ∷ without old.entries key)))))
+
+    -- a key is used; or, where it has no entry, one is put of a value and a weight that `Makes` allows, or none is made
+    abbrev pub UsesOrPuts : {E F : Type 0} → (Result (V × ℕ) E → Type 0) → (F → Entry K V → F → Type 0) → F → Cached K V → K → Result Bool (NotPut K V E) → Cached K V → Type 0
+    UsesOrPuts Makes Step visit old key (Ok true) new = IsSome (entry_of old.entries key) × (new ≡ with_entries old (used old.entries key))
+    UsesOrPuts Makes Step visit old key (Ok false) new = (made : V × ℕ) × (Makes (Ok made) × Puts Step visit old key made.0 made.1 (Ok None) new)
+    UsesOrPuts Makes Step visit old key (Err (Unmade k e)) new = (entry_of old.entries key ≡ None) × (Makes (Err e) × ((k ≡ key) × (new ≡ old)))
+    UsesOrPuts Makes Step visit old key (Err (EntryRefused r)) new = (made : V × ℕ) × (Makes (Ok made) × Puts Step visit old key made.0 made.1 (Err r) new)

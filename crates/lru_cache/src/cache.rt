@@ -1,7 +1,7 @@
 //! A cache of one owner.
 ghost use Rattle.std.specs.Prelude.{◌≡◌, ◌<◌, ◌≤◌, None, length, map, is_some, nat_eq, IfOk};
 ghost use Rattle.std.specs.Option.{option_map, option_copied};
-ghost use Rattle.lru_cache.specs.Cache.{empty, weight_of, entry_of, without, used, with_entries, Puts, PutsFirst, HasPlace, MakesPlace, PopsLast, Limits, UpdatesEntry, IsCache};
+ghost use Rattle.lru_cache.specs.Cache.{empty, weight_of, entry_of, without, used, with_entries, Puts, PutsFirst, HasPlace, MakesPlace, PopsLast, Limits, UpdatesEntry, UsesOrPuts, IsCache};
 
 use crate::shrinking::{fits, shrink};
 use lru_index::hashing::SeededHashes;
@@ -52,6 +52,15 @@ impl<K, V> Refused<K, V> {
     {
         Refused { cause, key, value }
     }
+}
+
+/// Why `use_or_put` put no entry.
+#[derive(Debug, Drop)]
+pub enum NotPut<K, V, E> {
+    /// No value was made. The key is handed back, and what the closure tells.
+    Unmade(K, E),
+    /// The entry was refused. Key and value are handed back.
+    Refused(Refused<K, V>),
 }
 
 /// A cache of keys and values under two limits, one on the weight of its entries and one on their number.
@@ -193,6 +202,7 @@ impl<K: Hash, V, S: BuildHasher> Cache<K, V, S> {
     pub fn promote(&mut self, key: &K) -> bool
         ensures answer { result ≡ is_some (entry_of K.eq self.old.entries key.now) }
         ensures entries { self.new ≡ with_entries self.old (used K.eq self.old.entries key.now) }
+        ensures valid { IsCache K.eq self.old }
     {
         let Some(place) = self.rows.find(key) else {
             return false;
@@ -247,6 +257,38 @@ impl<K: Hash + Default + Drop, V: Drop, S: BuildHasher> Cache<K, V, S> {
         }
         self.put_first(key, value, weight, visit);
         Ok(was)
+    }
+
+    /// Uses a key, and answers true; or puts an entry of it that `make` makes, value and weight, as `put` does, and answers
+    /// false. `make` is called only where the key has no entry.
+    ///
+    /// # Errors
+    ///
+    /// `make` made none, or the entry was refused. What is not put is handed back, and nothing changes.
+    pub fn use_or_put<E: Drop, M, F>(
+        &mut self,
+        key: K,
+        make: M,
+        visit: F,
+    ) -> Result<bool, NotPut<K, V, E>>
+    where
+        M: FnOnce() -> Result<(V, usize), E> + Drop,
+        F: FnMut(Entry<K, V>) + Drop,
+        requires make { M.IsAlwaysCallable make }
+        requires visit { F.IsAlwaysCallable visit }
+        ensures { UsesOrPuts K.eq (M.post make) (λ p x q. F.step p x tt q) visit self.old key result self.new }
+    {
+        if self.promote(&key) {
+            return Ok(true);
+        }
+        let (value, weight) = match make() {
+            Ok(made) => made,
+            Err(error) => return Err(NotPut::Unmade(key, error)),
+        };
+        match self.put(key, value, weight, visit) {
+            Ok(_) => Ok(false),
+            Err(refused) => Err(NotPut::Refused(refused)),
+        }
     }
 
     // Makes sure of a place for an entry of this weight, whose key has none. Where another has to go for it, its place is

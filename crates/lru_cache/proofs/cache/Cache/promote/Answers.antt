@@ -1,5 +1,5 @@
 use Rattle.std.proofs.Common.{Some, None}
-use Rattle.lru_cache.proofs.Views.{found_some, unused, is_at, kept_used, view_used}
+use Rattle.lru_cache.proofs.Views.{found_some, unused, is_at, kept_used, view_used, valid_cache}
 use Rattle.lru_cache.proofs.cache.Cache.promote.Goals as goal
 
 pub returns-in_default-clause-answer : goal.returns-in_default-clause-answer
@@ -19,3 +19,9 @@ returns-clause-answer g c = found_some g.K.PartialEq.eq c.self.inside.rows c.sel
 
 pub returns-clause-entries : goal.returns-clause-entries
 returns-clause-entries g c = view_used g.K.PartialEq.eq c.self.inside.rows c.self.inside.weight c.self.inside.most_weight c.self.inside.most_entries c.self.invariant c.args.self.now c.self.view_is c.args.key.now c.find.ensures.valid c.in-Some.place c.in-Some.ensures.finds c.promote.new.self c.promote.ensures
+
+pub returns-in_default-clause-valid : goal.returns-in_default-clause-valid
+returns-in_default-clause-valid g c = valid_cache g.K.PartialEq.eq c.self.inside.rows c.self.inside.weight c.self.inside.most_weight c.self.inside.most_entries c.self.invariant c.args.self.now c.self.view_is c.find.ensures.valid
+
+pub returns-clause-valid : goal.returns-clause-valid
+returns-clause-valid g c = valid_cache g.K.PartialEq.eq c.self.inside.rows c.self.inside.weight c.self.inside.most_weight c.self.inside.most_entries c.self.invariant c.args.self.now c.self.view_is c.find.ensures.valid
