@@ -4,7 +4,7 @@ use Rattle.std.specs.Prelude.{Bool, is_some, IsSome, count_by, ◌==◌}
 use Rattle.std.specs.Option.{option_map}
 use Rattle.std.proofs.lemmas.Bool.{cond_both, cases_eq, eq-eqb, ne_eqb, eqb-true, eqb-false, not-true, not-false, false≢true}
 use Rattle.std.proofs.lemmas.List.Sums.{sum_by-cons, sum_by-append}
-use Rattle.lru_rows.specs.Rows.{Placed, row_at, row_of, without as rows_without}
+use Rattle.lru_rows.specs.Rows.{Placed, placed, with_value, row_at, row_of, without as rows_without}
 use Rattle.lru_cache.specs.declared.cache.Entry.{Entry}
 use Rattle.lru_cache.specs.Cache.{entry_of, without, weight_of}
 use Rattle.lru_cache.specs.Representation.{entry_in, entries_in, weight_in}
@@ -95,6 +95,19 @@ module _ {K V : Type 0} where
         | inl h ↦ omega (arith, once p, places_here x xs p h)
         | inr ne ↦ omega (arith, once p, places_other x xs p ne)
       ]
+
+  -- no row at a place is changed where there is none
+  pub with_value-without : (p : ℕ) (d : V) (rows : List (Placed K V)) → with_value (rows_without rows p) p d ≡ rows_without rows p
+  with_value-without p d [] = refl
+  with_value-without p d (r ∷ rs) =
+      by_place p r rs (λ xs. with_value xs p d ≡ xs) (λ e. with_value-without p d rs)
+      (λ ne. ap (λ b. cond b (placed r.place r.key d r.weight) r ∷ with_value (rows_without rs p) p d) (ne_eqb r.place p ne) ∙ ap (λ xs. r ∷ xs) (with_value-without p d rs))
+
+  pub row_first : (r : Placed K V) (rs : List (Placed K V)) (p : ℕ) → r.place ≡ p → row_at (r ∷ rs) p ≡ Some r
+  row_first r rs p e = ap (λ b. cond b (Some r) (row_at rs p)) (eq-eqb r.place p e)
+
+  pub with_value-first : (p : ℕ) (d : V) (r : Placed K V) (rs : List (Placed K V)) → r.place ≡ p → with_value (r ∷ rs) p d ≡ placed r.place r.key d r.weight ∷ with_value rs p d
+  with_value-first p d r rs e = ap (λ b. cond b (placed r.place r.key d r.weight) r ∷ with_value rs p d) (eq-eqb r.place p e)
 
   module _ (eq : K → K → Bool) where
     -- the entry of a key

@@ -8,7 +8,7 @@ use Rattle.lru_rows.specs.declared.rows.NoPlace.{NoPlace}
 use Rattle.lru_rows.specs.declared.rows.NoPlace.TheVariants.{Memory, Full}
 use Rattle.lru_rows.specs.Rows.{Placed, placed, Recency, recency, row_of, most_rows, LacksPlace}
 use Rattle.lru_cache.specs.declared.cache.Entry.{Entry}
-use Rattle.lru_cache.specs.Cache.{Cached, entry, entry_of, Fit, HasPlace, Leaves, PutsFirst}
+use Rattle.lru_cache.specs.Cache.{Cached, entry, entry_of, Fit, HasPlace, Leaves, Limits, PutsFirst}
 use Rattle.lru_cache.specs.Representation.{entry_in, entries_in, cached_in, IsKept, RowsFit, Shrinks}
 use Rattle.lru_cache.proofs.Entries.{weight-entries, length-entries, entry-row}
 use Rattle.lru_cache.proofs.Views.{entries_are}
@@ -32,6 +32,46 @@ module _ {K V : Type 0} where
       cond_both (eq r.key key) (Some r) (row_of eq rs key) (λ o. o ≡ None)
       (λ e. absurd (false≢true (ap is_some (sym none ∙ ap (λ b. cond b (Some r) (row_of eq (rs ++ back) key)) e))))
       (λ e. front_absent eq key rs back (sym (ap (λ b. cond b (Some r) (row_of eq (rs ++ back) key)) e) ∙ none))
+
+same_head : {A : Type 0} (a b : A) (xs ys : List A) → a ∷ xs ≡ b ∷ ys → a ≡ b
+same_head a b xs ys e = cc
+
+nil_cons : {A : Type 0} (a : A) (xs : List A) → [] ≡ a ∷ xs → ⊥
+nil_cons a xs e = cc
+
+-- rows that go are the shortest end of entries that has to
+module _ {K V F : Type 0} (Step : F → Entry K V → F → Type 0) (visit : F) (a n : ℕ) (r r' : Recency K V) (s : Shrinks Step visit a n r r') where
+  needed_by : (back : List (Placed K V)) → s.back ≡ back → (e : Entry K V) (rest : List (Entry K V)) → entries_in s.back ≡ e ∷ rest → Fit a n (entries_in s.front ++ e ∷ []) → ⊥
+  needed_by [] is e rest to fit = nil_cons e rest (sym (ap entries_in is) ∙ to)
+  needed_by (b ∷ bs) is e rest to fit =
+      s.needed b bs is (fit_rows a n (s.front ++ b ∷ [])
+      (subst (λ es. Fit a n es) (sym (map-append entry_in s.front (b ∷ [])))
+      (subst (λ x. Fit a n (entries_in s.front ++ x ∷ [])) (sym (same_head (entry_in b) e (entries_in bs) rest (sym (ap entries_in is) ∙ to))) fit)))
+
+  pub leaves_rows : Leaves a n (entries_in r.rows) (entries_in s.front) (entries_in s.back)
+  leaves_rows = record {
+    parts = ap entries_in s.parts ∙ map-append entry_in s.front s.back;
+    fits = rows_fit a n s.front s.fits;
+    needed = λ e rest is fit. needed_by s.back refl e rest is fit;
+  }
+
+  -- which limits the cache has then
+  pub limits_set : (used_is most_weight most_entries : ℕ) (c : Cached K V) → cached_in r most_weight most_entries ≡ c → Limits Step visit c a n (cached_in r' a n)
+  limits_set used_is most_weight most_entries c view = (
+    entries_in s.front,
+    (
+      entries_in s.back,
+      (
+        subst (λ es. Leaves a n es (entries_in s.front) (entries_in s.back)) (ap (λ (x : Cached K V). x.entries) view) leaves_rows,
+        (
+          s.shown,
+          ap (λ x. cached_in x a n) s.left
+              ∙ ap (λ m. record { entries = entries_in s.front; places = m; most_weight = a; most_entries = n })
+              (omega (arith, ap length s.parts, length-append s.front s.back, ap (λ (x : Cached K V). x.places) view)),
+        ),
+      ),
+    ),
+  )
 
 module _ {K V F : Type 0} (eq : K → K → Bool) (r : Recency K V) (used_is most_weight most_entries : ℕ) (kept : IsKept r used_is most_weight most_entries) (c : Cached K V)
     (view : cached_in r most_weight most_entries ≡ c) (Step : F → Entry K V → F → Type 0) (visit : F) (w : ℕ) (place : HasPlace c w)
@@ -86,25 +126,10 @@ module _ {K V F : Type 0} (eq : K → K → Bool) (r : Recency K V) (used_is mos
 
   leaves : Leaves (c.most_weight - w) (c.most_entries - 1) c.entries (entries_in s.front) (entries_in s.back)
   leaves =
-      subst (λ n. Leaves (n - w) (c.most_entries - 1) c.entries (entries_in s.front) (entries_in s.back)) same_weight
-      (subst (λ n. Leaves (most_weight - w) (n - 1) c.entries (entries_in s.front) (entries_in s.back)) same_most (record {
-        parts = sym (entries_are eq r used_is most_weight most_entries kept c view) ∙ ap entries_in s.parts ∙ map-append entry_in s.front s.back;
-        fits = rows_fit (most_weight - w) (most_entries - 1) s.front s.fits;
-        needed = λ e rest is fit. needed_by s.back refl e rest is fit;
-      }))
-    where
-      same_head : {A : Type 0} (a b : A) (xs ys : List A) → a ∷ xs ≡ b ∷ ys → a ≡ b
-      same_head a b xs ys e = cc
-
-      nil_cons : {A : Type 0} (a : A) (xs : List A) → [] ≡ a ∷ xs → ⊥
-      nil_cons a xs e = cc
-
-      needed_by : (back : List (Placed K V)) → s.back ≡ back → (e : Entry K V) (rest : List (Entry K V)) → entries_in s.back ≡ e ∷ rest → Fit (most_weight - w) (most_entries - 1) (entries_in s.front ++ e ∷ []) → ⊥
-      needed_by [] is e rest to fit = nil_cons e rest (sym (ap entries_in is) ∙ to)
-      needed_by (b ∷ bs) is e rest to fit =
-          s.needed b bs is (fit_rows (most_weight - w) (most_entries - 1) (s.front ++ b ∷ [])
-          (subst (λ es. Fit (most_weight - w) (most_entries - 1) es) (sym (map-append entry_in s.front (b ∷ [])))
-          (subst (λ x. Fit (most_weight - w) (most_entries - 1) (entries_in s.front ++ x ∷ [])) (sym (same_head (entry_in b) e (entries_in bs) rest (sym (ap entries_in is) ∙ to))) fit)))
+      subst (λ a. Leaves (a - w) (c.most_entries - 1) c.entries (entries_in s.front) (entries_in s.back)) same_weight
+      (subst (λ n. Leaves (most_weight - w) (n - 1) c.entries (entries_in s.front) (entries_in s.back)) same_most
+      (subst (λ es. Leaves (most_weight - w) (most_entries - 1) es (entries_in s.front) (entries_in s.back)) (entries_are eq r used_is most_weight most_entries kept c view)
+      (leaves_rows Step visit (most_weight - w) (most_entries - 1) r r' s)))
 
   pub puts_first : (k : K) (v : V) (p : ℕ) (new : Recency K V) → new ≡ recency (placed p k v w ∷ r'.rows) (r'.free - 1) → PutsFirst Step visit c k v w (cached_in new most_weight most_entries)
   puts_first k v p new is = (

@@ -4,11 +4,12 @@ use Rattle.std.specs.Prelude.{Option, Bool, is_some, max}
 use Rattle.std.specs.Option.{option_map, option_map_or}
 use Rattle.std.proofs.lemmas.List.{map-append, length-append}
 use Rattle.lru_rows.specs.declared.rows.Taken.{Taken}
-use Rattle.lru_rows.specs.Rows.{Placed, Recency, recency, row_at, row_of, IsAt, Finds, IsRecency, promoted, Removes as RowsRemoves, PopsLast as RowsPopsLast, without as rows_without}
+use Rattle.lru_rows.specs.Rows.{placed, with_value, Updates, UpdatesAt, Placed, Recency, recency, row_at, row_of, IsAt, Finds, IsRecency, promoted, Removes as RowsRemoves, PopsLast as RowsPopsLast, without as rows_without}
 use Rattle.lru_cache.specs.declared.cache.Entry.{Entry}
-use Rattle.lru_cache.specs.Cache.{Cached, entry, entry_of, without, used, weight_of, with_entries, IsCache, PopsLast}
+use Rattle.std.specs.Borrow.{MutBor}
+use Rattle.lru_cache.specs.Cache.{UpdatesEntry, Cached, entry, entry_of, without, used, weight_of, with_entries, IsCache, PopsLast}
 use Rattle.lru_cache.specs.Representation.{entry_in, entries_in, weight_in, cached_in, IsKept}
-use Rattle.lru_cache.proofs.Entries.{row_place, row_there, weight-entries, length-entries, weight-cons, weight-append, weight-without, length-without, entry-row, keyed-entries, entries-without, absent_without}
+use Rattle.lru_cache.proofs.Entries.{some_of, with_value-without, with_value-first, row_first, row_place, row_there, weight-entries, length-entries, weight-cons, weight-append, weight-without, length-without, entry-row, keyed-entries, entries-without, absent_without}
 
 -- the greater of two, where that is known
 max_left : (a b : ℕ) → b ≤ a → max a b ≡ a
@@ -78,6 +79,9 @@ module _ {K V : Type 0} (eq : K → K → Bool) (r : Recency K V) (used_is most_
         (ap (λ n. record { entries = entries_in r.rows; places = n; most_weight = most_weight; most_entries = most_entries })
         (max_left (length r.rows + r.free) (length (entries_in r.rows)) (omega (arith, length-entries r.rows))))
 
+    pub view_unupdated : {R : Type 0} (post : MutBor V → ℕ → R → MutBor V → Type 0) (o : Option R) → o ≡ None → Finds eq r.rows key None → UpdatesEntry eq post c key o c
+    view_unupdated post o is none = subst (λ x. UpdatesEntry eq post c key x c) (sym is) (found_entry ∙ ap (option_map entry_in) none, refl)
+
     pub unused : Finds eq r.rows key None → c ≡ with_entries c (used eq c.entries key)
     unused none =
         sym same_entries
@@ -124,6 +128,49 @@ module _ {K V : Type 0} (eq : K → K → Bool) (r : Recency K V) (used_is most_
             ∙ ap (with_entries c)
             (ap (λ es. entry_in finds.0 ∷ es) others
             ∙ sym (ap (λ o. option_map_or (λ e. e ∷ without eq c.entries key) o c.entries) (found_entry ∙ ap (option_map entry_in) finds.1)))
+
+        pub at_first : (r' : Recency K V) → r' ≡ recency (promoted r.rows p) r.free → IsAt r'.rows p
+        at_first r' is =
+            ap is_some (ap (λ rs. row_at rs p) (ap (λ (x : Recency K V). x.rows) is ∙ first) ∙ row_first finds.0 (rows_without r.rows p) p place_is)
+
+        -- its value is lent
+        module _ {R : Type 0} (post : MutBor V → ℕ → R → MutBor V → Type 0) (answer : R) (r' r'' : Recency K V) (is : r' ≡ recency (promoted r.rows p) r.free) (updates : UpdatesAt post r' p answer r'') where
+          first_is : r'.rows ≡ finds.0 ∷ rows_without r.rows p
+          first_is = ap (λ (x : Recency K V). x.rows) is ∙ first
+
+          row_is : updates.0 ≡ finds.0
+          row_is = some_of updates.0 finds.0 (sym updates.1 ∙ ap (λ rs. row_at rs p) first_is ∙ row_first finds.0 (rows_without r.rows p) p place_is)
+
+          rows_now : r'' ≡ recency (placed finds.0.place finds.0.key updates.2 finds.0.weight ∷ rows_without r.rows p) r.free
+          rows_now =
+              updates.4 ∙ ap (λ n. recency (with_value r'.rows p updates.2) n) (ap (λ (x : Recency K V). x.free) is)
+              ∙ ap (λ rs. recency rs r.free)
+              (ap (λ rs. with_value rs p updates.2) first_is ∙ with_value-first p updates.2 finds.0 (rows_without r.rows p) place_is
+              ∙ ap (λ rs. placed finds.0.place finds.0.key updates.2 finds.0.weight ∷ rs) (with_value-without p updates.2 r.rows))
+
+          pub kept_updated : IsKept r'' used_is most_weight most_entries
+          kept_updated = subst (λ x. IsKept x used_is most_weight most_entries) (sym rows_now) (record {
+            used_is = kept.used_is ∙ as_heavy ∙ sym (weight-cons (placed finds.0.place finds.0.key updates.2 finds.0.weight) (rows_without r.rows p));
+            light = kept.light;
+            few = omega (arith, kept.few, as_long);
+          })
+
+          pub view_updated : UpdatesEntry eq post c key (Some answer) (cached_in r'' most_weight most_entries)
+          view_updated = (
+            entry_in finds.0,
+            (
+              found_entry ∙ ap (option_map entry_in) finds.1,
+              (
+                updates.2,
+                (
+                  subst (λ x. Updates post x.value x.weight answer updates.2) row_is updates.3,
+                  ap (λ x. cached_in x most_weight most_entries) rows_now
+                      ∙ with_rows (placed finds.0.place finds.0.key updates.2 finds.0.weight ∷ rows_without r.rows p) r.free (omega (arith, as_long))
+                      ∙ ap (λ es. with_entries c (entry finds.0.key updates.2 finds.0.weight ∷ es)) others,
+                ),
+              ),
+            ),
+          )
 
       -- the key's entry is taken out
       module _ (t : Taken K V) (r' : Recency K V) (removes : RowsRemoves eq r key (Some t) r') where

@@ -3,7 +3,8 @@ use Rattle.std.specs.Prelude.{◌≡◌, ℕ, ◌+◌, ◌-◌, ◌<◌, ◌≤�
 use Rattle.std.specs.Option.{option_map_or}
 use Rattle.std.specs.List.{FoldsTo}
 use Rattle.std.specs.Coded.{Coded, code_by, coded×, coded_ℕ, coded_list}
-use Rattle.lru_rows.specs.Rows.{most_rows}
+use Rattle.std.specs.Borrow.{MutBor}
+use Rattle.lru_rows.specs.Rows.{most_rows, Updates}
 use Rattle.lru_cache.specs.declared.cache.Entry.{Entry}
 use Rattle.lru_cache.specs.declared.cache.Refused.{Refused}
 use Rattle.lru_cache.specs.declared.cache.Cause.{Cause}
@@ -84,6 +85,12 @@ module _ {K V : Type 0} where
       (front : List (Entry K V)) × ((gone : List (Entry K V)) × (Leaves (old.most_weight - w) (old.most_entries - 1) old.entries front gone × (IsShown Step visit gone
       × (new ≡ record { entries = entry k v w ∷ front; places = old.places; most_weight = old.most_weight; most_entries = old.most_entries }))))
 
+  -- the limits are others, and the shortest end of the entries goes that has to
+  abbrev pub Limits : {F : Type 0} → (F → Entry K V → F → Type 0) → F → Cached K V → ℕ → ℕ → Cached K V → Type 0
+  Limits Step visit old most_weight most_entries new =
+      (front : List (Entry K V)) × ((gone : List (Entry K V)) × (Leaves most_weight most_entries old.entries front gone × (IsShown Step visit gone
+      × (new ≡ record { entries = front; places = old.places; most_weight = most_weight; most_entries = most_entries }))))
+
   module _ (eq : K → K → Bool) where
     -- the entry of a key, if there is one
     abbrev pub entry_of : List (Entry K V) → K → Option (Entry K V)
@@ -116,3 +123,9 @@ module _ {K V : Type 0} where
         (was ≡ entry_of old.entries k) × ((front : List (Entry K V)) × ((gone : List (Entry K V)) × (Leaves (old.most_weight - w) (old.most_entries - 1) (without old.entries k) front gone
         × (IsShown Step visit gone × (new ≡ with_entries old (entry k v w ∷ front))))))
     Puts Step visit old k v w (Err r) new = MayRefuse old k w r.cause × ((r.key ≡ k) × ((r.value ≡ v) × (new ≡ old)))
+
+    -- a key's entry goes first, and its value is lent to a closure, which may change it; where it has none, nothing is called
+    abbrev pub UpdatesEntry : {R : Type 0} → (MutBor V → ℕ → R → MutBor V → Type 0) → Cached K V → K → Option R → Cached K V → Type 0
+    UpdatesEntry post old key None new = (entry_of old.entries key ≡ None) × (new ≡ old)
+    UpdatesEntry post old key (Some answer) new =
+        (e : Entry K V) × ((entry_of old.entries key ≡ Some e) × ((v : V) × (Updates post e.value e.weight answer v × (new ≡ with_entries old (entry e.key v e.weight ∷ without old.entries key)))))

@@ -1,7 +1,7 @@
 //! A cache of one owner.
 ghost use Rattle.std.specs.Prelude.{◌≡◌, ◌<◌, ◌≤◌, None, length, map, is_some, nat_eq, IfOk};
 ghost use Rattle.std.specs.Option.{option_map, option_copied};
-ghost use Rattle.lru_cache.specs.Cache.{empty, weight_of, entry_of, without, used, with_entries, Puts, PutsFirst, HasPlace, MakesPlace, PopsLast, IsCache};
+ghost use Rattle.lru_cache.specs.Cache.{empty, weight_of, entry_of, without, used, with_entries, Puts, PutsFirst, HasPlace, MakesPlace, PopsLast, Limits, UpdatesEntry, IsCache};
 
 use crate::shrinking::{fits, shrink};
 use lru_index::hashing::SeededHashes;
@@ -200,6 +200,21 @@ impl<K: Hash, V, S: BuildHasher> Cache<K, V, S> {
         self.rows.promote(place);
         true
     }
+
+    /// Uses a key, lends its value to `update` with its weight, and answers what `update` does. Its weight stays. A key
+    /// without an entry is answered by `None`, and nothing is called.
+    pub fn update<R, U: FnOnce(&mut V, usize) -> R + Drop>(
+        &mut self,
+        key: &K,
+        update: U,
+    ) -> Option<R>
+        requires { U.IsAlwaysCallable update }
+        ensures { UpdatesEntry K.eq (U.post update) self.old key.now result self.new }
+    {
+        let place = self.rows.find(key)?;
+        self.rows.promote(place);
+        Some(self.rows.update(place, update))
+    }
 }
 
 impl<K: Hash + Default + Drop, V: Drop, S: BuildHasher> Cache<K, V, S> {
@@ -276,6 +291,28 @@ impl<K: Hash + Default + Drop, V: Drop, S: BuildHasher> Cache<K, V, S> {
             Err(_) => unreachable!(),
         }
         self.weight += weight;
+    }
+
+    /// Gives the cache other limits. Then the entries that were used longest ago go, as many as have to, and each is
+    /// handed to `visit`.
+    pub fn set_limits<F: FnMut(Entry<K, V>) + Drop>(
+        &mut self,
+        most_weight: usize,
+        most_entries: usize,
+        visit: F,
+    )
+        requires { F.IsAlwaysCallable visit }
+        ensures { Limits (λ p x q. F.step p x tt q) visit self.old most_weight most_entries self.new }
+    {
+        self.weight = shrink(
+            &mut self.rows,
+            self.weight,
+            most_weight,
+            most_entries,
+            visit,
+        );
+        self.most_weight = most_weight;
+        self.most_entries = most_entries;
     }
 
     /// Takes a key's entry out.

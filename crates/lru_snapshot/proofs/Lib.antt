@@ -3,6 +3,7 @@ pub mod SnapshotLoadLemmas
 pub mod SnapshotSteps
 pub mod SnapshotLimits
 pub mod SnapshotJoins
+pub mod SnapshotPuts
 pub mod SnapshotRuns
 pub mod SnapshotCalls
 pub mod SnapshotRestores

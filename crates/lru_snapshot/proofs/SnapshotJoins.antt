@@ -7,25 +7,29 @@ use Rattle.pingora_lru.specs.Row.{Row, times, HasDistinctKeys, is_held, row_of}
 use Rattle.pingora_lru.specs.Core.{Core, list_at, home}
 use Rattle.lru_snapshot.proofs.RowLaws.{times-append, times_no, row_of_absent}
 use Rattle.lru_snapshot.specs.declared.snapshot.Keyed.{Keyed}
-use Rattle.lru_snapshot.specs.SnapshotLoads.{row_of_pair, Joins}
+use Rattle.lru_snapshot.specs.SnapshotLoads.{row_of_pair, AreHome, Joins}
 use Rattle.lru_snapshot.proofs.SnapshotLoadLemmas.{map_take_more}
 use Rattle.lru_snapshot.proofs.SnapshotSteps.{times_round, times_own}
 
 abbrev rows : List (Keyed × ℕ) → List (Row Keyed)
 rows pairs = map row_of_pair pairs
 
-times_held : (held : List (Row Keyed)) (k : ℕ) → true ≡ is_held held k → 0 < times k held
+pub times_held : (held : List (Row Keyed)) (k : ℕ) → true ≡ is_held held k → 0 < times k held
 times_held held k h =
     elim (cases_eq (times k held) 0) [
       | inl e ↦ absurd (let n : is_held held k ≡ false = ap (λ (o : Option (Row Keyed)). is_some o) (row_of_absent k held e) in let f : true ≡ false = h ∙ n in (cc))
       | inr ne ↦ omega arith
     ]
 
--- the three ways in which a row may not stand there
-pub not_home : (core : Core Keyed) (s : ℕ) (pairs : List (Keyed × ℕ)) (i : ℕ) (d : Keyed × ℕ) → i < length pairs → (n : ℕ) → length core.lists ≡ n → ((get_or pairs i d).0.key % n ≡ s → ⊥) → Joins core s (map row_of_pair pairs) → ⊥
-not_home core s pairs i d lt n count ne j =
+-- the shard of a row among those of this shard
+pub home_at : (core : Core Keyed) (s : ℕ) (pairs : List (Keyed × ℕ)) (i : ℕ) (d : Keyed × ℕ) → i < length pairs → AreHome core s (map row_of_pair pairs) → home core (get_or pairs i d).0.key ≡ s
+home_at core s pairs i d lt homes =
     let r = row_of_pair (get_or pairs i d) in
-    ne (ap (λ m. r.key % m) (sym count) ∙ j.homes r.key (omega (arith, times_round r.key pairs i d lt, times_own r (rows (drop (i + 1) pairs)))))
+    homes r.key (omega (arith, times_round r.key pairs i d lt, times_own r (rows (drop (i + 1) pairs))))
+
+-- the three ways in which a row may not stand there
+pub not_home : (core : Core Keyed) (s : ℕ) (pairs : List (Keyed × ℕ)) (i : ℕ) (d : Keyed × ℕ) → i < length pairs → (n : ℕ) → length core.lists ≡ n → ((get_or pairs i d).0.key % n ≡ s → ⊥) → AreHome core s (map row_of_pair pairs) → ⊥
+not_home core s pairs i d lt n count ne homes = ne (ap (λ m. (get_or pairs i d).0.key % m) (sym count) ∙ home_at core s pairs i d lt homes)
 
 pub held_already : (core : Core Keyed) (s : ℕ) (pairs : List (Keyed × ℕ)) (i : ℕ) (d : Keyed × ℕ) → i < length pairs → home core (get_or pairs i d).0.key ≡ s → true ≡ is_held (list_at core (home core (get_or pairs i d).0.key)) (get_or pairs i d).0.key → Joins core s (map row_of_pair pairs) → ⊥
 held_already core s pairs i d lt at h j =
@@ -81,12 +85,14 @@ seen_more pairs i d lt k was now h so_far =
     ]
 
 -- all rows were looked at
-pub all_join : (core : Core Keyed) (s : ℕ) (pairs : List (Keyed × ℕ)) (i n : ℕ) → length pairs ≤ i → length core.lists ≡ n → ((k : ℕ) → 0 < times k (map row_of_pair (take i pairs)) → k % n ≡ s) → HasDistinctKeys (list_at core s ++ map row_of_pair (take i pairs)) → Joins core s (map row_of_pair pairs)
-all_join core s pairs i n done count homes keys =
-    let all : take i pairs ≡ pairs = take_all i pairs done in record {
-      homes = λ k h. ap (λ m. k % m) count ∙ homes k (subst (λ ps. 0 < times k (rows ps)) (sym all) h);
-      keys = subst (λ ps. HasDistinctKeys (list_at core s ++ rows ps)) all keys;
-    }
+pub all_home : (core : Core Keyed) (s : ℕ) (pairs : List (Keyed × ℕ)) (i n : ℕ) → length pairs ≤ i → length core.lists ≡ n → ((k : ℕ) → 0 < times k (map row_of_pair (take i pairs)) → k % n ≡ s) → AreHome core s (map row_of_pair pairs)
+all_home core s pairs i n done count homes =
+    let all : take i pairs ≡ pairs = take_all i pairs done in
+    λ k h. ap (λ m. k % m) count ∙ homes k (subst (λ ps. 0 < times k (rows ps)) (sym all) h)
+
+pub all_join : (core : Core Keyed) (s : ℕ) (pairs : List (Keyed × ℕ)) (i : ℕ) → length pairs ≤ i → AreHome core s (map row_of_pair pairs) → HasDistinctKeys (list_at core s ++ map row_of_pair (take i pairs)) → Joins core s (map row_of_pair pairs)
+all_join core s pairs i done homes keys =
+    let all : take i pairs ≡ pairs = take_all i pairs done in record { homes = homes; keys = subst (λ ps. HasDistinctKeys (list_at core s ++ rows ps)) all keys }
 
 -- a key without a row that is held
 pub times_not_held : (held : List (Row Keyed)) (k : ℕ) → false ≡ is_held held k → times k held ≡ 0

@@ -1,7 +1,8 @@
 -- Laws of rows that are put last in a shard of a core, and taken out again.
-use Rattle.std.proofs.Common.{◌≡◌, ℕ, ◌+◌, ◌<◌, false, List, [], ◌∷◌, ◌++◌, length, take, drop, get_or, Ok, Err, suc, sym, ap, ◌∙◌, refl, arith}
+use Rattle.std.proofs.Common.{◌≡◌, ℕ, ◌+◌, ◌<◌, true, false, List, [], ◌∷◌, ◌++◌, length, take, drop, get_or, Ok, Err, suc, sym, ap, ◌∙◌, refl, arith}
 use Rattle.std.specs.Prelude.{Option, Bool, map, is_some}
 use Rattle.std.proofs.lemmas.List.{get_or-set_same, set-set, set-get_or, length-set, take-append-drop, drop_more, take_more, map-append}
+use Rattle.std.proofs.lemmas.Bool.{not-false}
 use Rattle.lru_shard.specs.declared.unit.Refused.{Refused}
 use Rattle.pingora_lru.specs.Row.{Row, row, pair_of, times, HasDistinctKeys, is_held, without}
 use Rattle.pingora_lru.specs.Shard.{Shard}
@@ -38,6 +39,13 @@ module _ {T : Type 0} where
   pub refused_leaves : (core new : Core T) (k : ℕ) (d : T) (w : ℕ) (r : Refused T) → CoreInsertsTail core k d w (Err r) new → new ≡ core
   refused_leaves core new k d w r h =
       h.left ∙ ap (λ rows. with_list core (home core k) rows) (ap (λ (x : Shard T). x.rows) h.acts.declines.left) ∙ with_list-own core (home core k)
+
+  -- an insert of a key that is held leaves the core
+  pub held_leaves : (core new : Core T) (k : ℕ) (d : T) (w : ℕ) (added : Bool) → added ≡ false → CoreInsertsTail core k d w (Ok added) new → new ≡ core
+  held_leaves core new k d w added is_old h =
+      let rows = list_at core (home core k) in
+      let held : is_held rows k ≡ true = not-false _ (sym h.acts.0 ∙ is_old) in
+      h.left ∙ ap (λ rs. with_list core (home core k) rs) (ap (λ (x : Shard T). x.rows) h.acts.1.left ∙ ap (λ b. Rattle.std.specs.Prelude.cond b rows (rows ++ row k d w ∷ [])) held) ∙ with_list-own core (home core k)
 
   -- a key without a row is put last
   pub put_absent : (core new : Core T) (k : ℕ) (d : T) (w : ℕ) (added : Bool) → times k (list_at core (home core k)) ≡ 0 → CoreInsertsTail core k d w (Ok added) new → new ≡ with_list core (home core k) (list_at core (home core k) ++ row k d w ∷ [])

@@ -1,15 +1,14 @@
--- One row more of those that a load puts, or takes back.
-use Rattle.std.proofs.Common.{◌≡◌, ℕ, ◌+◌, ◌<◌, ◌≤◌, List, [], ◌∷◌, ◌++◌, length, take, drop, get_or, Ok, refl, sym, ap, ◌∙◌, subst, arith, append_assoc}
-use Rattle.std.specs.Prelude.{Bool, map}
+-- One row more of those that a load takes back.
+use Rattle.std.proofs.Common.{◌≡◌, ℕ, ◌+◌, ◌<◌, ◌≤◌, List, ◌∷◌, ◌++◌, length, take, drop, get_or, refl, sym, ap, ◌∙◌, subst, arith}
+use Rattle.std.specs.Prelude.{map}
 use Rattle.std.proofs.lemmas.List.{take-append-drop, map-append}
 use Rattle.std.proofs.lemmas.Bool.{eq-eqb}
 use Rattle.pingora_lru.specs.Row.{Row, times, HasDistinctKeys, without}
 use Rattle.pingora_lru.specs.Core.{Core, list_at, with_list, home}
-use Rattle.pingora_lru.specs.CoreCalls.{CoreInsertsTail}
 use Rattle.lru_snapshot.proofs.RowLaws.{times-append, times_yes}
 use Rattle.lru_snapshot.specs.declared.snapshot.Keyed.{Keyed}
 use Rattle.lru_snapshot.specs.SnapshotLoads.{row_of_pair, Joins}
-use Rattle.lru_snapshot.proofs.SnapshotLoadLemmas.{list_at-with, with_list-twice, with_list-own, home-with, removed, put_more, map_round, map_take_more, map_drop_more}
+use Rattle.lru_snapshot.proofs.SnapshotLoadLemmas.{list_at-with, home-with, removed, map_round, map_drop_more}
 
 abbrev rows : List (Keyed × ℕ) → List (Row Keyed)
 rows pairs = map row_of_pair pairs
@@ -28,13 +27,6 @@ times_take k pairs i =
     ap (λ ps. times k (rows ps)) (sym (take-append-drop i pairs)) ∙ ap (λ rs. times k rs) (map-append row_of_pair (take i pairs) (drop i pairs)) ∙ times-append k (rows (take i pairs)) (rows (drop i pairs)) in
     omega arith
 
--- fewer of the rows may stand there too
-pub joins-take : (core : Core Keyed) (s : ℕ) (pairs : List (Keyed × ℕ)) (i : ℕ) → Joins core s (map row_of_pair pairs) → Joins core s (map row_of_pair (take i pairs))
-joins-take core s pairs i j = record {
-  homes = λ k h. j.homes k (omega (arith, times_take k pairs i));
-  keys = λ k. omega (arith, j.keys k, times-append k (list_at core s) (rows pairs), times-append k (list_at core s) (rows (take i pairs)), times_take k pairs i);
-}
-
 pub take_step : (old : Core Keyed) (s : ℕ) (held : List (Row Keyed)) (pairs : List (Keyed × ℕ)) (i : ℕ) (d : Keyed × ℕ) (core new : Core Keyed) → i < length pairs → s < length old.lists → Joins (with_list old s held) s (map row_of_pair pairs) → core ≡ with_list old s (held ++ map row_of_pair (drop i pairs)) → new ≡ with_list core (home core (get_or pairs i d).0.key) (without (list_at core (home core (get_or pairs i d).0.key)) (get_or pairs i d).0.key) → new ≡ with_list old s (held ++ map row_of_pair (drop (i + 1) pairs))
 take_step old s held pairs i d core new lt there j e f =
     let r = row_of_pair (get_or pairs i d) in
@@ -44,22 +36,3 @@ take_step old s held pairs i d core new lt there j e f =
     let all : HasDistinctKeys (held ++ rows pairs) = subst (λ xs. HasDistinctKeys (xs ++ rows pairs)) (list_at-with old s held there) j.keys in
     let distinct : HasDistinctKeys (held ++ r ∷ rest) = λ k. omega (arith, all k, times-append k held (rows pairs), times-append k held (r ∷ rest), times_round k pairs i d lt) in
     removed old s held rest r core new there at distinct (e ∙ ap (λ rs. with_list old s (held ++ rs)) (map_drop_more row_of_pair pairs i d lt)) f
-
-pub put_step : (old : Core Keyed) (s : ℕ) (pairs : List (Keyed × ℕ)) (i : ℕ) (d : Keyed × ℕ) (core new : Core Keyed) (added : Bool) → i < length pairs → s < length old.lists → Joins old s (map row_of_pair pairs) → core ≡ with_list old s (list_at old s ++ map row_of_pair (take i pairs)) → CoreInsertsTail core (get_or pairs i d).0.key (get_or pairs i d).0 (get_or pairs i d).1 (Ok added) new → new ≡ with_list old s (list_at old s ++ map row_of_pair (take (i + 1) pairs))
-put_step old s pairs i d core new added lt there j e h =
-    let r = row_of_pair (get_or pairs i d) in
-    let rest = rows (drop (i + 1) pairs) in
-    let some : 0 < times r.key (rows pairs) = omega (arith, times_round r.key pairs i d lt, times_own r rest) in
-    let done = list_at old s ++ rows (take i pairs) in
-    let none : times r.key done ≡ 0 = omega (arith, j.keys r.key, times-append r.key (list_at old s) (rows pairs), times-append r.key (list_at old s) (rows (take i pairs)), times_round r.key pairs i d lt, times_own r rest) in
-    put_more old s done core new r.key r.value r.weight added there (j.homes r.key some) none e h
-    ∙ ap (λ rs. with_list old s rs) (append_assoc (list_at old s) (rows (take i pairs)) (r ∷ []) ∙ ap (λ rs. list_at old s ++ rs) (sym (map_take_more row_of_pair pairs i d lt)))
-
--- the rows that were put are taken back
-pub back_step : (old : Core Keyed) (s : ℕ) (pairs : List (Keyed × ℕ)) (i : ℕ) (core new end : Core Keyed) → s < length old.lists → Joins old s (map row_of_pair pairs) → core ≡ with_list old s (list_at old s ++ map row_of_pair (take i pairs)) → new ≡ core → ((held : List (Row Keyed)) → Joins (with_list new s held) s (map row_of_pair (take i pairs)) → list_at new s ≡ held ++ map row_of_pair (take i pairs) → end ≡ with_list new s held) → end ≡ old
-back_step old s pairs i core new end there j e same h =
-    let done = list_at old s ++ rows (take i pairs) in
-    let now : new ≡ with_list old s done = same ∙ e in
-    let back : with_list new s (list_at old s) ≡ old =
-    ap (λ c. with_list c s (list_at old s)) now ∙ with_list-twice old s done (list_at old s) ∙ with_list-own old s in
-    h (list_at old s) (subst (λ c. Joins c s (rows (take i pairs))) (sym back) (joins-take old s pairs i j)) (ap (λ c. list_at c s) now ∙ list_at-with old s done there) ∙ back

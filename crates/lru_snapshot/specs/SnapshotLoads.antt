@@ -24,10 +24,22 @@ rows_of bytes = map row_of_pair (pairs_of bytes)
 abbrev pub TellTheirKeys : List (Row Keyed) → Type 0
 TellTheirKeys rows = All (λ r. r.value.key ≡ r.key) rows
 
+-- each key is of this shard
+abbrev pub AreHome : Core Keyed → ℕ → List (Row Keyed) → Type 0
+AreHome core s rows = (k : ℕ) → 0 < times k rows → home core k ≡ s
+
 -- rows may stand behind those of a shard: each key is of this shard, and none stands twice or is held already
 pub record Joins (core : Core Keyed) (s : ℕ) (rows : List (Row Keyed)) : Type 0 where
   pub homes : (k : ℕ) → 0 < times k rows → home core k ≡ s
   pub keys : HasDistinctKeys (list_at core s ++ rows)
+
+-- putting rows behind those of a shard may answer this, and leave this core, where they pass no limit
+abbrev pub PutsLast : Core Keyed → ℕ → List (Row Keyed) → Result (Unit {0}) LoadError → Core Keyed → Type 0
+PutsLast old s rows (Ok done) new = Joins old s rows × (new ≡ with_list old s (list_at old s ++ rows))
+PutsLast old s rows (Err unloaded.Damaged) new = ¬ (Joins old s rows) × (new ≡ old)
+PutsLast old s rows (Err (unloaded.Unit Memory)) new = new ≡ old
+PutsLast old s rows (Err (unloaded.Unit Weight)) new = ⊥
+PutsLast old s rows (Err (unloaded.Unit Length)) new = ⊥
 
 -- bytes are whole rows that may stand there
 pub record AreLoadable (core : Core Keyed) (s : ℕ) (bytes : List ℕ) : Type 0 where

@@ -1,12 +1,11 @@
 //! The rows of a shard as bytes: 24 bytes for each row, most recent first.
-ghost use Rattle.std.specs.Prelude.{◌≡◌, ◌<◌, ◌≤◌, ◌+◌, ◌++◌, ◌↔◌, ℕ, List, IfOk, IsTrue, map, length};
-ghost use Rattle.std.specs.Bool.{OnTrue, OnFalse};
-ghost use Rattle.pingora_lru.specs.Core.{list_at, with_list};
+ghost use Rattle.std.specs.Prelude.{◌≡◌, ◌<◌, ◌≤◌, ◌+◌, ◌++◌, ◌↔◌, ◌^◌, ℕ, List, IfOk, OnOk, IsTrue, map, length};
+ghost use Rattle.pingora_lru.specs.Core.{list_at, with_list, IsCore};
 ghost use Rattle.pingora_lru.specs.Limits.{cap_of};
 ghost use Rattle.pingora_lru.specs.Row.{Row, pair_of};
 ghost use Rattle.lru_snapshot.specs.declared.snapshot.Keyed.{Keyed};
-ghost use Rattle.lru_snapshot.specs.Snapshot.{bytes_of, pairs_of, pair_in, number_at};
-ghost use Rattle.lru_snapshot.specs.SnapshotLoads.{row_of_pair, rows_of, TellTheirKeys, Joins, limit_passed, Loads};
+ghost use Rattle.lru_snapshot.specs.Snapshot.{bytes_of, pair_bytes, pairs_of, pair_in, number_at};
+ghost use Rattle.lru_snapshot.specs.SnapshotLoads.{row_of_pair, rows_of, TellTheirKeys, AreHome, Joins, limit_passed, PutsLast, Loads};
 ghost use Rattle.lru_snapshot.specs.declared.snapshot.LoadError.TheVariants as unloaded;
 ghost use Rattle.lru_shard.specs.declared.unit.Cause.TheVariants.{Memory};
 
@@ -69,6 +68,20 @@ impl From<AllocError> for LoadError {
     }
 }
 
+// Puts the bytes of a row last, all at once.
+fn put_row(bytes: &mut Vec<u8>, keyed: Keyed, weight: usize) -> Result<(), AllocError>
+    ensures put { OnOk result (bytes.new.items ≡ bytes.old.items ++ pair_bytes (keyed, weight)) }
+    ensures narrow { (keyed.key < 2 ^ 64) × (keyed.value < 2 ^ 64) × (weight < 2 ^ 64) }
+{
+    let row = [
+        keyed.key.to_le_bytes(),
+        keyed.value.to_le_bytes(),
+        weight.to_le_bytes(),
+    ];
+    bytes.extend_from_slice(row.as_flattened())?;
+    Ok(())
+}
+
 /// The bytes of a shard: key, value and weight of each row, most recent first, each as 8 bytes,
 /// the lowest first. The key is the one that the data tell; where it is each row's own, the bytes
 /// tell the rows of the shard again.
@@ -82,12 +95,10 @@ pub fn shard_bytes<const N: usize>(
     ensures back { IfOk result (λ bytes. pairs_of bytes.items ≡ map pair_of (list_at core.now shard)) }
     ensures rows { IfOk result (λ bytes. TellTheirKeys (list_at core.now shard) → rows_of bytes.items ≡ list_at core.now shard) }
 {
-    let mut bytes = Vec::new(alloc);
+    let mut bytes = Vec::with_capacity(alloc, core.shard_len(shard).saturating_mul(24))?;
     let mut rest = core.iter_shard(shard);
     while let Some((data, weight)) = rest.next() {
-        bytes.extend_from_slice(&data.key.to_le_bytes())?;
-        bytes.extend_from_slice(&data.value.to_le_bytes())?;
-        bytes.extend_from_slice(&weight.to_le_bytes())?;
+        put_row(&mut bytes, *data, weight)?;
     }
     Ok(bytes)
 }
@@ -129,24 +140,39 @@ fn pairs_in(alloc: Global, records: &[[u8; 24]]) -> Result<Vec<(Keyed, usize)>, 
     Ok(pairs)
 }
 
-// Whether each key is of this shard, and none stands twice or is held already.
-fn joins<const N: usize>(
+// Whether each key is of this shard.
+fn are_home<const N: usize>(
+    core: &LruCore<Keyed, N>,
+    shard: usize,
+    pairs: &[(Keyed, usize)],
+) -> bool
+    ensures answer { IsTrue result ↔ AreHome core.now shard (map row_of_pair pairs.now) }
+    ensures valid { IsCore N core.now }
+{
+    let shards = core.shards() as u64;
+    for (data, _) in pairs {
+        if data.key % shards != shard as u64 {
+            return false;
+        }
+    }
+    true
+}
+
+// Whether no key of these, which are all of this shard, stands twice or is held already.
+fn are_new<const N: usize>(
     alloc: Global,
     core: &LruCore<Keyed, N>,
     shard: usize,
     pairs: &[(Keyed, usize)],
 ) -> Result<bool, AllocError>
-    requires { shard < N }
-    ensures answer { IfOk result (λ yes. IsTrue yes ↔ Joins core.now shard (map row_of_pair pairs.now)) }
-    ensures there { IfOk result (λ _. length core.now.lists ≡ N) }
+    requires valid { IsCore N core.now }
+    requires shard { shard < N }
+    requires homes { AreHome core.now shard (map row_of_pair pairs.now) }
+    ensures { IfOk result (λ yes. IsTrue yes ↔ Joins core.now shard (map row_of_pair pairs.now)) }
 {
-    let shards = core.shards();
     let mut seen: HashSet<u64> = HashSet::with_capacity(alloc, pairs.len())?;
     for (data, _) in pairs {
         let key = data.key;
-        if key % shards as u64 != shard as u64 {
-            return Ok(false);
-        }
         if core.peek(key) {
             return Ok(false);
         }
@@ -191,31 +217,39 @@ fn take_back<const N: usize>(core: &mut LruCore<Keyed, N>, shard: usize, pairs: 
     }
 }
 
-// Puts rows last in a shard, in order; where that is refused, none of them. Rows that may stand
-// there and pass no limit are refused for want of memory alone.
+// Puts rows last in a shard, in order; where a key is held already, or a row is refused, none of them. Rows that pass no
+// limit are refused for want of memory alone.
 fn put_last<const N: usize>(
     core: &mut LruCore<Keyed, N>,
     shard: usize,
     pairs: &[(Keyed, usize)],
-) -> bool
-    requires there { shard < length core.old.lists }
-    requires joins { Joins core.old shard (map row_of_pair pairs.now) }
-    ensures put { OnTrue result (core.new ≡ with_list core.old shard (list_at core.old shard ++ map row_of_pair pairs.now)) }
-    ensures none { OnFalse result (core.new ≡ core.old) }
+) -> Result<(), LoadError>
+    requires valid { IsCore N core.old }
+    requires shard { shard < N }
+    requires homes { AreHome core.old shard (map row_of_pair pairs.now) }
+    ensures { PutsLast core.old shard (map row_of_pair pairs.now) result core.new }
 {
     for (put, (data, weight)) in pairs.iter().enumerate() {
-        if let Err(_) = core.insert_tail(data.key, *data, *weight) {
-            take_back(core, shard, &pairs[..put]);
-            return false;
+        match core.insert_tail(data.key, *data, *weight) {
+            Ok(true) => {}
+            Ok(false) => {
+                take_back(core, shard, &pairs[..put]);
+                return Err(LoadError::Damaged);
+            }
+            Err(_) => {
+                take_back(core, shard, &pairs[..put]);
+                return Err(LoadError::Unit(Cause::Memory));
+            }
         }
     }
-    true
+    Ok(())
 }
 
 /// Puts the rows that bytes tell last in a shard, in order, and answers their count. The bytes are
 /// those of `shard_bytes`.
 ///
-/// It may make the core over, and evicts nothing. A refusal changes nothing. `Damaged` comes first,
+/// It may make the core over, and evicts nothing. A refusal changes nothing, though room that was made for the
+/// rows may stay. `Damaged` comes first,
 /// then `Length` and `Weight`, exactly where the shard with all these rows would pass that limit;
 /// `Memory` may come before any of them is found.
 pub fn load_shard<const N: usize>(
@@ -232,15 +266,17 @@ pub fn load_shard<const N: usize>(
         return Err(LoadError::Damaged);
     }
     let pairs = pairs_in(alloc, records)?;
-    if !joins(alloc, core, shard, &pairs)? {
+    if !are_home(core, shard, &pairs) {
         return Err(LoadError::Damaged);
     }
     if let Some(cause) = limit_passed(core, shard, &pairs) {
+        // Damage is told before a limit.
+        if !are_new(alloc, core, shard, &pairs)? {
+            return Err(LoadError::Damaged);
+        }
         return Err(LoadError::Unit(cause));
     }
     core.reserve_shard(shard, pairs.len())?;
-    if !put_last(core, shard, &pairs) {
-        return Err(LoadError::Unit(Cause::Memory));
-    }
+    put_last(core, shard, &pairs)?;
     Ok(pairs.len())
 }

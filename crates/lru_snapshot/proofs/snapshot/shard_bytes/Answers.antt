@@ -1,5 +1,4 @@
-use Rattle.std.proofs.Common.{◌≡◌, ℕ, ◌++◌, ◌∷◌, [], List, sym, ap, ◌∙◌, append_assoc, append-nil, rules}
-use Rattle.std.specs.Int.{w64, to_le_bytes}
+use Rattle.std.proofs.Common.{ℕ, ◌++◌, ◌∷◌, [], sym, ap, ◌∙◌, append_assoc, append-nil}
 use Rattle.lru_snapshot.specs.declared.snapshot.Keyed.{Keyed}
 use Rattle.lru_snapshot.specs.Snapshot.{pair_bytes, pairs_of}
 use Rattle.lru_snapshot.proofs.SnapshotLemmas.{IsNarrow, narrow-last, bytes_of-last, pairs_of-bytes_of}
@@ -9,26 +8,16 @@ use Rattle.lru_snapshot.specs.SnapshotLoads.{row_of_pair}
 use Rattle.lru_snapshot.proofs.SnapshotLoadLemmas.{rows_of_pairs}
 use Rattle.lru_snapshot.proofs.snapshot.shard_bytes.Goals as goal
 
--- three pieces put at the end, one after the other
-three_pieces : (old one two three k v w : List ℕ) → one ≡ old ++ k → two ≡ one ++ v → three ≡ two ++ w → three ≡ old ++ (k ++ (v ++ w))
-three_pieces old one two three k v w e f g =
-    g ∙ ap (λ bs. bs ++ w) (f ∙ ap (λ bs. bs ++ v) e) ∙ append_assoc (old ++ k) v w ∙ append_assoc old k (v ++ w)
-
 pub loop-data-preserved : goal.loop-data-preserved
 loop-data-preserved g c =
     let inv = c.loop-data.invariant in
     let pair : Keyed × ℕ = (c.in-Some.«data».now, c.in-Some.weight) in
-    let narrow : IsNarrow pair = record { key = search rules; value = search rules; weight = search rules } in (
+    let narrow : IsNarrow pair = record { key = c.put_row.ensures.narrow.0; value = c.put_row.ensures.narrow.1; weight = c.put_row.ensures.narrow.2 } in (
       inv.0 ++ pair ∷ [],
       (
         append_assoc inv.0 (pair ∷ []) c.next.new.self ∙ ap (λ xs. inv.0 ++ xs) (sym c.in-Some.ensures.steps) ∙ inv.1.0,
         (
-          three_pieces c.loop-data.bytes.items c.extend_from_slice.new.self.items c.extend_from_slice-in-Some.new.self.items c.extend_from_slice-in-Some-2.new.self.items
-              (to_le_bytes w64 pair.0.key) (to_le_bytes w64 pair.0.value) (to_le_bytes w64 pair.1)
-              (c.in_ok-extend_from_slice.ensures.items ∙ ap (λ bs. c.loop-data.bytes.items ++ bs) c.to_le_bytes.ensures)
-              (c.in_ok-extend_from_slice-2.ensures.items ∙ ap (λ bs. c.extend_from_slice.new.self.items ++ bs) c.to_le_bytes-in-Some.ensures)
-              (c.in_ok-extend_from_slice-3.ensures.items ∙ ap (λ bs. c.extend_from_slice-in-Some.new.self.items ++ bs) c.to_le_bytes-in-Some-2.ensures)
-              ∙ ap (λ bs. bs ++ pair_bytes pair) inv.1.1.0 ∙ sym (bytes_of-last inv.0 pair),
+          c.in_ok-put_row.ensures.put ∙ ap (λ bs. bs ++ pair_bytes pair) inv.1.1.0 ∙ sym (bytes_of-last inv.0 pair),
           narrow-last inv.0 pair inv.1.1.1 narrow,
         ),
       ),
