@@ -52,6 +52,30 @@ static BY_NUMBER: [Step<u64, u64>; 6] = [
     (Call::Put(2, 21, 5), "was 2=20 1, gone:", "2 5: 2=21 5, 4=40 0,"),
 ];
 
+// A value that is changed, and limits that are set: what goes, and what is let in from then on.
+#[rattlefmt::skip]
+static CHANGES: [Step<u64, u64>; 11] = [
+    (Call::Put(1, 10, 2), "new, gone:", "1 2: 1=10 2,"),
+    (Call::Put(2, 20, 3), "new, gone:", "2 5: 2=20 3, 1=10 2,"),
+    (Call::Put(3, 30, 4), "new, gone:", "3 9: 3=30 4, 2=20 3, 1=10 2,"),
+    (Call::Update(1, 11), "Some((10, 2))", "3 9: 1=11 2, 3=30 4, 2=20 3,"),
+    (Call::Update(9, 90), "None", "3 9: 1=11 2, 3=30 4, 2=20 3,"),
+    (Call::SetLimits(9, 3), "gone:", "3 9: 1=11 2, 3=30 4, 2=20 3,"),
+    (Call::SetLimits(8, 3), "gone: 2=20 3,", "2 6: 1=11 2, 3=30 4,"),
+    (Call::SetLimits(100, 1), "gone: 3=30 4,", "1 2: 1=11 2,"),
+    (Call::Put(4, 40, 100), "new, gone: 1=11 2,", "1 100: 4=40 100,"),
+    (Call::SetLimits(0, 0), "gone: 4=40 100,", "0 0:"),
+    (Call::Put(5, 50, 0), "TooHeavy: 5=50", "0 0:"),
+];
+
+#[test]
+fn values_and_limits_change(rt: HostRuntime) -> Result<(), Fail> {
+    let mut cache = Cache::new(rt.alloc(), 10, 5)?;
+    assert_eq!(rt; fault(rt.alloc(), &mut cache, &CHANGES)?, None);
+    assert_eq!(rt; (cache.most_weight(), cache.most_entries()), (0, 0));
+    Ok(())
+}
+
 // Where there may be no entry.
 #[rattlefmt::skip]
 static NO_ENTRIES: [Step<u64, u64>; 2] = [

@@ -17,6 +17,10 @@ pub enum Call<K, V> {
     Remove(K),
     /// Answers the entry.
     PopLast,
+    /// Gives the key's entry another value. Answers the value and the weight that it had.
+    Update(K, V),
+    /// Sets the most weight and the most entries. Answers what went.
+    SetLimits(usize, usize),
 }
 
 /// A call, the text of its answer, and that of the cache after it.
@@ -72,6 +76,33 @@ pub fn put<K: Hash + Debug + Default + Drop, V: Debug + Drop>(
     }
 }
 
+// Gives a key's entry another value, and answers the value and the weight that it had.
+fn update<K: Hash, V: Copy>(cache: &mut Cache<K, V>, key: &K, value: V) -> Option<(V, usize)> {
+    cache.update(key, |held: &mut V, weight| {
+        let was = *held;
+        *held = value;
+        (was, weight)
+    })
+}
+
+// Sets the limits, and answers the text of what is shown to its visitor.
+fn set_limits<K: Hash + Debug + Default + Drop, V: Debug + Drop>(
+    alloc: Global,
+    cache: &mut Cache<K, V>,
+    most_weight: usize,
+    most_entries: usize,
+) -> Result<String, AllocError> {
+    let mut gone = String::from_str(alloc, "gone:")?;
+    let mut told = Ok(());
+    cache.set_limits(most_weight, most_entries, |entry| {
+        if told.is_ok() {
+            told = tell(&mut gone, &entry);
+        }
+    });
+    told?;
+    Ok(gone)
+}
+
 /// Whether a key has an entry, its value and its weight.
 pub fn look<K: Hash, V: Debug>(
     alloc: Global,
@@ -116,6 +147,13 @@ where
         }
         Call::Remove(key) => taken(alloc, &cache.remove(&key)),
         Call::PopLast => taken(alloc, &cache.pop_last()),
+        Call::Update(key, value) => {
+            let was = update(cache, &key, value);
+            format!(in alloc; "{was:?}")
+        }
+        Call::SetLimits(most_weight, most_entries) => {
+            set_limits(alloc, cache, most_weight, most_entries)
+        }
     }
 }
 
