@@ -1,0 +1,167 @@
+//! Caches of numbers, of keys that collide, and of values without a size.
+use crate::steps::{Call, Step, fault};
+use lru_cache::cache::Cache;
+use std::hash::{Hash, Hasher};
+use std::test::Fail;
+
+// Each call, under limits that nothing reaches.
+#[rattlefmt::skip]
+static EACH_CALL: [Step<u64, u64>; 13] = [
+    (Call::Put(1, 10, 2), "new, gone:", "1 2: 1=10 2,"),
+    (Call::Put(2, 20, 3), "new, gone:", "2 5: 2=20 3, 1=10 2,"),
+    (Call::Put(3, 30, 1), "new, gone:", "3 6: 3=30 1, 2=20 3, 1=10 2,"),
+    (Call::Look(2), "true Some(20) Some(3)", "3 6: 3=30 1, 2=20 3, 1=10 2,"),
+    (Call::Look(9), "false None None", "3 6: 3=30 1, 2=20 3, 1=10 2,"),
+    (Call::Promote(1), "true", "3 6: 1=10 2, 3=30 1, 2=20 3,"),
+    (Call::Promote(9), "false", "3 6: 1=10 2, 3=30 1, 2=20 3,"),
+    (Call::Put(3, 31, 4), "was 3=30 1, gone:", "3 9: 3=31 4, 1=10 2, 2=20 3,"),
+    (Call::Remove(1), "took 1=10 2,", "2 7: 3=31 4, 2=20 3,"),
+    (Call::Remove(1), "none", "2 7: 3=31 4, 2=20 3,"),
+    (Call::PopLast, "took 2=20 3,", "1 4: 3=31 4,"),
+    (Call::PopLast, "took 3=31 4,", "0 0:"),
+    (Call::PopLast, "none", "0 0:"),
+];
+
+// What goes where the entries may weigh 10.
+#[rattlefmt::skip]
+static BY_WEIGHT: [Step<u64, u64>; 11] = [
+    (Call::Put(1, 10, 3), "new, gone:", "1 3: 1=10 3,"),
+    (Call::Put(2, 20, 3), "new, gone:", "2 6: 2=20 3, 1=10 3,"),
+    (Call::Put(3, 30, 2), "new, gone:", "3 8: 3=30 2, 2=20 3, 1=10 3,"),
+    // 10 is still within the limit
+    (Call::Put(4, 40, 2), "new, gone:", "4 10: 4=40 2, 3=30 2, 2=20 3, 1=10 3,"),
+    // 5 is left for the others: of 10, 7 and 4 the first that fits is 4
+    (Call::Put(5, 50, 5), "new, gone: 1=10 3, 2=20 3,", "3 9: 5=50 5, 4=40 2, 3=30 2,"),
+    // 4 is left for the others: of 7, 5 and 0 the first that fits is 0
+    (Call::Put(4, 41, 6), "was 4=40 2, gone: 3=30 2, 5=50 5,", "1 6: 4=41 6,"),
+    (Call::Put(6, 60, 10), "new, gone: 4=41 6,", "1 10: 6=60 10,"),
+    (Call::Put(7, 70, 0), "new, gone:", "2 10: 7=70 0, 6=60 10,"),
+    (Call::Put(8, 80, 11), "TooHeavy: 8=80", "2 10: 7=70 0, 6=60 10,"),
+    (Call::Put(6, 61, 11), "TooHeavy: 6=61", "2 10: 7=70 0, 6=60 10,"),
+    (Call::Put(9, 90, 1), "new, gone: 6=60 10,", "2 1: 9=90 1, 7=70 0,"),
+];
+
+// What goes where there may be two entries.
+#[rattlefmt::skip]
+static BY_NUMBER: [Step<u64, u64>; 6] = [
+    (Call::Put(1, 10, 1), "new, gone:", "1 1: 1=10 1,"),
+    (Call::Put(2, 20, 1), "new, gone:", "2 2: 2=20 1, 1=10 1,"),
+    (Call::Put(3, 30, 1), "new, gone: 1=10 1,", "2 2: 3=30 1, 2=20 1,"),
+    (Call::Promote(2), "true", "2 2: 2=20 1, 3=30 1,"),
+    (Call::Put(4, 40, 0), "new, gone: 3=30 1,", "2 1: 4=40 0, 2=20 1,"),
+    (Call::Put(2, 21, 5), "was 2=20 1, gone:", "2 5: 2=21 5, 4=40 0,"),
+];
+
+// A value that is changed, and limits that are set: what goes, and what is let in from then on.
+#[rattlefmt::skip]
+static CHANGES: [Step<u64, u64>; 11] = [
+    (Call::Put(1, 10, 2), "new, gone:", "1 2: 1=10 2,"),
+    (Call::Put(2, 20, 3), "new, gone:", "2 5: 2=20 3, 1=10 2,"),
+    (Call::Put(3, 30, 4), "new, gone:", "3 9: 3=30 4, 2=20 3, 1=10 2,"),
+    (Call::Update(1, 11), "Some((10, 2))", "3 9: 1=11 2, 3=30 4, 2=20 3,"),
+    (Call::Update(9, 90), "None", "3 9: 1=11 2, 3=30 4, 2=20 3,"),
+    (Call::SetLimits(9, 3), "gone:", "3 9: 1=11 2, 3=30 4, 2=20 3,"),
+    (Call::SetLimits(8, 3), "gone: 2=20 3,", "2 6: 1=11 2, 3=30 4,"),
+    (Call::SetLimits(100, 1), "gone: 3=30 4,", "1 2: 1=11 2,"),
+    (Call::Put(4, 40, 100), "new, gone: 1=11 2,", "1 100: 4=40 100,"),
+    (Call::SetLimits(0, 0), "gone: 4=40 100,", "0 0:"),
+    (Call::Put(5, 50, 0), "TooHeavy: 5=50", "0 0:"),
+];
+
+#[test]
+fn values_and_limits_change(rt: HostRuntime) -> Result<(), Fail> {
+    let mut cache = Cache::new(rt.alloc(), 10, 5)?;
+    assert_eq!(rt; fault(rt.alloc(), &mut cache, &CHANGES)?, None);
+    assert_eq!(rt; (cache.most_weight(), cache.most_entries()), (0, 0));
+    Ok(())
+}
+
+// Where there may be no entry.
+#[rattlefmt::skip]
+static NO_ENTRIES: [Step<u64, u64>; 2] = [
+    (Call::Put(1, 10, 1), "TooHeavy: 1=10", "0 0:"),
+    (Call::Put(1, 10, 0), "TooHeavy: 1=10", "0 0:"),
+];
+
+// Where entries may weigh nothing.
+#[rattlefmt::skip]
+static NO_WEIGHT: [Step<u64, u64>; 3] = [
+    (Call::Put(1, 10, 1), "TooHeavy: 1=10", "0 0:"),
+    (Call::Put(1, 10, 0), "new, gone:", "1 0: 1=10 0,"),
+    (Call::Put(2, 20, 0), "new, gone:", "2 0: 2=20 0, 1=10 0,"),
+];
+
+#[test]
+fn each_call_answers(rt: HostRuntime) -> Result<(), Fail> {
+    let mut cache = Cache::new(rt.alloc(), 10, 4)?;
+    assert_eq!(rt; fault(rt.alloc(), &mut cache, &EACH_CALL)?, None);
+    Ok(())
+}
+
+#[test]
+fn the_shortest_end_goes(rt: HostRuntime) -> Result<(), Fail> {
+    let mut by_weight = Cache::new(rt.alloc(), 10, 100)?;
+    assert_eq!(rt; fault(rt.alloc(), &mut by_weight, &BY_WEIGHT)?, None);
+    let mut by_number = Cache::with_seed(rt.alloc(), 100, 2, 7)?;
+    assert_eq!(rt; fault(rt.alloc(), &mut by_number, &BY_NUMBER)?, None);
+    Ok(())
+}
+
+#[test]
+fn limits_of_nothing(rt: HostRuntime) -> Result<(), Fail> {
+    let mut no_entries = Cache::new(rt.alloc(), 100, 0)?;
+    assert_eq!(rt; fault(rt.alloc(), &mut no_entries, &NO_ENTRIES)?, None);
+    let mut no_weight = Cache::new(rt.alloc(), 0, 5)?;
+    assert_eq!(rt; fault(rt.alloc(), &mut no_weight, &NO_WEIGHT)?, None);
+    Ok(())
+}
+
+/// A key whose hash is that of every other.
+#[derive(Clone, Copy, Debug, Default, PartialEq, Eq)]
+struct Alike(u8);
+
+impl Hash for Alike {
+    ghost use Rattle.std.specs.Prelude.{[]};
+    ghost use Rattle.std.proofs.Common.{refl};
+
+    ghost hash_input = { λ _. [] };
+
+    ghost respects_eq = { λ x y e. refl };
+
+    fn hash<H: Hasher>(&self, _state: &mut H) {}
+}
+
+#[rattlefmt::skip]
+static ALIKE: [Step<Alike, u64>; 8] = [
+    (Call::Put(Alike(1), 10, 1), "new, gone:", "1 1: Alike(1)=10 1,"),
+    (Call::Put(Alike(2), 20, 1), "new, gone:", "2 2: Alike(2)=20 1, Alike(1)=10 1,"),
+    (Call::Look(Alike(1)), "true Some(10) Some(1)", "2 2: Alike(2)=20 1, Alike(1)=10 1,"),
+    (Call::Look(Alike(3)), "false None None", "2 2: Alike(2)=20 1, Alike(1)=10 1,"),
+    (Call::Put(Alike(1), 11, 1), "was Alike(1)=10 1, gone:", "2 2: Alike(1)=11 1, Alike(2)=20 1,"),
+    (Call::Put(Alike(3), 30, 1), "new, gone: Alike(2)=20 1,", "2 2: Alike(3)=30 1, Alike(1)=11 1,"),
+    (Call::Remove(Alike(1)), "took Alike(1)=11 1,", "1 1: Alike(3)=30 1,"),
+    (Call::Look(Alike(1)), "false None None", "1 1: Alike(3)=30 1,"),
+];
+
+#[test]
+fn keys_of_one_hash_are_kept_apart(rt: HostRuntime) -> Result<(), Fail> {
+    let mut cache = Cache::new(rt.alloc(), 10, 2)?;
+    assert_eq!(rt; fault(rt.alloc(), &mut cache, &ALIKE)?, None);
+    Ok(())
+}
+
+#[rattlefmt::skip]
+static WITHOUT_SIZE: [Step<u64, ()>; 5] = [
+    (Call::Put(1, (), 1), "new, gone:", "1 1: 1=() 1,"),
+    (Call::Put(2, (), 1), "new, gone:", "2 2: 2=() 1, 1=() 1,"),
+    (Call::Put(1, (), 2), "was 1=() 1, gone:", "2 3: 1=() 2, 2=() 1,"),
+    (Call::Put(3, (), 1), "new, gone: 2=() 1,", "2 3: 3=() 1, 1=() 2,"),
+    (Call::Look(1), "true Some(()) Some(2)", "2 3: 3=() 1, 1=() 2,"),
+];
+
+#[test]
+fn values_without_a_size(rt: HostRuntime) -> Result<(), Fail> {
+    let mut cache = Cache::new(rt.alloc(), 3, 5)?;
+    assert_eq!(rt; fault(rt.alloc(), &mut cache, &WITHOUT_SIZE)?, None);
+    Ok(())
+}

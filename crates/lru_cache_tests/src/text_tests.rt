@@ -1,0 +1,108 @@
+//! A cache of texts, and its limits. A text has no default, which a key has to have, so that a key is a text or none.
+use crate::steps::{look, put, shown, taken};
+use lru_cache::cache::Cache;
+use std::alloc::{AllocError, Global};
+use std::test::Fail;
+
+type Texts = Cache<Option<String>, String>;
+
+fn text(alloc: Global, text: &str) -> Result<String, AllocError> {
+    String::from_str(alloc, text)
+}
+
+// Puts an entry of texts. Whether it answers this.
+fn puts(
+    alloc: Global,
+    cache: &mut Texts,
+    (key, value, weight): (&str, &str, usize),
+    answer: &str,
+) -> Result<bool, AllocError> {
+    let answers = put(
+        alloc,
+        cache,
+        Some(text(alloc, key)?),
+        text(alloc, value)?,
+        weight,
+    )?;
+    Ok(answers.as_str() == answer)
+}
+
+fn is_shown(alloc: Global, cache: &Texts, left: &str) -> Result<bool, AllocError> {
+    Ok(shown(alloc, cache)?.as_str() == left)
+}
+
+#[test]
+fn texts_are_put(rt: HostRuntime) -> Result<(), Fail> {
+    let alloc = rt.alloc();
+    let mut cache = Cache::with_seed(alloc, 6, 9, 11)?;
+    assert!(rt; puts(alloc, &mut cache, ("a", "x", 2), "new, gone:")?);
+    assert!(rt; puts(alloc, &mut cache, ("b", "y", 2), "new, gone:")?);
+    assert!(rt;
+        puts(
+            alloc,
+            &mut cache,
+            ("a", "z", 3),
+            "was Some(\"a\")=\"x\" 2, gone:"
+        )?
+    );
+    assert!(rt;
+        puts(
+            alloc,
+            &mut cache,
+            ("c", "w", 7),
+            "TooHeavy: Some(\"c\")=\"w\""
+        )?
+    );
+    assert!(rt;
+        puts(
+            alloc,
+            &mut cache,
+            ("c", "w", 3),
+            "new, gone: Some(\"b\")=\"y\" 2,"
+        )?
+    );
+    assert!(rt;
+        is_shown(
+            alloc,
+            &cache,
+            "2 6: Some(\"c\")=\"w\" 3, Some(\"a\")=\"z\" 3,"
+        )?
+    );
+    Ok(())
+}
+
+// Whether each call on a text that is there answers so.
+fn calls_answer(alloc: Global, cache: &mut Texts) -> Result<bool, AllocError> {
+    let key = Some(text(alloc, "a")?);
+    let is_there = look(alloc, cache, &key)?.as_str() == "true Some(\"x\") Some(2)";
+    let is_first = cache.promote(&key)
+        & is_shown(
+            alloc,
+            cache,
+            "2 5: Some(\"a\")=\"x\" 2, Some(\"b\")=\"y\" 3,",
+        )?;
+    let removed = taken(alloc, &cache.remove(&key))?;
+    let is_gone = look(alloc, cache, &key)?.as_str() == "false None None";
+    let last = taken(alloc, &cache.pop_last())?;
+    let are_taken = (removed.as_str() == "took Some(\"a\")=\"x\" 2,")
+        & (last.as_str() == "took Some(\"b\")=\"y\" 3,");
+    Ok(is_there & is_first & is_gone & are_taken)
+}
+
+#[test]
+fn texts_are_found(rt: HostRuntime) -> Result<(), Fail> {
+    let alloc = rt.alloc();
+    let mut cache = Cache::new(alloc, 6, 9)?;
+    assert!(rt; puts(alloc, &mut cache, ("a", "x", 2), "new, gone:")?);
+    assert!(rt; puts(alloc, &mut cache, ("b", "y", 3), "new, gone:")?);
+    assert_eq!(rt;
+        (cache.is_empty(), cache.most_weight(), cache.most_entries()),
+        (false, 6, 9)
+    );
+    assert!(rt; calls_answer(alloc, &mut cache)?);
+    assert_eq!(rt;
+        (cache.is_empty(), cache.most_weight(), cache.most_entries()),
+        (true, 6, 9)
+    );
+    Ok(())
+}
