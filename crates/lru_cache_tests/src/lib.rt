@@ -4,6 +4,8 @@
 #[cfg(test)]
 mod cache_tests;
 #[cfg(test)]
+mod made_tests;
+#[cfg(test)]
 mod memory_tests;
 #[cfg(test)]
 mod steps;
