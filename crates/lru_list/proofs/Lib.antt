@@ -1,5 +1,6 @@
 pub mod Chains
 pub mod LinkedLaws
+pub mod LinkedLives
 pub mod LinkedModels
 pub mod LinkedReads
 pub mod LinkedSpans

@@ -3,14 +3,14 @@
 //! The nodes lie in one vector and are joined by 32-bit links. Index 0 is the head sentinel, index 1 the tail
 //! sentinel, and items have the indices from 2 on. The slot of a removed item is used again: the one that was
 //! freed last comes first.
-ghost use Rattle.std.specs.Prelude.{◌≡◌, ◌≢◌, ◌<◌, ◌≤◌, [], length, take, vec_len, slice_set, get_or, IfOk, IsSome, is_some, IfSome, option_copied};
+ghost use Rattle.std.specs.Prelude.{◌≡◌, ◌≢◌, ◌<◌, ◌≤◌, ◌==◌, not, [], length, take, vec_len, slice_set, get_or, IfOk, IsSome, is_some, IfSome, option_copied};
 ghost use Rattle.std.specs.List.{list_any};
 ghost use Rattle.std.specs.Option.{option_copied_mut};
 ghost use Rattle.std.specs.Borrow.{sem};
 ghost use Rattle.std.specs.Iterator.{at_most, UpTo};
 ghost use Rattle.std.specs.Iterator.SizeHint.{IsWithinCount};
 ghost use Rattle.std.specs.Map.Iter.{TakesFirst, TakesLast, ShowsInOrder, ShowsInReverse, deref};
-ghost use Rattle.lru_list.specs.Linked.{Linked, linked, no_slot, items_of, indices_of, itself, IsNumbered, IsLive, IsPlace, head_of, tail_of, next_of, prev_of, item_at, pushed_head, pushed_tail, promoted, Pushes, Removes, PopsTail, number_of};
+ghost use Rattle.lru_list.specs.Linked.{Linked, linked, no_slot, items_of, indices_of, itself, IsNumbered, IsLive, IsPlace, head_of, tail_of, next_of, prev_of, item_at, pushed_head, pushed_tail, promoted, Pushes, Removes, PopsTail, item_of, number_of};
 ghost use Rattle.lru_list.specs.Representation.Nodes.{nexts, prevs, items, at as link_at, TakesSlot};
 
 use std::alloc::{AllocError, Global};
@@ -149,7 +149,8 @@ fn link_between<K>(nodes: &mut Vec<Node<K>>, prev: u32, place: u32, next: u32)
     set_prev(nodes, next, place);
 }
 
-// The slot that was freed last, or a new one, holds the item. No other node leads to it yet.
+// The slot that was freed last, or a new one, holds the item. No other node leads to it yet. Where there is no room for
+// a new one, the nodes grow by an eighth, so that little memory stands empty.
 fn take_slot<K: Drop>(
     nodes: &mut Vec<Node<K>>,
     last_freed: &mut u32,
@@ -167,6 +168,9 @@ fn take_slot<K: Drop>(
     let made = nodes.len();
     if made >= NULL as usize {
         return Err(PushError::Full(item));
+    }
+    if made == nodes.capacity() && nodes.reserve_exact(made / 8 + 1).is_err() {
+        return Err(PushError::Memory(item));
     }
     let node = Node {
         prev: NULL,
@@ -286,8 +290,8 @@ impl<K: Default + Drop> LinkedList<K> {
 
     /// Takes an item out. Its slot holds a default value then, and is the first to be used again.
     ///
-    /// The index has to be of an item in the list. A push gives such an index. One may also be tested: `peek`
-    /// finds something there, and `next_index` is not 4294967295.
+    /// The index has to be of an item in the list. A push gives such an index. One may also be tested: `is_live`
+    /// tells it.
     pub fn remove(&mut self, index: Index) -> K
         requires { IsLive self.old index }
         ensures removes { Removes K.is_default self.old index result self.new }
@@ -386,6 +390,24 @@ impl<K> LinkedList<K> {
         }
     }
 
+    /// Whether an item of the list stands under the index. A sentinel has none, nor has a freed slot, nor an index that
+    /// was never made.
+    #[inline(always)]
+    pub fn is_live(&self, index: Index) -> bool
+        ensures { result ≡ is_some (item_of self.now.live index) }
+    {
+        self.has_slot(index) && self.nodes[index].next != NULL
+    }
+
+    /// Whether a freed slot is there, so that the next push takes no memory.
+    #[inline(always)]
+    pub fn has_freed(&self) -> bool
+        ensures { result ≡ not (length self.now.freed == 0) }
+    {
+        self.last_freed != NULL
+    }
+
+    #[inline(always)]
     fn has_slot(&self, index: Index) -> bool
         ensures { result ≡ is_some (item_at self.now index) }
     {
