@@ -1,5 +1,5 @@
 -- Rows that are put in, first or last.
-use Rattle.std.proofs.Common.{◌≡◌, ℕ, ◌+◌, ◌-◌, ◌<◌, ◌≤◌, List, [], ◌∷◌, ◌++◌, length, set, Some, None, refl, sym, ap, ◌∙◌, subst, arith, false, true, Ok, Err}
+use Rattle.std.proofs.Common.{◌≡◌, ℕ, ◌+◌, ◌-◌, ◌<◌, ◌≤◌, List, [], ◌∷◌, ◌++◌, length, set, Some, None, refl, sym, ap, ◌∙◌, subst, arith, false, true, not, eqb, zero, suc, Ok, Err}
 use Rattle.std.specs.Prelude.{Option, Bool, IsSome, Result, IfOk, IfErr, drop, max, if◌then◌else◌}
 use Rattle.std.specs.Result.{is_ok}
 use Rattle.std.proofs.lemmas.Bool.{false≢true}
@@ -47,6 +47,11 @@ refused_memory old pushed x (ListFull y) key new is refused = absurd (not_full y
     not_full : {K : Type 0} (a b : K) → ListFull a ≡ ListMemory b → ⊥
     not_full a b e = cc
 
+-- a count that is not none
+some_one : (n : ℕ) → not (eqb n 0) ≡ true → 1 ≤ n
+some_one zero none = absurd (false≢true none)
+some_one (suc n) some = omega arith
+
 -- where a row lacks a place, and why
 module _ {K S T : Type 0} (eq : K → K → Bool) (hash : S → K → ℕ) (order : Linked K) (index : Index S) (weights : List ℕ) (values : List (Option T)) (kept : IsKept eq hash order index weights values)
     (r : Recency K T) (view : recency (rows_in weights values order.live) (length order.freed) ≡ r) where
@@ -65,6 +70,14 @@ module _ {K S T : Type 0} (eq : K → K → Bool) (hash : S → K → ℕ) (orde
 
   pub none_freed : order.freed ≡ [] → r.free ≡ 0
   none_freed e = sym (free_is eq hash order index weights values kept r view) ∙ ap length e
+
+  -- a slot that is freed is a place more
+  pub has_vacancy : (b : Bool) → b ≡ not (eqb (length order.freed) 0) → b ≡ true → (length r.rows < most_rows) × (r ≡ recency r.rows (max r.free 1))
+  has_vacancy b is there =
+      let some = some_one (length order.freed) (sym is ∙ there) in
+      let free = free_is eq hash order index weights values kept r view in
+      let most : r.free ≡ max r.free 1 = omega (arith, some, free) in
+      (omega (arith, length_seen, kept.wide, kept.few, some), ap (recency r.rows) most)
 
   -- the view through columns that are longer at most
   module _ (weights' : List ℕ) (values' : List (Option T)) (same : Lengthens weights values weights' values') where

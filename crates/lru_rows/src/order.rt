@@ -5,9 +5,6 @@ ghost use Rattle.lru_list.specs.Linked.{item_of, pushed_head, pushed_tail, Pushe
 use lru_index::keys::Keys;
 use lru_list::linked_list::{Index, LinkedList, PushError};
 
-// The place that stands for none.
-const NO_PLACE: usize = 4294967295;
-
 /// The order of the keys, which tells an index the key of a place.
 #[derive(Drop)]
 pub(crate) struct Order<K> {
@@ -17,18 +14,9 @@ pub(crate) struct Order<K> {
 impl<K> Keys<K> for Order<K> {
     ghost key_of = { λ order p. item_of order.list.live p };
 
+    #[inline(always)]
     fn is_live(&self, place: u32) -> bool {
-        // The length is asked for what it tells of the places: they are numbered.
-        let _len = self.list.len();
-        let index = place as usize;
-        if self.list.peek(index).is_none() {
-            return false;
-        }
-        // A free place has no neighbour.
-        if self.list.next_index(index) != NO_PLACE {
-            return true;
-        }
-        self.list.prev_index(index) != NO_PLACE
+        self.list.is_live(place as usize)
     }
 
     #[inline(always)]

@@ -317,6 +317,10 @@ impl<K: Hash + Default + Drop, T: Drop, S: BuildHasher> Rows<K, T, S> {
     pub fn make_vacancy(&mut self) -> Result<(), NoPlace>
         ensures { MakesVacancy self.old result self.new }
     {
+        // The columns have room for each place of the order, so that a free one is enough.
+        if self.order.list.has_freed() {
+            return Ok(());
+        }
         let len = self.order.list.len();
         if len >= MOST_ITEMS {
             return Err(NoPlace::Full);

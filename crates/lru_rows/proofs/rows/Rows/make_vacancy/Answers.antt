@@ -3,8 +3,11 @@ use Rattle.std.proofs.Common.{arith, length, refl, ap, ◌∙◌}
 use Rattle.lru_list.specs.Linked.{Linked, pushed_head}
 use Rattle.lru_rows.specs.Rows.{recency}
 use Rattle.lru_rows.specs.Representation.Columns.{rows_in}
-use Rattle.lru_rows.proofs.Pushed.{lacks_full, lacks_some, none_free, none_freed, refused_memory, room_made, room_refused, view_longer, kept_back, view_back}
+use Rattle.lru_rows.proofs.Pushed.{has_vacancy, lacks_full, lacks_some, none_free, none_freed, refused_memory, room_made, room_refused, view_longer, kept_back, view_back}
 use Rattle.lru_rows.proofs.rows.Rows.make_vacancy.Goals as goal
+
+pub returns-then-has_freed : goal.returns-then-has_freed
+returns-then-has_freed g c = has_vacancy g.K.PartialEq.eq (key_hash g.S.BuildHasher g.S.Hasher.Hasher g.K.Hash.hash_input) c.self.inside.order.list c.self.inside.columns.index c.self.inside.columns.weights.items c.self.inside.columns.values.items c.self.invariant c.args.self.now c.self.view_is c.has_freed.result c.has_freed.ensures c.if-has_freed.true
 
 pub returns-then-len-ge-MOST_ITEMS : goal.returns-then-len-ge-MOST_ITEMS
 returns-then-len-ge-MOST_ITEMS g c = (lacks_full g.K.PartialEq.eq (key_hash g.S.BuildHasher g.S.Hasher.Hasher g.K.Hash.hash_input) c.self.inside.order.list c.self.inside.columns.index c.self.inside.columns.weights.items c.self.inside.columns.values.items c.self.invariant c.args.self.now c.self.view_is c.len-len.result c.len-len.ensures.len c.len-len.ensures.few c.if-len-ge-MOST_ITEMS.true, refl)
