@@ -1,5 +1,5 @@
 -- What a `peek` that finds something tells.
-use Rattle.std.proofs.Common.{◌≡◌, None, Some, true, sym, ap, ◌∙◌}
+use Rattle.std.proofs.Common.{◌≡◌, None, Some, true, sym, ap}
 use Rattle.std.specs.Prelude.{Option, is_some, option_copied}
 use Rattle.std.specs.Borrow.{Bor}
 use Rattle.std.proofs.lemmas.Bool.{false≢true}

@@ -1,7 +1,4 @@
 //! The linked list, by its worked rows, and each of its calls at two types of items.
-ghost use Rattle.std.specs.Prelude.{IsTrue};
-ghost use Rattle.lru_list.specs.Linked.{IsLive};
-
 use lru_list::linked_list::{Index, LinkedList, LinkedListU64, PushError};
 use std::alloc::{AllocError, Global};
 use std::test::Fail;
@@ -91,17 +88,6 @@ static MAKES_ROOM_IN_AN_EMPTY_LIST: [Step; 2] = [
     (Call::Len, Some(0), &[]),
 ];
 
-// Whether the index has an item in the list.
-fn is_live<K>(list: &LinkedList<K>, index: Index) -> bool
-    ensures { IsTrue result → IsLive list.now index }
-{
-    let _len = list.len();
-    if list.peek(index).is_none() {
-        return false;
-    }
-    list.next_index(index) != NO_SLOT
-}
-
 // The places before and behind a slot.
 fn neighbours<K>(list: &LinkedList<K>, index: Index) -> Option<(Index, Index)> {
     let _len = list.len();
@@ -121,7 +107,7 @@ fn around<K>(list: &LinkedList<K>, index: Index) -> Option<(Index, Index)> {
 }
 
 fn remove_at<K: Default + Drop>(list: &mut LinkedList<K>, index: Index) -> Option<K> {
-    if is_live(list, index) {
+    if list.is_live(index) {
         Some(list.remove(index))
     } else {
         None
@@ -129,7 +115,7 @@ fn remove_at<K: Default + Drop>(list: &mut LinkedList<K>, index: Index) -> Optio
 }
 
 fn promote_at<K: Default + Drop>(list: &mut LinkedList<K>, index: Index) -> bool {
-    let live = is_live(list, index);
+    let live = list.is_live(index);
     if live {
         list.promote(index);
     }
@@ -309,11 +295,59 @@ fn numbered(alloc: Global) -> Result<([bool; 3], usize), Fail> {
     Ok((right, list.len()))
 }
 
-// The row asks for memory ten times: once for the empty list, and nine times as 2 nodes grow to 1024 by doubling.
-// So no push asks twice, and none of the second thousand asks at all: with the eleventh allocation failing it passes.
+// The row asks for memory 44 times: once for the empty list, and 43 times as 2 nodes grow to 1037, each time by an
+// eighth and one. So no push asks twice, and none of the second thousand asks at all: with the 45th allocation failing
+// it passes.
 #[test]
 fn numbers_slots_in_order(rt: HostRuntime) -> Result<(), Fail> {
     assert_eq!(rt; numbered(rt.alloc())?, ([true; 3], 1000));
+    Ok(())
+}
+
+// Whether an item stands under each of these: the sentinels, two slots, one that is never made, and the last index.
+// And whether a slot is freed.
+type Lives = ([bool; 6], bool);
+
+fn lives(list: &LinkedListU64) -> Lives {
+    let live = [
+        list.is_live(0),
+        list.is_live(1),
+        list.is_live(2),
+        list.is_live(3),
+        list.is_live(4),
+        list.is_live(usize::MAX),
+    ];
+    (live, list.has_freed())
+}
+
+// At first, after two pushes, after the first of them is removed, and after its slot is used again.
+fn lives_of(list: &mut LinkedListU64) -> Result<[Lives; 4], PushError<u64>> {
+    let empty = lives(list);
+    list.push_head(7)?;
+    list.push_head(8)?;
+    let both = lives(list);
+    remove_at(list, 2);
+    let one = lives(list);
+    list.push_tail(9)?;
+    Ok([empty, both, one, lives(list)])
+}
+
+fn lives_of_two(alloc: Global) -> Result<[Lives; 4], Fail> {
+    let mut list = LinkedListU64::with_capacity(alloc, 0)?;
+    Ok(lives_of(&mut list)?)
+}
+
+#[test]
+fn tells_live_and_freed_slots(rt: HostRuntime) -> Result<(), Fail> {
+    assert_eq!(rt;
+        lives_of_two(rt.alloc())?,
+        [
+            ([false; 6], false),
+            ([false, false, true, true, false, false], false),
+            ([false, false, false, true, false, false], true),
+            ([false, false, true, true, false, false], false),
+        ]
+    );
     Ok(())
 }
 
