@@ -71,22 +71,6 @@ impl<T: Drop, S: BuildHasher> Columns<T, S> {
         self.lengthen(order, len as u32)
     }
 
-    /// Makes room for rows up to `rows`. All places hold what they held, also where it is refused.
-    pub(crate) fn reserve<K: Hash>(&mut self, order: &Order<K>, rows: u32) -> Result<(), AllocError>
-        requires kept { IsKept K.eq (key_hash S.BuildHasher S.Hasher.Hasher K.hash_input) order.now.list self.old.index self.old.weights.items self.old.values.items }
-        requires few { rows ≤ most_items }
-        ensures kept { IsKept K.eq (key_hash S.BuildHasher S.Hasher.Hasher K.hash_input) order.now.list self.new.index self.new.weights.items self.new.values.items }
-        ensures weights { self.new.weights.items ≡ self.old.weights.items }
-        ensures values { self.new.values.items ≡ self.old.values.items }
-    {
-        let places = rows + 2;
-        self.index.reserve(order, places)?;
-        self.weights
-            .reserve_exact((places as usize).saturating_sub(self.weights.len()))?;
-        self.values
-            .reserve_exact((places as usize).saturating_sub(self.values.len()))
-    }
-
     // The columns grow by an eighth, so that little memory stands empty.
     fn lengthen<K: Hash>(&mut self, order: &Order<K>, len: u32) -> Result<(), AllocError>
         requires kept { IsKept K.eq (key_hash S.BuildHasher S.Hasher.Hasher K.hash_input) order.now.list self.old.index self.old.weights.items self.old.values.items }
@@ -140,6 +124,39 @@ impl<T: Drop, S: BuildHasher> Columns<T, S> {
             Some(value) => (value, weight),
             None => unreachable!(),
         }
+    }
+
+    /// Puts other data at a place, and answers those that stood there.
+    #[inline(always)]
+    pub(crate) fn replace(&mut self, place: usize, value: T) -> T
+        requires { IsSome (value_at self.old.values.items place) }
+        ensures value { value_at self.old.values.items place ≡ Some result }
+        ensures index { self.new.index ≡ self.old.index }
+        ensures weights { self.new.weights.items ≡ self.old.weights.items }
+        ensures values { self.new.values.items ≡ set self.old.values.items place (Some value) }
+    {
+        match self.values[place].replace(value) {
+            Some(old) => old,
+            None => unreachable!(),
+        }
+    }
+}
+
+impl<T, S: BuildHasher> Columns<T, S> {
+    /// Makes room for rows up to `rows`. All places hold what they held, also where it is refused.
+    pub(crate) fn reserve<K: Hash>(&mut self, order: &Order<K>, rows: u32) -> Result<(), AllocError>
+        requires kept { IsKept K.eq (key_hash S.BuildHasher S.Hasher.Hasher K.hash_input) order.now.list self.old.index self.old.weights.items self.old.values.items }
+        requires few { rows ≤ most_items }
+        ensures kept { IsKept K.eq (key_hash S.BuildHasher S.Hasher.Hasher K.hash_input) order.now.list self.new.index self.new.weights.items self.new.values.items }
+        ensures weights { self.new.weights.items ≡ self.old.weights.items }
+        ensures values { self.new.values.items ≡ self.old.values.items }
+    {
+        let places = rows + 2;
+        self.index.reserve(order, places)?;
+        self.weights
+            .reserve_exact((places as usize).saturating_sub(self.weights.len()))?;
+        self.values
+            .reserve_exact((places as usize).saturating_sub(self.values.len()))
     }
 }
 

@@ -1,7 +1,8 @@
 //! Rows of keys, data and weights, most recent first.
-ghost use Rattle.std.specs.Prelude.{◌≡◌, ℕ, ◌<◌, ◌≤◌, ◌∷◌, ◌++◌, [], length, map, Some, None, IfOk, if◌then◌else◌};
+ghost use Rattle.std.specs.Prelude.{◌≡◌, ℕ, ◌<◌, ◌≤◌, ◌∷◌, ◌++◌, [], length, map, take, Some, None, IfOk, if◌then◌else◌};
+ghost use Rattle.std.specs.List.{list_any};
 ghost use Rattle.std.specs.Option.{option_map, option_copied};
-ghost use Rattle.lru_rows.specs.Rows.{recency, pair_of, placed, row_at, row_of, IsAt, promoted, with_weight, last_row, Finds, IsRecency, Removes, PopsLast, Pushes, MakesVacancy, UpdatesAt};
+ghost use Rattle.lru_rows.specs.Rows.{recency, pair_of, placed, row_at, row_of, IsAt, promoted, with_weight, with_value, last_row, Finds, IsRecency, Removes, PopsLast, Pushes, MakesVacancy, UpdatesAt};
 
 use crate::columns::Columns;
 use crate::iter::RowsIter;
@@ -159,7 +160,8 @@ impl<K: Hash, T, S: BuildHasher> Rows<K, T, S> {
     /// The place of the row that was used longest ago.
     #[inline(always)]
     pub fn last(&self) -> Option<Place>
-        ensures { result ≡ option_map (λ r. r.place) (last_row self.now.rows) }
+        ensures place { result ≡ option_map (λ r. r.place) (last_row self.now.rows) }
+        ensures valid { IsRecency K.eq self.now.rows }
     {
         let place = self.order.list.tail()?;
         Some(place as u32)
@@ -181,6 +183,13 @@ impl<K: Hash, T, S: BuildHasher> Rows<K, T, S> {
         ensures { result ≡ map (λ r. r.key) self.now.rows }
     {
         self.order.list.iter()
+    }
+
+    /// Whether a key is among the first `limit` rows. It takes as many steps as it looks at keys.
+    pub fn is_near_first(&self, key: &K, limit: usize) -> bool
+        ensures { result ≡ list_any (λ k. K.eq k key.now) (take limit (map (λ r. r.key) self.now.rows)) }
+    {
+        self.order.list.exist_near_head(key, limit)
     }
 
     /// The key of a place's row.
@@ -237,9 +246,7 @@ impl<K: Hash, T, S: BuildHasher> Rows<K, T, S> {
     {
         self.columns.update(place as usize, update)
     }
-}
 
-impl<K: Hash + Default + Drop, T: Drop, S: BuildHasher> Rows<K, T, S> {
     /// Makes room for `additional` more rows. Nothing else changes, also where it is refused.
     ///
     /// # Errors
@@ -256,7 +263,9 @@ impl<K: Hash + Default + Drop, T: Drop, S: BuildHasher> Rows<K, T, S> {
             .reserve(&self.order, (len + additional) as u32)?;
         self.order.list.reserve(additional)
     }
+}
 
+impl<K: Hash + Default + Drop, T: Drop, S: BuildHasher> Rows<K, T, S> {
     /// Puts a row first whose key has none, and answers its place.
     ///
     /// # Errors
@@ -362,5 +371,15 @@ impl<K: Hash + Default + Drop, T: Drop, S: BuildHasher> Rows<K, T, S> {
         let (value, weight) = self.columns.take(at);
         let key = self.order.list.remove(at);
         Some(Taken { key, value, weight })
+    }
+
+    /// Gives a place's row other data, and answers those that it had.
+    #[inline(always)]
+    pub fn replace(&mut self, place: Place, value: T) -> T
+        requires { IsAt self.old.rows place }
+        ensures old { option_map (λ r. r.value) (row_at self.old.rows place) ≡ Some result }
+        ensures rows { self.new ≡ recency (with_value self.old.rows place value) self.old.free }
+    {
+        self.columns.replace(place as usize, value)
     }
 }

@@ -31,19 +31,17 @@ module _ {T : Type 0} where
             (x ∷ m.0, (m.1.0, (ap (λ zs. x ∷ zs) m.1.1.0, m.1.1.1)))
       ]
 
-  -- rows with distinct keys, split at one of them
-  pub at_split : (rows xs ys : List (Row T)) (k : ℕ) (r : Row T) → HasDistinctKeys rows → rows ≡ xs ++ r ∷ ys → r.key ≡ k → IsAt rows k r
-  at_split rows xs ys k r distinct whole key =
+  -- rows with distinct keys, split at one of them: no other has its key
+  pub none_around : (rows xs ys : List (Row T)) (k : ℕ) (r : Row T) → HasDistinctKeys rows → rows ≡ xs ++ r ∷ ys → r.key ≡ k → (times k xs ≡ 0) × (times k ys ≡ 0)
+  none_around rows xs ys k r distinct whole key =
       let here : times k (r ∷ ys) ≡ 1 + times k ys = times_yes k r ys (eq-eqb _ _ key) in
       let all : times k rows ≡ times k xs + times k (r ∷ ys) = ap (times k) whole ∙ times-append k xs (r ∷ ys) in
-      record {
-        before = xs;
-        after = ys;
-        whole = whole;
-        same_key = key;
-        none_before = omega (arith, distinct k, here, all);
-        none_after = omega (arith, distinct k, here, all);
-      }
+      (omega (arith, distinct k, here, all), omega (arith, distinct k, here, all))
+
+  pub at_split : (rows xs ys : List (Row T)) (k : ℕ) (r : Row T) → HasDistinctKeys rows → rows ≡ xs ++ r ∷ ys → r.key ≡ k → IsAt rows k r
+  at_split rows xs ys k r distinct whole key =
+      let none = none_around rows xs ys k r distinct whole key in
+      record { before = xs; after = ys; whole = whole; same_key = key; none_before = none.0; none_after = none.1 }
 
   pub at_row : (rows : List (Row T)) (k : ℕ) (r : Row T) → HasDistinctKeys rows → row_of rows k ≡ Some r → IsAt rows k r
   at_row rows k r distinct h = let m = split_row rows k r h in at_split rows m.0 m.1.0 k r distinct m.1.1.0 m.1.1.1

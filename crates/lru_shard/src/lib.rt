@@ -1,5 +1,4 @@
 //! One shard of a least-recently-used order: rows with weights, under a cap on their sum.
 #![tactic(auto)]
 
-mod slots;
 pub mod unit;

@@ -1,14 +1,12 @@
 //! One shard: rows in the order of their last use, under a cap on their weight.
-ghost use Rattle.std.specs.Prelude.{◌≡◌, ℕ, ◌+◌, ◌<◌, ◌≤◌, length, nat_eq, Some, None, if◌then◌else◌, IfOk, IfErr};
-ghost use Rattle.std.specs.HashMap as hash;
-ghost use Rattle.lru_list.specs.Linked.{next_slot, pushed_head, pushed_tail, IsNumbered};
-ghost use Rattle.lru_shard.specs.Representation.Slots.{held_at};
-ghost use Rattle.lru_shard.specs.Representation.Table.{place_in, look_of, rows_of, IsKept};
-ghost use Rattle.lru_shard.specs.Shard.{number_of, refusal, size_of, and_row, MayRefuse};
+ghost use Rattle.std.specs.Prelude.{◌≡◌, ◌<◌, ◌-◌, ◌∷◌, ℕ, length, nat_eq, Some, None, IfOk, IfErr};
+ghost use Rattle.lru_rows.specs.Rows.{recency, placed, row_at as placed_at, row_of as placed_of, most_rows as most_placed};
+ghost use Rattle.lru_shard.specs.Shard.{number_of, refusal, size_of, and_row};
 ghost use Rattle.lru_shard.specs.Unit.{raised, started};
 
-use crate::slots::{Held, Rows};
-use lru_list::linked_list::{Index, LinkedList, LinkedListIndices, LinkedListIter, MOST_ITEMS};
+use lru_list::linked_list::{LinkedListIter, MOST_ITEMS};
+use lru_rows::iter::RowsIter;
+use lru_rows::rows::Rows;
 use std::alloc::{AllocError, Global};
 use std::iter::FusedIterator;
 use std::marker::Model;
@@ -108,51 +106,16 @@ fn started(delta: usize, max_weight: Option<usize>) -> usize
     }
 }
 
-// Takes a place in the order, first or last, for a row more of this weight, and makes room for the row. The
-// causes are tried in the order Length, Weight, Memory. A refusal leaves the order and the rows.
-//
-// It is one function for all calls that make a row, since each of its ways out is proved once here.
+// Puts a row first for which a place was made sure of.
 #[inline(always)]
-fn take_place<T: Drop>(
-    rows: &mut Rows<T>,
-    order: &mut LinkedList<u64>,
-    used_weight: usize,
-    most: usize,
-    key: u64,
-    weight: usize,
-    last: bool,
-) -> Result<Index, Cause>
-    requires { IsKept (place_in rows.old) rows.old.slots.items order.old used_weight most }
-    ensures places { (k : ℕ) → hash.get nat_eq rows.new.places k ≡ hash.get nat_eq rows.old.places k }
-    ensures held { (i : ℕ) → held_at rows.new.slots.items i ≡ held_at rows.old.slots.items i }
-    ensures wide { length rows.old.slots.items ≤ length rows.new.slots.items }
-    ensures few { length rows.new.slots.items ≤ 4294967295 }
-    ensures numbered { IsNumbered order.new }
-    ensures allowed { IfOk result (λ _. refusal most (size_of (rows_of (look_of rows.old) order.old.live)) (and_row (size_of (rows_of (look_of rows.old) order.old.live)) weight) ≡ None) }
-    ensures room { IfOk result (λ _. (0 < hash.spare rows.new.places) × (length order.old.live + 2 < length rows.new.slots.items)) }
-    ensures place { IfOk result (λ place. place ≡ next_slot order.old) }
-    ensures pushed { IfOk result (λ _. order.new ≡ (if last then pushed_tail order.old key else pushed_head order.old key)) }
-    ensures refused { IfErr result (λ cause. MayRefuse most (size_of (rows_of (look_of rows.old) order.old.live)) (and_row (size_of (rows_of (look_of rows.old) order.old.live)) weight) cause) }
-    ensures left { IfErr result (λ _. order.new ≡ order.old) }
+fn put_vacant<T: Drop>(rows: &mut Rows<u64, T>, key: u64, data: T, weight: usize)
+    requires absent { placed_of nat_eq rows.old.rows key ≡ None }
+    requires vacant { 0 < rows.old.free }
+    requires short { length rows.old.rows < most_placed }
+    ensures { (p : ℕ) × (rows.new ≡ recency (placed p key «data» weight ∷ rows.old.rows) (rows.old.free - 1)) }
 {
-    let len = order.len();
-    if len >= most.min(MOST_ITEMS) {
-        return Err(Cause::Length);
-    }
-    if weight > most - used_weight {
-        return Err(Cause::Weight);
-    }
-    if !rows.make_room(len) {
-        return Err(Cause::Memory);
-    }
-    let pushed = if last {
-        order.push_tail(key)
-    } else {
-        order.push_head(key)
-    };
-    match pushed {
-        Ok(place) => Ok(place),
-        Err(_) => Err(Cause::Memory),
+    if rows.push_first(key, data, weight).is_err() {
+        unreachable!()
     }
 }
 
@@ -162,8 +125,7 @@ fn take_place<T: Drop>(
 /// Only `with_capacity`, `reserve` and a call that makes a row for a missing key take memory.
 #[derive(Drop)]
 pub struct LruUnit<T> {
-    rows: Rows<T>,
-    order: LinkedList<u64>,
+    rows: Rows<u64, T>,
     used_weight: usize,
     cap: usize,
 }
@@ -175,11 +137,11 @@ impl<T> Model for LruUnit<T> {
 
     ghost coded = { shard_code T.code };
 
-    ghost use Rattle.lru_shard.specs.Representation.Table.{place_in, look_of, rows_of, IsKept};
+    ghost use Rattle.lru_shard.specs.Representation.{rows_in, IsKept};
 
-    ghost view = { λ u. shard (rows_of (look_of u.rows) u.order.live) u.cap };
+    ghost view = { λ u. shard (rows_in u.rows.rows) u.cap };
 
-    ghost invariant = { λ u. IsKept (place_in u.rows) u.rows.slots.items u.order u.used_weight u.cap };
+    ghost invariant = { λ u. IsKept u.rows u.used_weight u.cap };
 }
 
 impl<T> LruUnit<T> {
@@ -196,18 +158,8 @@ impl<T> LruUnit<T> {
         T: Drop,
         ensures { IfOk result (λ unit. unit ≡ shard [] cap) }
     {
-        // a `match` for each refusal, since a `?` costs the proof two more calls
-        let rows = match Rows::with_capacity(alloc, capacity) {
-            Ok(rows) => rows,
-            Err(error) => return Err(error),
-        };
-        let order = match LinkedList::with_capacity(alloc, capacity) {
-            Ok(order) => order,
-            Err(error) => return Err(error),
-        };
         Ok(LruUnit {
-            rows,
-            order,
+            rows: Rows::with_capacity(alloc, capacity)?,
             used_weight: 0,
             cap,
         })
@@ -217,8 +169,7 @@ impl<T> LruUnit<T> {
     pub fn reserve(&mut self, additional: usize) -> Result<(), AllocError>
         ensures { self.new ≡ self.old }
     {
-        self.rows.reserve(additional)?;
-        self.order.reserve(additional)
+        self.rows.reserve(additional)
     }
 
     /// How many rows there are.
@@ -226,7 +177,7 @@ impl<T> LruUnit<T> {
         ensures value { result ≡ length self.now.rows }
         ensures valid { IsShard self.now }
     {
-        self.order.len()
+        self.rows.len()
     }
 
     /// The sum of the weights of the rows.
@@ -242,63 +193,61 @@ impl<T> LruUnit<T> {
         ensures { result ≡ map pair_of self.now.rows }
     {
         LruUnitIter {
-            places: self.order.indices(),
-            rows: &self.rows,
+            rows: self.rows.iter(),
         }
     }
 
-    /// Whether a key has a row. No row is read for it, as `peek` does.
+    /// Whether a key has a row.
     pub fn contains(&self, key: u64) -> bool
         ensures { result ≡ is_held self.now.rows key }
     {
-        self.rows.place_of(key).is_some()
+        self.rows.find(&key).is_some()
     }
 
     /// The data of a key.
     pub fn peek(&self, key: u64) -> Option<&T>
         ensures { option_copied result ≡ option_map (λ r. r.value) (row_of self.now.rows key) }
     {
-        let place = self.rows.place_of(key)?;
-        Some(&self.rows.held(place).data)
+        let place = self.rows.find(&key)?;
+        Some(self.rows.value_at(place))
     }
 
     /// The weight of a key.
     pub fn peek_weight(&self, key: u64) -> Option<usize>
         ensures { result ≡ option_map (λ r. r.weight) (row_of self.now.rows key) }
     {
-        let place = self.rows.place_of(key)?;
-        Some(self.rows.held(place).weight)
+        let place = self.rows.find(&key)?;
+        Some(self.rows.weight_at(place))
     }
 
     /// The data and the weight of the row that was used longest ago.
     pub fn peek_lru(&self) -> Option<(&T, usize)>
         ensures { option_map shown result ≡ option_map pair_of (last_row self.now.rows) }
     {
-        let place = self.order.tail()?;
-        let held = self.rows.held(place);
-        Some((&held.data, held.weight))
+        let place = self.rows.last()?;
+        Some((self.rows.value_at(place), self.rows.weight_at(place)))
     }
 
     /// The key of the row that was used longest ago.
     pub fn lru_key(&self) -> Option<u64>
         ensures { result ≡ option_map (λ r. r.key) (last_row self.now.rows) }
     {
-        let last = self.order.iter().next_back()?;
-        Some(*last)
+        let place = self.rows.last()?;
+        Some(*self.rows.key_at(place))
     }
 
     /// The keys of the rows, most recent first.
     pub fn keys(&self) -> LinkedListIter<'_, u64>
         ensures { result ≡ map (λ r. r.key) self.now.rows }
     {
-        self.order.iter()
+        self.rows.keys()
     }
 
     /// Whether a key is not among the first `limit`. It takes as many steps as it looks at keys.
     pub fn need_promote(&self, key: u64, limit: usize) -> bool
         ensures { result ≡ needs_promote self.now.rows key limit }
     {
-        !self.order.exist_near_head(&key, limit)
+        !self.rows.is_near_first(&key, limit)
     }
 
     /// Puts a key's row first, and answers whether there is one.
@@ -306,10 +255,10 @@ impl<T> LruUnit<T> {
         ensures answer { result ≡ is_held self.old.rows key }
         ensures rows { self.new ≡ shard (accessed self.old.rows key) self.old.cap }
     {
-        let Some(place) = self.rows.place_of(key) else {
+        let Some(place) = self.rows.find(&key) else {
             return false;
         };
-        self.order.promote(place);
+        self.rows.promote(place);
         true
     }
 }
@@ -327,18 +276,34 @@ impl<T: Drop> LruUnit<T> {
     pub fn admit(&mut self, key: u64, data: T, weight: usize) -> Result<usize, Refused<T>>
         ensures { Admits self.old key «data» weight result self.new }
     {
-        let Some(place) = self.rows.place_of(key) else {
+        let Some(place) = self.rows.find(&key) else {
             return self.admit_new(key, data, weight);
         };
-        let old = self.rows.held(place).weight;
+        let old = self.rows.weight_at(place);
         let rest = self.used_weight - old;
         if weight > self.cap - rest {
             return Err(Refused::new(Cause::Weight, data));
         }
-        self.rows.write(place, Held { data, weight });
-        self.order.promote(place);
+        let _replaced = self.rows.replace(place, data);
+        self.rows.set_weight(place, weight);
+        self.rows.promote(place);
         self.used_weight = rest + weight;
         Ok(old)
+    }
+
+    // Why a row more of this weight is refused, whatever memory there is.
+    #[inline(always)]
+    fn allow(&self, weight: usize) -> Result<(), Cause>
+        ensures allowed { IfOk result (λ _. refusal self.now.cap (size_of self.now.rows) (and_row (size_of self.now.rows) weight) ≡ None) }
+        ensures refused { IfErr result (λ cause. refusal self.now.cap (size_of self.now.rows) (and_row (size_of self.now.rows) weight) ≡ Some cause) }
+    {
+        if self.rows.len() >= self.cap.min(MOST_ITEMS) {
+            return Err(Cause::Length);
+        }
+        if weight > self.cap - self.used_weight {
+            return Err(Cause::Weight);
+        }
+        Ok(())
     }
 
     // `admit` of a key that has no row.
@@ -346,19 +311,12 @@ impl<T: Drop> LruUnit<T> {
         requires { row_of self.old.rows key ≡ None }
         ensures { Admits self.old key «data» weight result self.new }
     {
-        let place = match take_place(
-            &mut self.rows,
-            &mut self.order,
-            self.used_weight,
-            self.cap,
-            key,
-            weight,
-            false,
-        ) {
-            Ok(place) => place,
-            Err(cause) => return Err(Refused::new(cause, data)),
-        };
-        self.rows.put(key, place, Held { data, weight });
+        if let Err(cause) = self.allow(weight) {
+            return Err(Refused::new(cause, data));
+        }
+        if let Err(unpushed) = self.rows.push_first(key, data, weight) {
+            return Err(Refused::new(Cause::Memory, unpushed.value));
+        }
         self.used_weight += weight;
         Ok(0)
     }
@@ -371,22 +329,15 @@ impl<T: Drop> LruUnit<T> {
     pub fn insert_tail(&mut self, key: u64, data: T, weight: usize) -> Result<bool, Refused<T>>
         ensures { InsertsTail self.old key «data» weight result self.new }
     {
-        if self.rows.place_of(key).is_some() {
+        if self.rows.find(&key).is_some() {
             return Ok(false);
         }
-        let place = match take_place(
-            &mut self.rows,
-            &mut self.order,
-            self.used_weight,
-            self.cap,
-            key,
-            weight,
-            true,
-        ) {
-            Ok(place) => place,
-            Err(cause) => return Err(Refused::new(cause, data)),
-        };
-        self.rows.put(key, place, Held { data, weight });
+        if let Err(cause) = self.allow(weight) {
+            return Err(Refused::new(cause, data));
+        }
+        if let Err(unpushed) = self.rows.push_last(key, data, weight) {
+            return Err(Refused::new(Cause::Memory, unpushed.value));
+        }
         self.used_weight += weight;
         Ok(true)
     }
@@ -408,21 +359,21 @@ impl<T: Drop> LruUnit<T> {
         requires { F.IsAlwaysCallable admit_data }
         ensures { IncrementsWeight (F.post admit_data) self.old key delta max_weight result self.new }
     {
-        let Some(place) = self.rows.place_of(key) else {
+        let Some(place) = self.rows.find(&key) else {
             let weight = started(delta, max_weight);
             if let Err(cause) = self.admit_made(key, admit_data, weight) {
                 return Err(cause);
             }
             return Ok((0, weight, true));
         };
-        let old = self.rows.held(place).weight;
+        let old = self.rows.weight_at(place);
         let weight = raised(old, delta, max_weight);
         let rest = self.used_weight - old;
         if weight > self.cap - rest {
             return Err(Cause::Weight);
         }
         self.rows.set_weight(place, weight);
-        self.order.promote(place);
+        self.rows.promote(place);
         self.used_weight = rest + weight;
         Ok((old, weight, false))
     }
@@ -438,20 +389,14 @@ impl<T: Drop> LruUnit<T> {
         requires callable { F.IsAlwaysCallable admit_data }
         ensures { AdmitsMade (F.post admit_data) self.old key weight result self.new }
     {
-        let place = match take_place(
-            &mut self.rows,
-            &mut self.order,
-            self.used_weight,
-            self.cap,
-            key,
-            weight,
-            false,
-        ) {
-            Ok(place) => place,
-            Err(cause) => return Err(cause),
-        };
+        if let Err(cause) = self.allow(weight) {
+            return Err(cause);
+        }
+        if self.rows.make_vacancy().is_err() {
+            return Err(Cause::Memory);
+        }
         let data = admit_data();
-        self.rows.put(key, place, Held { data, weight });
+        put_vacant(&mut self.rows, key, data, weight);
         self.used_weight += weight;
         Ok(())
     }
@@ -478,23 +423,23 @@ impl<T: Drop> LruUnit<T> {
         requires admit_data { A.IsAlwaysCallable admit_data }
         ensures { UpdatesOrAdmits (Updates (U.post update)) (A.post admit_data) self.old key result self.new }
     {
-        let Some(place) = self.rows.place_of(key) else {
+        let Some(place) = self.rows.find(&key) else {
             return self.admit_given(key, admit_data);
         };
-        let old = self.rows.held(place).weight;
+        let old = self.rows.weight_at(place);
         let weight = self.rows.update(place, update).max(1);
         let rest = self.used_weight - old;
         if weight > self.cap - rest {
             return Err(RefusedUpdate::new(Cause::Weight, weight, None));
         }
         self.rows.set_weight(place, weight);
-        self.order.promote(place);
+        self.rows.promote(place);
         self.used_weight = rest + weight;
         Ok((Some(old), weight))
     }
 
-    // `update_or_admit` of a key that has no row. The key's place in the order is taken before the closure is
-    // called, so that nothing but its weight can be refused afterwards, and is given back where that is.
+    // `update_or_admit` of a key that has no row. A place is made sure of before the closure is called, so that nothing
+    // but the weight can be refused afterwards.
     fn admit_given<A: FnOnce() -> (T, usize) + Drop>(
         &mut self,
         key: u64,
@@ -504,26 +449,19 @@ impl<T: Drop> LruUnit<T> {
         requires callable { A.IsAlwaysCallable admit_data }
         ensures { AdmitsGiven (A.post admit_data) self.old key result self.new }
     {
-        let place = match take_place(
-            &mut self.rows,
-            &mut self.order,
-            self.used_weight,
-            self.cap,
-            key,
-            0,
-            false,
-        ) {
-            Ok(place) => place,
-            Err(cause) => return Err(RefusedUpdate::new(cause, 0, None)),
-        };
+        if let Err(cause) = self.allow(0) {
+            return Err(RefusedUpdate::new(cause, 0, None));
+        }
+        if self.rows.make_vacancy().is_err() {
+            return Err(RefusedUpdate::new(Cause::Memory, 0, None));
+        }
         let (data, given) = admit_data();
         let weight = given.max(1);
         if weight > self.cap - self.used_weight {
-            self.order.remove(place);
             let held = Some((data, given));
             return Err(RefusedUpdate::new(Cause::Weight, weight, held));
         }
-        self.rows.put(key, place, Held { data, weight });
+        put_vacant(&mut self.rows, key, data, weight);
         self.used_weight += weight;
         Ok((None, weight))
     }
@@ -535,10 +473,10 @@ impl<T: Drop> LruUnit<T> {
     pub fn set_weight(&mut self, key: u64, weight: usize) -> Result<Option<usize>, Cause>
         ensures { SetsWeight self.old key weight result self.new }
     {
-        let Some(place) = self.rows.place_of(key) else {
+        let Some(place) = self.rows.find(&key) else {
             return Ok(None);
         };
-        let old = self.rows.held(place).weight;
+        let old = self.rows.weight_at(place);
         let rest = self.used_weight - old;
         if weight > self.cap - rest {
             return Err(Cause::Weight);
@@ -553,11 +491,9 @@ impl<T: Drop> LruUnit<T> {
         ensures answer { result ≡ option_map pair_of (row_of self.old.rows key) }
         ensures rows { self.new ≡ shard (without self.old.rows key) self.old.cap }
     {
-        let place = self.rows.forget(key)?;
-        let Held { data, weight } = self.rows.take(place);
-        self.order.remove(place);
-        self.used_weight -= weight;
-        Some((data, weight))
+        let taken = self.rows.remove(&key)?;
+        self.used_weight -= taken.weight;
+        Some((taken.value, taken.weight))
     }
 
     /// Moves a key's row out of `from`, puts it first here, and answers its weight; `None` where `from` has no
@@ -572,22 +508,16 @@ impl<T: Drop> LruUnit<T> {
         let Some(weight) = from.peek_weight(key) else {
             return Ok(None);
         };
-        let place = match take_place(
-            &mut self.rows,
-            &mut self.order,
-            self.used_weight,
-            self.cap,
-            key,
-            weight,
-            false,
-        ) {
-            Ok(place) => place,
-            Err(cause) => return Err(cause),
-        };
+        if let Err(cause) = self.allow(weight) {
+            return Err(cause);
+        }
+        if self.rows.make_vacancy().is_err() {
+            return Err(Cause::Memory);
+        }
         let Some((data, _)) = from.remove(key) else {
             unreachable!()
         };
-        self.rows.put(key, place, Held { data, weight });
+        put_vacant(&mut self.rows, key, data, weight);
         self.used_weight += weight;
         Ok(Some(weight))
     }
@@ -597,32 +527,24 @@ impl<T: Drop> LruUnit<T> {
         ensures answer { result ≡ option_map pair_of (last_row self.old.rows) }
         ensures rows { self.new ≡ shard (without_last self.old.rows) self.old.cap }
     {
-        let key = self.order.pop_tail()?;
-        let Some(place) = self.rows.forget(key) else {
-            unreachable!()
-        };
-        let Held { data, weight } = self.rows.take(place);
-        self.used_weight -= weight;
-        Some((data, weight))
+        let taken = self.rows.pop_last()?;
+        self.used_weight -= taken.weight;
+        Some((taken.value, taken.weight))
     }
 }
 
 /// The data and the weight of each row that is left to give, most recent first.
 #[derive(Drop)]
 pub struct LruUnitIter<'a, T> {
-    places: LinkedListIndices<'a, u64>,
-    rows: &'a Rows<T>,
+    rows: RowsIter<'a, u64, T>,
 }
 
 impl<'a, T> Model for LruUnitIter<'a, T> {
     ghost use Rattle.std.specs.Prelude.{List, ℕ};
-    ghost use Rattle.lru_shard.specs.Representation.Slots.{pairs_at, HoldsAll};
 
     ghost Value = { List (T × ℕ) };
 
-    ghost view = { λ i. pairs_at i.rows.now.slots.items i.places };
-
-    ghost invariant = { λ i. HoldsAll i.rows.now.slots.items i.places };
+    ghost view = { λ i. i.rows };
 }
 
 impl<'a, T> Iterator for LruUnitIter<'a, T> {
@@ -639,9 +561,7 @@ impl<'a, T> Iterator for LruUnitIter<'a, T> {
     ghost remaining = { λ rest. at_most (length rest) };
 
     fn next(&mut self) -> Option<(&'a T, usize)> {
-        let place = self.places.next()?;
-        let held = self.rows.held(place);
-        Some((&held.data, held.weight))
+        self.rows.next()
     }
 
     fn size_hint(&self) -> (usize, Option<usize>)
@@ -649,7 +569,7 @@ impl<'a, T> Iterator for LruUnitIter<'a, T> {
         ensures upper { IfSome result.1 (UpTo (at_most (length self.now))) }
         ensures exact { result ≡ (length self.now, Some (length self.now)) }
     {
-        self.places.size_hint()
+        self.rows.size_hint()
     }
 }
 
@@ -660,15 +580,13 @@ impl<'a, T> DoubleEndedIterator for LruUnitIter<'a, T> {
     ghost next_back_gives = { TakesLast shown };
 
     fn next_back(&mut self) -> Option<(&'a T, usize)> {
-        let place = self.places.next_back()?;
-        let held = self.rows.held(place);
-        Some((&held.data, held.weight))
+        self.rows.next_back()
     }
 }
 
 impl<'a, T> ExactSizeIterator for LruUnitIter<'a, T> {
     fn len(&self) -> usize {
-        self.places.len()
+        self.rows.len()
     }
 }
 

@@ -1,44 +1,25 @@
-use Rattle.std.proofs.Common.{◌+◌, ◌-◌, refl, sym, ap}
-use Rattle.std.specs.Prelude.{nat_eq}
-use Rattle.std.specs.HashMap as hash
-use Rattle.lru_shard.specs.Representation.Slots.{held}
-use Rattle.lru_shard.specs.Representation.Table.{place_in}
-use Rattle.lru_shard.proofs.Kept.{held_range}
-use Rattle.lru_shard.proofs.NewRows.{no_row_in}
-use Rattle.lru_shard.proofs.PresentRows.{part_in, live_in, weight_there, refuses_heavy, kept_promoted, accepts_promoted}
+use Rattle.std.proofs.Common.{refl}
+use Rattle.lru_shard.proofs.PresentRows.{at_place, part_read, weight_there, refuses_heavy, at_valued, at_weighted, at_first, still_at, kept_first, accepts_first}
+use Rattle.lru_shard.proofs.Views.{no_row_in}
 use Rattle.lru_shard.proofs.unit.LruUnit.admit.Goals as goal
 
 pub admit_new-requires : goal.admit_new-requires
-admit_new-requires g c =
-    let i = c.self.inside in
-    no_row_in (place_in i.rows) i.rows.slots.items i.order i.used_weight i.cap c.self.invariant c.args.self.now c.self.view_is c.args.key (sym c.in_default.ensures)
+admit_new-requires g c = no_row_in c.self.inside.rows c.self.inside.used_weight c.self.inside.cap c.self.invariant c.args.self.now c.self.view_is c.args.key c.in_default.ensures.finds
 
 pub overflow_sub-rest : goal.overflow_sub-rest
-overflow_sub-rest g c =
-    let i = c.self.inside in
-    part_in (place_in i.rows) i.rows.slots.items i.order i.used_weight i.cap c.self.invariant c.args.self.now c.self.view_is c.args.key c.in-Some.place c.in-Some.ensures c.held.result.now c.held.ensures
+overflow_sub-rest g c = part_read c.self.inside.rows c.self.inside.used_weight c.self.inside.cap c.self.invariant c.args.self.now c.self.view_is c.in-Some.ensures.valid c.args.key c.in-Some.place c.in-Some.ensures.finds c.weight_at-old.result c.weight_at-old.ensures
 
 pub returns-then-weight-self : goal.returns-then-weight-self
-returns-then-weight-self g c =
-    let i = c.self.inside in
-    refuses_heavy (place_in i.rows) i.rows.slots.items i.order i.used_weight i.cap c.self.invariant c.args.self.now c.self.view_is c.args.key c.in-Some.place c.in-Some.ensures c.held.result.now c.held.ensures c.args.weight c.if-weight-self.true c.args.«data» c.new.result c.new.ensures.cause c.new.ensures.held
+returns-then-weight-self g c = refuses_heavy c.self.inside.rows c.self.inside.used_weight c.self.inside.cap c.self.invariant c.args.self.now c.self.view_is c.in-Some.ensures.valid c.args.key c.in-Some.place c.in-Some.ensures.finds c.weight_at-old.result c.weight_at-old.ensures c.args.weight c.if-weight-self.true c.args.«data» c.new.result c.new.ensures.cause c.new.ensures.held
 
-pub write-requires : goal.write-requires
-write-requires g c = held_range c.self.inside.rows.slots.items c.in-Some.place c.held.result.now c.held.ensures
+pub set_weight-requires : goal.set_weight-requires
+set_weight-requires g c = still_at c.self.inside.rows c.self.inside.used_weight c.self.inside.cap c.self.invariant c.args.self.now c.self.view_is c.in-Some.ensures.valid c.args.key c.in-Some.place c.in-Some.ensures.finds _ c.replace-replaced.new.self (at_valued c.self.inside.rows c.self.inside.used_weight c.self.inside.cap c.self.invariant c.args.self.now c.self.view_is c.in-Some.ensures.valid c.args.key c.in-Some.place c.in-Some.ensures.finds c.args.«data» c.replace-replaced.new.self c.replace-replaced.ensures.rows)
 
 pub promote-requires : goal.promote-requires
-promote-requires g c =
-    let i = c.self.inside in
-    live_in (place_in i.rows) i.rows.slots.items i.order i.used_weight i.cap c.self.invariant c.args.self.now c.self.view_is c.args.key c.in-Some.place c.in-Some.ensures c.held.result.now c.held.ensures
+promote-requires g c = still_at c.self.inside.rows c.self.inside.used_weight c.self.inside.cap c.self.invariant c.args.self.now c.self.view_is c.in-Some.ensures.valid c.args.key c.in-Some.place c.in-Some.ensures.finds _ c.set_weight.new.self (at_weighted c.self.inside.rows c.self.inside.used_weight c.self.inside.cap c.self.invariant c.args.self.now c.self.view_is c.in-Some.ensures.valid c.args.key c.in-Some.place c.in-Some.ensures.finds c.args.«data» c.args.weight c.in-Some.ensures.finds.0.weight c.replace-replaced.new.self c.set_weight.new.self (at_valued c.self.inside.rows c.self.inside.used_weight c.self.inside.cap c.self.invariant c.args.self.now c.self.view_is c.in-Some.ensures.valid c.args.key c.in-Some.place c.in-Some.ensures.finds c.args.«data» c.replace-replaced.new.self c.replace-replaced.ensures.rows) c.set_weight.ensures)
 
 pub invariant_of-self : goal.invariant_of-self
-invariant_of-self g c =
-    let i = c.self.inside in
-    kept_promoted (place_in i.rows) i.rows.slots.items i.order i.used_weight i.cap c.self.invariant c.args.self.now c.self.view_is c.args.key c.in-Some.place c.in-Some.ensures c.held.result.now c.held.ensures (held c.args.«data» c.args.weight) (place_in c.write.new.self) (ap (hash.get nat_eq) c.write.ensures.places) c.write.new.self.slots.items c.write.ensures.slots (i.used_weight - c.held.result.now.weight + c.args.weight) (refl, c.if-weight-self.false) c.promote.new.self c.promote.ensures.promotes c.promote.ensures.numbered
+invariant_of-self g c = kept_first c.self.inside.rows c.self.inside.used_weight c.self.inside.cap c.self.invariant c.args.self.now c.self.view_is c.in-Some.ensures.valid c.args.key c.in-Some.place c.in-Some.ensures.finds c.weight_at-old.result c.weight_at-old.ensures c.args.«data» c.args.weight c.if-weight-self.false c.promote.new.self (at_first c.self.inside.rows c.self.inside.used_weight c.self.inside.cap c.self.invariant c.args.self.now c.self.view_is c.in-Some.ensures.valid c.args.key c.in-Some.place c.in-Some.ensures.finds c.args.«data» c.args.weight c.set_weight.new.self c.promote.new.self (at_weighted c.self.inside.rows c.self.inside.used_weight c.self.inside.cap c.self.invariant c.args.self.now c.self.view_is c.in-Some.ensures.valid c.args.key c.in-Some.place c.in-Some.ensures.finds c.args.«data» c.args.weight c.in-Some.ensures.finds.0.weight c.replace-replaced.new.self c.set_weight.new.self (at_valued c.self.inside.rows c.self.inside.used_weight c.self.inside.cap c.self.invariant c.args.self.now c.self.view_is c.in-Some.ensures.valid c.args.key c.in-Some.place c.in-Some.ensures.finds c.args.«data» c.replace-replaced.new.self c.replace-replaced.ensures.rows) c.set_weight.ensures) c.promote.ensures) _ refl
 
 pub returns : goal.returns
-returns g c =
-    let i = c.self.inside in (
-      weight_there (place_in i.rows) i.rows.slots.items i.order i.used_weight i.cap c.self.invariant c.args.self.now c.self.view_is c.args.key c.in-Some.place c.in-Some.ensures c.held.result.now c.held.ensures,
-      accepts_promoted (place_in i.rows) i.rows.slots.items i.order i.used_weight i.cap c.self.invariant c.args.self.now c.self.view_is c.args.key c.in-Some.place c.in-Some.ensures c.held.result.now c.held.ensures (held c.args.«data» c.args.weight) (place_in c.write.new.self) (ap (hash.get nat_eq) c.write.ensures.places) c.write.new.self.slots.items c.write.ensures.slots (i.used_weight - c.held.result.now.weight + c.args.weight) (refl, c.if-weight-self.false) c.promote.new.self c.promote.ensures.promotes,
-    )
+returns g c = (weight_there c.self.inside.rows c.self.inside.used_weight c.self.inside.cap c.self.invariant c.args.self.now c.self.view_is c.in-Some.ensures.valid c.args.key c.in-Some.place c.in-Some.ensures.finds c.weight_at-old.result c.weight_at-old.ensures, accepts_first c.self.inside.rows c.self.inside.used_weight c.self.inside.cap c.self.invariant c.args.self.now c.self.view_is c.in-Some.ensures.valid c.args.key c.in-Some.place c.in-Some.ensures.finds c.weight_at-old.result c.weight_at-old.ensures c.args.«data» c.args.weight c.if-weight-self.false c.promote.new.self (at_first c.self.inside.rows c.self.inside.used_weight c.self.inside.cap c.self.invariant c.args.self.now c.self.view_is c.in-Some.ensures.valid c.args.key c.in-Some.place c.in-Some.ensures.finds c.args.«data» c.args.weight c.set_weight.new.self c.promote.new.self (at_weighted c.self.inside.rows c.self.inside.used_weight c.self.inside.cap c.self.invariant c.args.self.now c.self.view_is c.in-Some.ensures.valid c.args.key c.in-Some.place c.in-Some.ensures.finds c.args.«data» c.args.weight c.in-Some.ensures.finds.0.weight c.replace-replaced.new.self c.set_weight.new.self (at_valued c.self.inside.rows c.self.inside.used_weight c.self.inside.cap c.self.invariant c.args.self.now c.self.view_is c.in-Some.ensures.valid c.args.key c.in-Some.place c.in-Some.ensures.finds c.args.«data» c.replace-replaced.new.self c.replace-replaced.ensures.rows) c.set_weight.ensures) c.promote.ensures))

@@ -1,33 +1,22 @@
-use Rattle.lru_shard.specs.Representation.Slots.{held}
-use Rattle.lru_shard.specs.Representation.Table.{place_in}
-use Rattle.lru_shard.proofs.Kept.{kept_left, slot_there}
-use Rattle.lru_shard.proofs.NewRows.{refuses_first, kept_first, accepts_first}
-use Rattle.lru_shard.proofs.UnitCalls.{no_weight}
+use Rattle.lru_shard.specs.Shard.{size_of, and_row}
+use Rattle.std.proofs.Common.{refl, sym, ap, not, ◌∙◌}
+use Rattle.lru_shard.specs.declared.unit.Cause.TheVariants.{Memory}
+use Rattle.lru_shard.proofs.Views.{no_row_in, found_some}
+use Rattle.lru_shard.proofs.NewRows.{refuses_first, may_memory, unplaced_in, view_vacant, kept_first, accepts_first}
+use Rattle.lru_shard.proofs.UnitCalls.{may_refuse, no_weight}
 use Rattle.lru_shard.proofs.unit.LruUnit.admit_new.Goals as goal
 
-pub invariant_of-self : goal.invariant_of-self
-invariant_of-self g c =
-    let i = c.self.inside in
-    kept_left (place_in i.rows) i.rows.slots.items i.order i.used_weight i.cap c.self.invariant (place_in c.take_place.new.rows) c.take_place.new.rows.slots.items c.in-Err.ensures.places c.in-Err.ensures.held c.in-Err.ensures.wide c.in-Err.ensures.few c.take_place.new.order c.in-Err.ensures.left
-
-pub put-requires-clause-slot : goal.put-requires-clause-slot
-put-requires-clause-slot g c =
-    let i = c.self.inside in
-    slot_there (place_in i.rows) i.rows.slots.items i.order i.used_weight i.cap c.self.invariant (place_in c.take_place.new.rows) c.take_place.new.rows.slots.items c.in-Ok.ensures.places c.in-Ok.ensures.held c.in-Ok.ensures.wide c.in-Ok.ensures.few c.in-Ok.ensures.room.1 c.in-Ok.place c.in-Ok.ensures.place
-
 pub returns-in-Err : goal.returns-in-Err
-returns-in-Err g c =
-    let i = c.self.inside in
-    refuses_first (place_in i.rows) i.rows.slots.items i.order i.used_weight i.cap c.self.invariant c.args.self.now c.self.view_is (place_in c.take_place.new.rows) c.take_place.new.rows.slots.items c.in-Err.ensures.places c.in-Err.ensures.held c.in-Err.ensures.wide c.in-Err.ensures.few c.args.key c.requires c.take_place.new.order c.in-Err.ensures.left c.args.weight c.in-Err.cause c.in-Err.ensures.refused c.args.«data» c.new.result c.new.ensures.cause c.new.ensures.held
+returns-in-Err g c = refuses_first c.self.inside.rows c.self.inside.used_weight c.self.inside.cap c.self.invariant c.args.self.now c.self.view_is c.args.weight c.in-Err.cause (may_refuse c.args.self.now.cap (size_of c.args.self.now.rows) (and_row (size_of c.args.self.now.rows) c.args.weight) c.in-Err.cause c.in-Err.ensures.refused) c.args.key c.requires c.args.«data» c.new.result c.new.ensures.cause c.new.ensures.held c.args.self.now refl
+
+pub push_first-requires : goal.push_first-requires
+push_first-requires g c = unplaced_in c.self.inside.rows c.self.inside.used_weight c.self.inside.cap c.self.invariant c.args.self.now c.self.view_is c.args.key c.requires
+
+pub returns-in-Err-push_first : goal.returns-in-Err-push_first
+returns-in-Err-push_first g c = refuses_first c.self.inside.rows c.self.inside.used_weight c.self.inside.cap c.self.invariant c.args.self.now c.self.view_is c.args.weight Memory (may_memory c.self.inside.rows c.self.inside.used_weight c.self.inside.cap c.self.invariant c.args.self.now c.self.view_is c.args.weight c.in_default.ensures.allowed) c.args.key c.requires c.args.«data» c.new-in-Err-push_first.result c.new-in-Err-push_first.ensures.cause (c.new-in-Err-push_first.ensures.held ∙ c.in-Err-push_first.ensures.2) _ (view_vacant c.self.inside.rows c.self.inside.used_weight c.self.inside.cap c.self.invariant c.args.self.now c.self.view_is c.push_first.new.self (ap (λ x. x.rows) c.in-Err-push_first.ensures.3))
 
 pub invariant_of-self-2 : goal.invariant_of-self-2
-invariant_of-self-2 g c =
-    let i = c.self.inside in
-    kept_first (place_in i.rows) i.rows.slots.items i.order i.used_weight i.cap c.self.invariant c.args.self.now c.self.view_is (place_in c.take_place.new.rows) c.take_place.new.rows.slots.items c.in-Ok.ensures.places c.in-Ok.ensures.held c.in-Ok.ensures.wide c.in-Ok.ensures.few c.args.key c.requires c.in-Ok.ensures.room.1 c.in-Ok.place c.in-Ok.ensures.place (held c.args.«data» c.args.weight) (place_in c.put.new.self) c.put.new.self.slots.items c.put.ensures.places c.put.ensures.slots c.take_place.new.order c.in-Ok.ensures.numbered c.in-Ok.ensures.allowed c.in-Ok.ensures.pushed
+invariant_of-self-2 g c = kept_first c.self.inside.rows c.self.inside.used_weight c.self.inside.cap c.self.invariant c.args.self.now c.self.view_is c.args.key c.requires c.args.«data» c.args.weight c.in_default.ensures.allowed c.in_default-push_first.field-0 c.push_first.new.self (ap (λ x. x.rows) c.in_default-push_first.ensures.2)
 
 pub returns : goal.returns
-returns g c =
-    let i = c.self.inside in (
-      no_weight c.args.self.now.rows c.args.key c.requires i.cap c.args.«data» c.args.weight,
-      accepts_first (place_in i.rows) i.rows.slots.items i.order i.used_weight i.cap c.self.invariant c.args.self.now c.self.view_is (place_in c.take_place.new.rows) c.take_place.new.rows.slots.items c.in-Ok.ensures.places c.in-Ok.ensures.held c.in-Ok.ensures.wide c.in-Ok.ensures.few c.args.key c.requires c.in-Ok.ensures.room.1 c.in-Ok.place c.in-Ok.ensures.place (held c.args.«data» c.args.weight) (place_in c.put.new.self) c.put.new.self.slots.items c.put.ensures.places c.put.ensures.slots c.take_place.new.order c.in-Ok.ensures.numbered c.in-Ok.ensures.allowed c.in-Ok.ensures.pushed,
-    )
+returns g c = (no_weight c.args.self.now.rows c.args.key c.requires c.args.self.now.cap c.args.«data» c.args.weight, accepts_first c.self.inside.rows c.self.inside.used_weight c.self.inside.cap c.self.invariant c.args.self.now c.self.view_is c.args.key c.requires c.args.«data» c.args.weight c.in_default.ensures.allowed c.in_default-push_first.field-0 c.push_first.new.self (ap (λ x. x.rows) c.in_default-push_first.ensures.2))

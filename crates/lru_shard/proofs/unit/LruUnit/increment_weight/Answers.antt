@@ -1,50 +1,30 @@
-use Rattle.std.proofs.Common.{◌+◌, ◌-◌, refl, sym, ap}
-use Rattle.std.specs.Prelude.{nat_eq}
-use Rattle.std.specs.HashMap as hash
-use Rattle.lru_shard.specs.Representation.Slots.{held}
-use Rattle.lru_shard.specs.Representation.Table.{place_in}
+use Rattle.std.proofs.Common.{refl}
 use Rattle.lru_shard.specs.Row.{row}
-use Rattle.lru_shard.proofs.NewRows.{no_row_in}
-use Rattle.lru_shard.proofs.PresentRows.{part_in, live_in, row_there, heavy_there, kept_promoted, accepts_promoted}
+use Rattle.lru_shard.proofs.Views.{no_row_in}
+use Rattle.lru_shard.proofs.PresentRows.{part_read, row_read, heavy_there, at_own, at_first, still_at, kept_first, accepts_first}
 use Rattle.lru_shard.proofs.UnitCalls.{increments_new, increments_no, increments, increments_heavy}
 use Rattle.lru_shard.proofs.unit.LruUnit.increment_weight.Goals as goal
 
 pub admit_made-requires-clause-absent : goal.admit_made-requires-clause-absent
-admit_made-requires-clause-absent g c =
-    let i = c.self.inside in
-    no_row_in (place_in i.rows) i.rows.slots.items i.order i.used_weight i.cap c.self.invariant c.args.self.now c.self.view_is c.args.key (sym c.in_default.ensures)
+admit_made-requires-clause-absent g c = no_row_in c.self.inside.rows c.self.inside.used_weight c.self.inside.cap c.self.invariant c.args.self.now c.self.view_is c.args.key c.in_default.ensures.finds
 
 pub returns-in-Err : goal.returns-in-Err
-returns-in-Err g c =
-    let i = c.self.inside in
-    increments_no _ c.args.self.now c.args.self.now c.args.key c.args.delta c.args.max_weight refl (no_row_in (place_in i.rows) i.rows.slots.items i.order i.used_weight i.cap c.self.invariant c.args.self.now c.self.view_is c.args.key (sym c.in_default.ensures)) c.started-weight.result c.started-weight.ensures c.admit_made.new.self c.in-Err.cause c.in-Err.ensures
+returns-in-Err g c = increments_no _ c.args.self.now c.args.self.now c.args.key c.args.delta c.args.max_weight refl (no_row_in c.self.inside.rows c.self.inside.used_weight c.self.inside.cap c.self.invariant c.args.self.now c.self.view_is c.args.key c.in_default.ensures.finds) c.started-weight.result c.started-weight.ensures c.admit_made.new.self c.in-Err.cause c.in-Err.ensures
 
 pub returns-in_default : goal.returns-in_default
-returns-in_default g c =
-    let i = c.self.inside in
-    increments_new _ c.args.self.now c.args.self.now c.args.key c.args.delta c.args.max_weight refl (no_row_in (place_in i.rows) i.rows.slots.items i.order i.used_weight i.cap c.self.invariant c.args.self.now c.self.view_is c.args.key (sym c.in_default.ensures)) c.started-weight.result c.started-weight.ensures c.admit_made.new.self c.in_default-admit_made.ensures
+returns-in_default g c = increments_new _ c.args.self.now c.args.self.now c.args.key c.args.delta c.args.max_weight refl (no_row_in c.self.inside.rows c.self.inside.used_weight c.self.inside.cap c.self.invariant c.args.self.now c.self.view_is c.args.key c.in_default.ensures.finds) c.started-weight.result c.started-weight.ensures c.admit_made.new.self c.in_default-admit_made.ensures
 
 pub overflow_sub-rest : goal.overflow_sub-rest
-overflow_sub-rest g c =
-    let i = c.self.inside in
-    part_in (place_in i.rows) i.rows.slots.items i.order i.used_weight i.cap c.self.invariant c.args.self.now c.self.view_is c.args.key c.in-Some.place c.in-Some.ensures c.held.result.now c.held.ensures
+overflow_sub-rest g c = part_read c.self.inside.rows c.self.inside.used_weight c.self.inside.cap c.self.invariant c.args.self.now c.self.view_is c.in-Some.ensures.valid c.args.key c.in-Some.place c.in-Some.ensures.finds c.weight_at-old.result c.weight_at-old.ensures
 
 pub returns-then-weight-self : goal.returns-then-weight-self
-returns-then-weight-self g c =
-    let i = c.self.inside in
-    increments_heavy _ c.args.self.now c.args.key c.args.delta c.args.max_weight (row c.args.key c.held.result.now.«data» c.held.result.now.weight) (row_there (place_in i.rows) i.rows.slots.items i.order i.used_weight i.cap c.self.invariant c.args.self.now c.self.view_is c.args.key c.in-Some.place c.in-Some.ensures c.held.result.now c.held.ensures) c.raised-weight.result c.raised-weight.ensures _ (heavy_there (place_in i.rows) i.rows.slots.items i.order i.used_weight i.cap c.self.invariant c.args.self.now c.self.view_is c.args.key c.in-Some.place c.in-Some.ensures c.held.result.now c.held.ensures c.raised-weight.result c.if-weight-self.true c.held.result.now.«data») refl
+returns-then-weight-self g c = increments_heavy _ c.args.self.now c.args.key c.args.delta c.args.max_weight (row c.args.key c.in-Some.ensures.finds.0.value c.weight_at-old.result) (row_read c.self.inside.rows c.self.inside.used_weight c.self.inside.cap c.self.invariant c.args.self.now c.self.view_is c.in-Some.ensures.valid c.args.key c.in-Some.place c.in-Some.ensures.finds c.weight_at-old.result c.weight_at-old.ensures) c.raised-weight.result c.raised-weight.ensures _ (heavy_there c.self.inside.rows c.self.inside.used_weight c.self.inside.cap c.self.invariant c.args.self.now c.self.view_is c.in-Some.ensures.valid c.args.key c.in-Some.place c.in-Some.ensures.finds c.weight_at-old.result c.weight_at-old.ensures c.raised-weight.result c.if-weight-self.true c.in-Some.ensures.finds.0.value) refl
 
 pub promote-requires : goal.promote-requires
-promote-requires g c =
-    let i = c.self.inside in
-    live_in (place_in i.rows) i.rows.slots.items i.order i.used_weight i.cap c.self.invariant c.args.self.now c.self.view_is c.args.key c.in-Some.place c.in-Some.ensures c.held.result.now c.held.ensures
+promote-requires g c = still_at c.self.inside.rows c.self.inside.used_weight c.self.inside.cap c.self.invariant c.args.self.now c.self.view_is c.in-Some.ensures.valid c.args.key c.in-Some.place c.in-Some.ensures.finds _ c.set_weight.new.self (at_own c.self.inside.rows c.self.inside.used_weight c.self.inside.cap c.self.invariant c.args.self.now c.self.view_is c.in-Some.ensures.valid c.args.key c.in-Some.place c.in-Some.ensures.finds c.raised-weight.result c.set_weight.new.self c.set_weight.ensures)
 
 pub invariant_of-self : goal.invariant_of-self
-invariant_of-self g c =
-    let i = c.self.inside in
-    kept_promoted (place_in i.rows) i.rows.slots.items i.order i.used_weight i.cap c.self.invariant c.args.self.now c.self.view_is c.args.key c.in-Some.place c.in-Some.ensures c.held.result.now c.held.ensures (held c.held.result.now.«data» c.raised-weight.result) (place_in c.set_weight.new.self) (ap (hash.get nat_eq) c.set_weight.ensures.places) c.set_weight.new.self.slots.items (c.set_weight.ensures.slots c.held.result.now c.held.ensures) (i.used_weight - c.held.result.now.weight + c.raised-weight.result) (refl, c.if-weight-self.false) c.promote.new.self c.promote.ensures.promotes c.promote.ensures.numbered
+invariant_of-self g c = kept_first c.self.inside.rows c.self.inside.used_weight c.self.inside.cap c.self.invariant c.args.self.now c.self.view_is c.in-Some.ensures.valid c.args.key c.in-Some.place c.in-Some.ensures.finds c.weight_at-old.result c.weight_at-old.ensures c.in-Some.ensures.finds.0.value c.raised-weight.result c.if-weight-self.false c.promote.new.self (at_first c.self.inside.rows c.self.inside.used_weight c.self.inside.cap c.self.invariant c.args.self.now c.self.view_is c.in-Some.ensures.valid c.args.key c.in-Some.place c.in-Some.ensures.finds c.in-Some.ensures.finds.0.value c.raised-weight.result c.set_weight.new.self c.promote.new.self (at_own c.self.inside.rows c.self.inside.used_weight c.self.inside.cap c.self.invariant c.args.self.now c.self.view_is c.in-Some.ensures.valid c.args.key c.in-Some.place c.in-Some.ensures.finds c.raised-weight.result c.set_weight.new.self c.set_weight.ensures) c.promote.ensures) _ refl
 
 pub returns : goal.returns
-returns g c =
-    let i = c.self.inside in
-    increments _ c.args.self.now c.args.key c.args.delta c.args.max_weight (row c.args.key c.held.result.now.«data» c.held.result.now.weight) (row_there (place_in i.rows) i.rows.slots.items i.order i.used_weight i.cap c.self.invariant c.args.self.now c.self.view_is c.args.key c.in-Some.place c.in-Some.ensures c.held.result.now c.held.ensures) c.raised-weight.result c.raised-weight.ensures _ (accepts_promoted (place_in i.rows) i.rows.slots.items i.order i.used_weight i.cap c.self.invariant c.args.self.now c.self.view_is c.args.key c.in-Some.place c.in-Some.ensures c.held.result.now c.held.ensures (held c.held.result.now.«data» c.raised-weight.result) (place_in c.set_weight.new.self) (ap (hash.get nat_eq) c.set_weight.ensures.places) c.set_weight.new.self.slots.items (c.set_weight.ensures.slots c.held.result.now c.held.ensures) (i.used_weight - c.held.result.now.weight + c.raised-weight.result) (refl, c.if-weight-self.false) c.promote.new.self c.promote.ensures.promotes)
+returns g c = increments _ c.args.self.now c.args.key c.args.delta c.args.max_weight (row c.args.key c.in-Some.ensures.finds.0.value c.weight_at-old.result) (row_read c.self.inside.rows c.self.inside.used_weight c.self.inside.cap c.self.invariant c.args.self.now c.self.view_is c.in-Some.ensures.valid c.args.key c.in-Some.place c.in-Some.ensures.finds c.weight_at-old.result c.weight_at-old.ensures) c.raised-weight.result c.raised-weight.ensures _ (accepts_first c.self.inside.rows c.self.inside.used_weight c.self.inside.cap c.self.invariant c.args.self.now c.self.view_is c.in-Some.ensures.valid c.args.key c.in-Some.place c.in-Some.ensures.finds c.weight_at-old.result c.weight_at-old.ensures c.in-Some.ensures.finds.0.value c.raised-weight.result c.if-weight-self.false c.promote.new.self (at_first c.self.inside.rows c.self.inside.used_weight c.self.inside.cap c.self.invariant c.args.self.now c.self.view_is c.in-Some.ensures.valid c.args.key c.in-Some.place c.in-Some.ensures.finds c.in-Some.ensures.finds.0.value c.raised-weight.result c.set_weight.new.self c.promote.new.self (at_own c.self.inside.rows c.self.inside.used_weight c.self.inside.cap c.self.invariant c.args.self.now c.self.view_is c.in-Some.ensures.valid c.args.key c.in-Some.place c.in-Some.ensures.finds c.raised-weight.result c.set_weight.new.self c.set_weight.ensures) c.promote.ensures))

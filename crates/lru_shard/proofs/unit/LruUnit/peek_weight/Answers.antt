@@ -1,22 +1,13 @@
-use Rattle.std.proofs.Common.{sym, ap, rules}
-use Rattle.std.specs.Prelude.{option_map}
-use Rattle.lru_shard.specs.Representation.Table.{place_in, look_of, node_of}
-use Rattle.lru_shard.proofs.Kept.{look_none, there}
-use Rattle.lru_shard.proofs.UnitCalls.{found_row, no_row_there}
+use Rattle.std.proofs.Common.{◌∙◌}
+use Rattle.lru_shard.proofs.PresentRows.{at_place, weight_found}
+use Rattle.lru_shard.proofs.Views.{nothing_found}
 use Rattle.lru_shard.proofs.unit.LruUnit.peek_weight.Goals as goal
 
 pub returns-in_err-place : goal.returns-in_err-place
-returns-in_err-place g c =
-    let i = c.self.inside in
-    let look = look_of i.rows in
-    let none = look_none (place_in i.rows) i.rows.slots.items c.args.key (sym c.in_err-place.ensures) in
-    rw (← c.self.view_is) (rw (no_row_there look i.order i.used_weight i.cap c.self.invariant.unit c.args.key none) (search rules))
+returns-in_err-place g c = c.from_residual.ensures ∙ nothing_found c.self.inside.rows c.self.inside.used_weight c.self.inside.cap c.self.invariant c.args.self.now c.self.view_is (λ x. x.weight) c.args.key c.in_err-place.ensures.finds
+
+pub weight_at-requires : goal.weight_at-requires
+weight_at-requires g c = at_place c.self.inside.rows c.self.inside.used_weight c.self.inside.cap c.self.invariant c.args.self.now c.self.view_is c.in_ok-place.ensures.valid c.args.key c.in_ok-place.place c.in_ok-place.ensures.finds
 
 pub returns : goal.returns
-returns g c =
-    let i = c.self.inside in
-    let look = look_of i.rows in
-    let at = sym c.in_ok-place.ensures in
-    let node = node_of c.in_ok-place.place c.held.result.now in
-    let found = there (place_in i.rows) i.rows.slots.items i.order i.used_weight i.cap c.self.invariant c.args.key c.in_ok-place.place at c.held.result.now c.held.ensures in
-    rw (← c.self.view_is) (sym (ap (option_map (λ r. r.weight)) (found_row look i.order i.used_weight i.cap c.self.invariant.unit c.args.key node found)))
+returns g c = weight_found c.self.inside.rows c.self.inside.used_weight c.self.inside.cap c.self.invariant c.args.self.now c.self.view_is c.in_ok-place.ensures.valid c.args.key c.in_ok-place.place c.in_ok-place.ensures.finds c.weight_at.result c.weight_at.ensures

@@ -1,38 +1,28 @@
-use Rattle.std.proofs.Common.{refl}
+use Rattle.lru_shard.specs.Shard.{size_of, and_row}
+use Rattle.std.proofs.Common.{refl, ap, ◌∙◌}
+use Rattle.lru_rows.specs.Rows.{row_of as placed_of}
+use Rattle.std.specs.Prelude.{nat_eq}
+use Rattle.lru_shard.specs.declared.unit.Cause.TheVariants.{Memory}
 use Rattle.lru_shard.specs.Row.{row_of}
-use Rattle.lru_shard.specs.Representation.Slots.{held}
-use Rattle.lru_shard.specs.Representation.Table.{place_in}
-use Rattle.lru_shard.proofs.Kept.{kept_left, slot_there}
-use Rattle.lru_shard.proofs.NewRows.{may_first, left_same, kept_first, accepts_first}
+use Rattle.lru_shard.proofs.NewRows.{vacant_same, view_vacant, put_before, unplaced_in, may_first, may_memory, kept_first, accepts_first}
+use Rattle.lru_shard.proofs.UnitCalls.{may_refuse}
 use Rattle.lru_shard.proofs.Pulls.{not_gone, nothing_pulled, pull_refused, pulled}
 use Rattle.lru_shard.proofs.unit.LruUnit.pull.Goals as goal
 
-pub invariant_of-self : goal.invariant_of-self
-invariant_of-self g c =
-    let i = c.self.inside in
-    kept_left (place_in i.rows) i.rows.slots.items i.order i.used_weight i.cap c.self.invariant (place_in c.take_place.new.rows) c.take_place.new.rows.slots.items c.in-Err.ensures.places c.in-Err.ensures.held c.in-Err.ensures.wide c.in-Err.ensures.few c.take_place.new.order c.in-Err.ensures.left
-
-pub put-requires-clause-slot : goal.put-requires-clause-slot
-put-requires-clause-slot g c =
-    let i = c.self.inside in
-    slot_there (place_in i.rows) i.rows.slots.items i.order i.used_weight i.cap c.self.invariant (place_in c.take_place.new.rows) c.take_place.new.rows.slots.items c.in-Ok.ensures.places c.in-Ok.ensures.held c.in-Ok.ensures.wide c.in-Ok.ensures.few c.in-Ok.ensures.room.1 c.in-Ok.place c.in-Ok.ensures.place
-
 pub returns-in-Err : goal.returns-in-Err
-returns-in-Err g c =
-    let i = c.self.inside in
-    pull_refused c.args.self.now _ c.args.from.now c.args.from.now c.args.key c.in-Some.weight c.in-Some.ensures c.in-Err.cause
-    (may_first (place_in i.rows) i.rows.slots.items i.order i.used_weight i.cap c.self.invariant c.args.self.now c.self.view_is c.in-Some.weight c.in-Err.cause c.in-Err.ensures.refused c.args.key c.requires) (left_same (place_in i.rows) i.rows.slots.items i.order i.used_weight i.cap c.self.invariant c.args.self.now c.self.view_is (place_in c.take_place.new.rows) c.take_place.new.rows.slots.items c.in-Err.ensures.places c.in-Err.ensures.held c.in-Err.ensures.wide c.in-Err.ensures.few c.take_place.new.order c.in-Err.ensures.left) refl
+returns-in-Err g c = pull_refused c.args.self.now _ c.args.from.now c.args.from.now c.args.key c.in-Some.weight c.in-Some.ensures c.in-Err.cause (may_first c.self.inside.rows c.self.inside.used_weight c.self.inside.cap c.self.invariant c.args.self.now c.self.view_is c.in-Some.weight c.in-Err.cause (may_refuse c.args.self.now.cap (size_of c.args.self.now.rows) (and_row (size_of c.args.self.now.rows) c.in-Some.weight) c.in-Err.cause c.in-Err.ensures.refused) c.args.key c.requires) refl refl
+
+pub returns-then-is_err : goal.returns-then-is_err
+returns-then-is_err g c = pull_refused c.args.self.now _ c.args.from.now c.args.from.now c.args.key c.in-Some.weight c.in-Some.ensures Memory (may_first c.self.inside.rows c.self.inside.used_weight c.self.inside.cap c.self.invariant c.args.self.now c.self.view_is c.in-Some.weight Memory (may_memory c.self.inside.rows c.self.inside.used_weight c.self.inside.cap c.self.invariant c.args.self.now c.self.view_is c.in-Some.weight c.in_default-allow.ensures.allowed) c.args.key c.requires) (view_vacant c.self.inside.rows c.self.inside.used_weight c.self.inside.cap c.self.invariant c.args.self.now c.self.view_is c.make_vacancy.new.self (vacant_same c.self.inside.rows c.make_vacancy.new.self c.make_vacancy.result c.make_vacancy.ensures)) refl
+
+pub put_vacant-requires-clause-absent : goal.put_vacant-requires-clause-absent
+put_vacant-requires-clause-absent g c = ap (λ ps. placed_of nat_eq ps c.args.key) (vacant_same c.self.inside.rows c.make_vacancy.new.self c.make_vacancy.result c.make_vacancy.ensures) ∙ unplaced_in c.self.inside.rows c.self.inside.used_weight c.self.inside.cap c.self.invariant c.args.self.now c.self.view_is c.args.key c.requires
 
 pub invariant_of-self-2 : goal.invariant_of-self-2
-invariant_of-self-2 g c =
-    let i = c.self.inside in
-    kept_first (place_in i.rows) i.rows.slots.items i.order i.used_weight i.cap c.self.invariant c.args.self.now c.self.view_is (place_in c.take_place.new.rows) c.take_place.new.rows.slots.items c.in-Ok.ensures.places c.in-Ok.ensures.held c.in-Ok.ensures.wide c.in-Ok.ensures.few c.args.key c.requires c.in-Ok.ensures.room.1 c.in-Ok.place c.in-Ok.ensures.place (held c.in-Some-remove.«data» c.in-Some.weight) (place_in c.put.new.self) c.put.new.self.slots.items c.put.ensures.places c.put.ensures.slots c.take_place.new.order c.in-Ok.ensures.numbered c.in-Ok.ensures.allowed c.in-Ok.ensures.pushed
+invariant_of-self-2 g c = kept_first c.self.inside.rows c.self.inside.used_weight c.self.inside.cap c.self.invariant c.args.self.now c.self.view_is c.args.key c.requires c.in-Some-remove.«data» c.in-Some.weight c.in_default-allow.ensures.allowed c.put_vacant.ensures.0 c.put_vacant.new.rows (put_before c.self.inside.rows c.make_vacancy.new.self c.put_vacant.new.rows c.args.key c.in-Some-remove.«data» c.in-Some.weight c.make_vacancy.result c.make_vacancy.ensures c.put_vacant.ensures)
 
 pub returns : goal.returns
-returns g c =
-    let i = c.self.inside in
-    pulled c.args.self.now _ c.args.from.now c.remove.new.self c.args.key c.in-Some.weight c.in-Some.ensures c.in-Some-remove.«data» c.in-Some-remove.field-0-1 c.in-Some-remove.ensures.answer
-    (accepts_first (place_in i.rows) i.rows.slots.items i.order i.used_weight i.cap c.self.invariant c.args.self.now c.self.view_is (place_in c.take_place.new.rows) c.take_place.new.rows.slots.items c.in-Ok.ensures.places c.in-Ok.ensures.held c.in-Ok.ensures.wide c.in-Ok.ensures.few c.args.key c.requires c.in-Ok.ensures.room.1 c.in-Ok.place c.in-Ok.ensures.place (held c.in-Some-remove.«data» c.in-Some.weight) (place_in c.put.new.self) c.put.new.self.slots.items c.put.ensures.places c.put.ensures.slots c.take_place.new.order c.in-Ok.ensures.numbered c.in-Ok.ensures.allowed c.in-Ok.ensures.pushed) c.in-Some-remove.ensures.rows
+returns g c = pulled c.args.self.now _ c.args.from.now c.remove.new.self c.args.key c.in-Some.weight c.in-Some.ensures c.in-Some-remove.«data» c.in-Some-remove.field-0-1 c.in-Some-remove.ensures.answer (accepts_first c.self.inside.rows c.self.inside.used_weight c.self.inside.cap c.self.invariant c.args.self.now c.self.view_is c.args.key c.requires c.in-Some-remove.«data» c.in-Some.weight c.in_default-allow.ensures.allowed c.put_vacant.ensures.0 c.put_vacant.new.rows (put_before c.self.inside.rows c.make_vacancy.new.self c.put_vacant.new.rows c.args.key c.in-Some-remove.«data» c.in-Some.weight c.make_vacancy.result c.make_vacancy.ensures c.put_vacant.ensures)) c.in-Some-remove.ensures.rows
 
 pub returns-in_default : goal.returns-in_default
 returns-in_default g c = nothing_pulled c.args.self.now c.args.self.now c.args.from.now c.args.from.now c.args.key c.in_default.ensures refl refl
