@@ -54,7 +54,7 @@ fn median(mut values: Vec<f64>) -> f64 {
 }
 
 fn table(rows: usize, rounds: usize) {
-    let plans = [plan::main_plan(rows), plan::get_or_admit_plan(rows)];
+    let plans = [plan::main_plan(rows), plan::get_or_admit_plan(rows), plan::even_plan(rows)];
     let mut wanted = Vec::new();
     let all: Vec<Vec<Round>> = (0..rounds)
         .map(|_| SUBJECTS.iter().map(|subject| measure(*subject, rows, &plans, &mut wanted)).collect())
@@ -87,8 +87,23 @@ fn table(rows: usize, rounds: usize) {
 /// Runs the plans once on one subject, for a profiler that counts: what it says comes out the same on a busy
 /// machine.
 fn once(subject: Subject, rows: usize) {
-    let plans = [plan::main_plan(rows), plan::get_or_admit_plan(rows)];
+    let plans = [plan::main_plan(rows), plan::get_or_admit_plan(rows), plan::even_plan(rows)];
     measure(subject, rows, &plans, &mut Vec::new());
+}
+
+/// The longest single admit of an order that grows, medians over the rounds.
+fn growth(log: u32, rounds: usize) {
+    let plans = [plan::growth_plan(log)];
+    let mut wanted = Vec::new();
+    println!("The longest admit on the way to {} rows, microseconds, {rounds} rounds.\n", 1usize << log);
+    for subject in SUBJECTS {
+        let longest = (0..rounds).map(|_| {
+            let round = measure(subject, 2 << log, &plans, &mut wanted);
+            let single = plans[0].phases.iter().zip(&round.nanos).filter(|(phase, _)| phase.to - phase.from == 1);
+            single.map(|(_, nanos)| *nanos).fold(0.0, f64::max) / 1000.0
+        });
+        println!("{}: {:.0}", subject.name(), median(longest.collect()));
+    }
 }
 
 fn main() {
@@ -96,6 +111,11 @@ fn main() {
     if let [word, objects, size, path] = &texts[..] {
         assert_eq!(word, "traces", "usage: bench traces OBJECTS SIZE FILE");
         return traces::run(objects.parse().expect("a number"), size.parse().expect("a number"), path).expect("the file");
+    }
+    if let [word, log] = &texts[..] {
+        if word == "growth" {
+            return growth(log.parse().expect("a number"), 5);
+        }
     }
     let words: Vec<Option<usize>> = texts.iter().map(|word| word.parse().ok()).collect();
     match words[..] {
@@ -105,7 +125,7 @@ fn main() {
         }
         [Some(column), Some(rows)] if column < SUBJECTS.len() => once(SUBJECTS[column], rows),
         _ => {
-            eprintln!("usage: bench [COLUMN ROWS | traces OBJECTS SIZE FILE], with a column of the table, counted from 0");
+            eprintln!("usage: bench [COLUMN ROWS | growth LOG | traces OBJECTS SIZE FILE], with a column of the table, counted from 0");
             std::process::exit(2);
         }
     }

@@ -89,6 +89,34 @@ pub fn get_or_admit_plan(rows: usize) -> Plan {
     plan
 }
 
+/// The keys 0, 2, 4, ..: a hash that mixes them badly would show.
+pub fn even_plan(rows: usize) -> Plan {
+    let mut draws = Draws(13);
+    let even = |place: usize| 2 * place as u64;
+    let mut plan = Plan { keys: Vec::new(), phases: Vec::new() };
+    plan.add("admit new, even keys", Work::Admit, (0..rows).map(even));
+    plan.add("promote, even keys", Work::Promote, (0..rows).map(|_| even(draws.below(rows))));
+    plan.add("peek, even keys", Work::Peek, (0..rows).map(|_| even(draws.below(rows))));
+    plan.add("remove, even keys", Work::Remove, (0..rows).map(even));
+    plan
+}
+
+/// An order that grows to two to the power of `log` rows and a few: the admits that may be the longest are phases by
+/// themselves. A map of the peers grows where seven eighths of a power of two are taken, an index of places at the power.
+pub fn growth_plan(log: u32) -> Plan {
+    let whole = 1usize << log;
+    let mut draws = Draws(14);
+    let mut plan = Plan { keys: Vec::new(), phases: Vec::new() };
+    let mut at = 0;
+    for centre in [whole / 8 * 7, whole] {
+        let (from, to) = (centre - 4, centre + 5);
+        plan.add("the others", Work::Admit, (at..from).map(|_| draws.next()));
+        (from..to).for_each(|_| plan.add("one admit", Work::Admit, std::iter::once(draws.next())));
+        at = to;
+    }
+    plan
+}
+
 impl Plan {
     fn add(&mut self, name: &'static str, work: Work, keys: impl Iterator<Item = u64>) {
         let from = self.keys.len();
