@@ -78,7 +78,7 @@ module _ {K V : Type 0} where
       ((new ≡ old) × ((length old.entries ≤ most_rows) × (Fit (old.most_weight - w) (old.most_entries - 1) old.entries → ⊥)))
       ⊎ ((new ≡ with_places old (max old.places (length old.entries + 1))) × ((length old.entries < most_rows) × Fit (old.most_weight - w) (old.most_entries - 1) old.entries))
   MakesPlace old w (Err TooHeavy) new = ⊥
-  MakesPlace old w (Err Full) new = (new ≡ old) × (length old.entries ≡ most_rows)
+  MakesPlace old w (Err Full) new = (new ≡ old) × (Fit (old.most_weight - w) (old.most_entries - 1) old.entries × (length old.entries ≡ most_rows))
   MakesPlace old w (Err Memory) new = (new ≡ old) × (Fit (old.most_weight - w) (old.most_entries - 1) old.entries × (old.places ≡ length old.entries))
 
   -- an entry is put first, and the shortest end of the others goes that has to
@@ -116,14 +116,14 @@ module _ {K V : Type 0} where
     -- why an entry may be refused: it is too heavy by itself, or there may be none; or its key has no entry, nothing has to go for it, and there is no place for it
     abbrev pub MayRefuse : Cached K V → K → ℕ → Cause → Type 0
     MayRefuse old k w TooHeavy = (old.most_weight < w) ⊎ (old.most_entries ≡ 0)
-    MayRefuse old k w Full = (entry_of old.entries k ≡ None) × (length old.entries ≡ most_rows)
+    MayRefuse old k w Full = (entry_of old.entries k ≡ None) × (Fit (old.most_weight - w) (old.most_entries - 1) old.entries × (length old.entries ≡ most_rows))
     MayRefuse old k w Memory = (entry_of old.entries k ≡ None) × (Fit (old.most_weight - w) (old.most_entries - 1) old.entries × (old.places ≡ length old.entries))
 
-    -- an entry is put first in place of its key's, which is answered, and the shortest end of the others goes that has to. Or it is refused: key and value are handed back, and nothing has changed
+    -- an entry that fits by itself is put first in place of its key's, which is answered, and the shortest end of the others goes that has to. Or it is refused: key and value are handed back, and nothing has changed
     abbrev pub Puts : {F : Type 0} → (F → Entry K V → F → Type 0) → F → Cached K V → K → V → ℕ → Result (Option (Entry K V)) (Refused K V) → Cached K V → Type 0
     Puts Step visit old k v w (Ok was) new =
-        (was ≡ entry_of old.entries k) × ((front : List (Entry K V)) × ((gone : List (Entry K V)) × (Leaves (old.most_weight - w) (old.most_entries - 1) (without old.entries k) front gone
-        × (IsShown Step visit gone × (new ≡ with_entries old (entry k v w ∷ front))))))
+        ((w ≤ old.most_weight) × (0 < old.most_entries)) × ((was ≡ entry_of old.entries k) × ((front : List (Entry K V)) × ((gone : List (Entry K V))
+        × (Leaves (old.most_weight - w) (old.most_entries - 1) (without old.entries k) front gone × (IsShown Step visit gone × (new ≡ with_entries old (entry k v w ∷ front)))))))
     Puts Step visit old k v w (Err r) new = MayRefuse old k w r.cause × ((r.key ≡ k) × ((r.value ≡ v) × (new ≡ old)))
 
     -- a key's entry goes first, and its value is lent to a closure, which may change it; where it has none, nothing is called
@@ -137,4 +137,4 @@ module _ {K V : Type 0} where
     UsesOrPuts Makes Step visit old key (Ok true) new = IsSome (entry_of old.entries key) × (new ≡ with_entries old (used old.entries key))
     UsesOrPuts Makes Step visit old key (Ok false) new = (made : V × ℕ) × (Makes (Ok made) × Puts Step visit old key made.0 made.1 (Ok None) new)
     UsesOrPuts Makes Step visit old key (Err (Unmade k e)) new = (entry_of old.entries key ≡ None) × (Makes (Err e) × ((k ≡ key) × (new ≡ old)))
-    UsesOrPuts Makes Step visit old key (Err (EntryRefused r)) new = (made : V × ℕ) × (Makes (Ok made) × Puts Step visit old key made.0 made.1 (Err r) new)
+    UsesOrPuts Makes Step visit old key (Err (EntryRefused r)) new = (entry_of old.entries key ≡ None) × ((made : V × ℕ) × (Makes (Ok made) × Puts Step visit old key made.0 made.1 (Err r) new))
