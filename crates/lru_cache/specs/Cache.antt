@@ -79,7 +79,7 @@ module _ {K V : Type 0} where
       ⊎ ((new ≡ with_places old (max old.places (length old.entries + 1))) × ((length old.entries < most_rows) × Fit (old.most_weight - w) (old.most_entries - 1) old.entries))
   MakesPlace old w (Err TooHeavy) new = ⊥
   MakesPlace old w (Err Full) new = (new ≡ old) × (Fit (old.most_weight - w) (old.most_entries - 1) old.entries × (length old.entries ≡ most_rows))
-  MakesPlace old w (Err Memory) new = (new ≡ old) × (Fit (old.most_weight - w) (old.most_entries - 1) old.entries × (old.places ≡ length old.entries))
+  MakesPlace old w (Err Memory) new = (new ≡ old) × (Fit (old.most_weight - w) (old.most_entries - 1) old.entries × ((length old.entries < most_rows) × (old.places ≡ length old.entries)))
 
   -- an entry is put first, and the shortest end of the others goes that has to
   abbrev pub PutsFirst : {F : Type 0} → (F → Entry K V → F → Type 0) → F → Cached K V → K → V → ℕ → Cached K V → Type 0
@@ -117,7 +117,7 @@ module _ {K V : Type 0} where
     abbrev pub MayRefuse : Cached K V → K → ℕ → Cause → Type 0
     MayRefuse old k w TooHeavy = (old.most_weight < w) ⊎ (old.most_entries ≡ 0)
     MayRefuse old k w Full = (entry_of old.entries k ≡ None) × (Fit (old.most_weight - w) (old.most_entries - 1) old.entries × (length old.entries ≡ most_rows))
-    MayRefuse old k w Memory = (entry_of old.entries k ≡ None) × (Fit (old.most_weight - w) (old.most_entries - 1) old.entries × (old.places ≡ length old.entries))
+    MayRefuse old k w Memory = (entry_of old.entries k ≡ None) × (Fit (old.most_weight - w) (old.most_entries - 1) old.entries × ((length old.entries < most_rows) × (old.places ≡ length old.entries)))
 
     -- an entry that fits by itself is put first in place of its key's, which is answered, and the shortest end of the others goes that has to. Or it is refused: key and value are handed back, and nothing has changed
     abbrev pub Puts : {F : Type 0} → (F → Entry K V → F → Type 0) → F → Cached K V → K → V → ℕ → Result (Option (Entry K V)) (Refused K V) → Cached K V → Type 0
