@@ -144,7 +144,7 @@ impl<K: Hash, V, S: BuildHasher> Cache<K, V, S> {
     pub fn is_empty(&self) -> bool
         ensures { result ≡ nat_eq (length self.now.entries) 0 }
     {
-        self.rows.len() == 0
+        self.len() == 0
     }
 
     /// What the entries weigh together.
