@@ -93,6 +93,15 @@ module _ {K V : Type 0} where
       (front : List (Entry K V)) × ((gone : List (Entry K V)) × (Leaves most_weight most_entries old.entries front gone × (IsShown Step visit gone
       × (new ≡ record { entries = front; places = old.places; most_weight = most_weight; most_entries = most_entries }))))
 
+  -- all entries go, and each is shown
+  abbrev pub Clears : {F : Type 0} → (F → Entry K V → F → Type 0) → F → Cached K V → Cached K V → Type 0
+  Clears Step visit old new = IsShown Step visit old.entries × (new ≡ with_entries old [])
+
+  -- the entry that stands last, if there is one
+  abbrev pub IsLast : List (Entry K V) → Option (Entry K V) → Type 0
+  IsLast es None = es ≡ []
+  IsLast es (Some e) = (front : List (Entry K V)) × (es ≡ front ++ e ∷ [])
+
   module _ (eq : K → K → Bool) where
     -- the entry of a key, if there is one
     abbrev pub entry_of : List (Entry K V) → K → Option (Entry K V)

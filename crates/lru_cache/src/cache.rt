@@ -1,7 +1,7 @@
 //! A cache of one owner.
 ghost use Rattle.std.specs.Prelude.{◌≡◌, ◌<◌, ◌≤◌, None, length, map, is_some, nat_eq, IfOk};
 ghost use Rattle.std.specs.Option.{option_map, option_copied};
-ghost use Rattle.lru_cache.specs.Cache.{empty, weight_of, entry_of, without, used, with_entries, Puts, PutsFirst, HasPlace, MakesPlace, PopsLast, Limits, UpdatesEntry, UsesOrPuts, IsCache};
+ghost use Rattle.lru_cache.specs.Cache.{empty, weight_of, entry_of, without, used, with_entries, Puts, PutsFirst, HasPlace, MakesPlace, PopsLast, IsLast, entry, Limits, Clears, UpdatesEntry, UsesOrPuts, IsCache};
 
 use crate::shrinking::{fits, shrink};
 use lru_index::hashing::SeededHashes;
@@ -191,6 +191,18 @@ impl<K: Hash, V, S: BuildHasher> Cache<K, V, S> {
         Some(self.rows.weight_at(place))
     }
 
+    /// The key, the value and the weight of the entry that was used longest ago, which is not used by that.
+    pub fn peek_last(&self) -> Option<(&K, &V, usize)>
+        ensures { IsLast self.now.entries (option_map (λ s. entry s.0.now s.1.now s.2) result) }
+    {
+        if self.rows.len() == 0 {
+            return None;
+        }
+        let place = self.rows.last()?;
+        let (key, value) = (self.rows.key_at(place), self.rows.value_at(place));
+        Some((key, value, self.rows.weight_at(place)))
+    }
+
     /// The keys, most recent first.
     pub fn keys(&self) -> LinkedListIter<'_, K>
         ensures { result ≡ map (λ e. e.key) self.now.entries }
@@ -291,6 +303,17 @@ impl<K: Hash + Default + Drop, V: Drop, S: BuildHasher> Cache<K, V, S> {
         }
     }
 
+    /// Makes room for `additional` more entries. Nothing else changes, also where it is refused.
+    ///
+    /// # Errors
+    ///
+    /// There is no memory for that many, or there can't be as many entries.
+    pub fn reserve(&mut self, additional: usize) -> Result<(), AllocError>
+        ensures { self.new ≡ self.old }
+    {
+        self.rows.reserve(additional)
+    }
+
     // Makes sure of a place for an entry of this weight, whose key has none. Where another has to go for it, its place is
     // free then.
     fn make_place(&mut self, weight: usize) -> Result<(), Cause>
@@ -355,6 +378,15 @@ impl<K: Hash + Default + Drop, V: Drop, S: BuildHasher> Cache<K, V, S> {
         );
         self.most_weight = most_weight;
         self.most_entries = most_entries;
+    }
+
+    /// Lets all entries go, the one that was used longest ago first, and hands each to `visit`. The limits stay, and so do
+    /// the places: the next entries take no memory.
+    pub fn clear<F: FnMut(Entry<K, V>) + Drop>(&mut self, visit: F)
+        requires { F.IsAlwaysCallable visit }
+        ensures { Clears (λ p x q. F.step p x tt q) visit self.old self.new }
+    {
+        self.weight = shrink(&mut self.rows, self.weight, 0, 0, visit);
     }
 
     /// Takes a key's entry out.

@@ -76,6 +76,31 @@ fn values_and_limits_change(rt: HostRuntime) -> Result<(), Fail> {
     Ok(())
 }
 
+// What is shown of the last entry, room that is made, and entries that all go.
+#[rattlefmt::skip]
+static FROM_THE_LAST: [Step<u64, u64>; 12] = [
+    (Call::PeekLast, "None", "0 0:"),
+    (Call::Reserve(3), "true", "0 0:"),
+    (Call::Put(1, 10, 2), "new, gone:", "1 2: 1=10 2,"),
+    (Call::PeekLast, "Some((1, 10, 2))", "1 2: 1=10 2,"),
+    (Call::Put(2, 20, 3), "new, gone:", "2 5: 2=20 3, 1=10 2,"),
+    (Call::Put(3, 30, 0), "new, gone:", "3 5: 3=30 0, 2=20 3, 1=10 2,"),
+    (Call::Promote(1), "true", "3 5: 1=10 2, 3=30 0, 2=20 3,"),
+    (Call::PeekLast, "Some((2, 20, 3))", "3 5: 1=10 2, 3=30 0, 2=20 3,"),
+    (Call::Reserve(usize::MAX), "false", "3 5: 1=10 2, 3=30 0, 2=20 3,"),
+    (Call::Clear, "gone: 2=20 3, 3=30 0, 1=10 2,", "0 0:"),
+    (Call::Clear, "gone:", "0 0:"),
+    (Call::Put(2, 21, 10), "new, gone:", "1 10: 2=21 10,"),
+];
+
+#[test]
+fn the_last_entry_is_shown(rt: HostRuntime) -> Result<(), Fail> {
+    let mut cache = Cache::new(rt.alloc(), 10, 5)?;
+    assert_eq!(rt; fault(rt.alloc(), &mut cache, &FROM_THE_LAST)?, None);
+    assert_eq!(rt; (cache.most_weight(), cache.most_entries()), (10, 5));
+    Ok(())
+}
+
 // Where there may be no entry.
 #[rattlefmt::skip]
 static NO_ENTRIES: [Step<u64, u64>; 2] = [
