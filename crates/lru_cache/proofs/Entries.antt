@@ -119,6 +119,14 @@ module _ {K V : Type 0} where
         | inr ne ↦ omega (arith, last_there rs x, places_other r (rs ++ x ∷ []) x.place ne)
       ]
 
+  -- the rows without it are those before it
+  pub without_last : (front : List (Placed K V)) (x : Placed K V) → ((p : ℕ) → places p (front ++ x ∷ []) ≤ 1) → rows_without (front ++ x ∷ []) x.place ≡ front
+  without_last [] x once = by_place x.place x [] (λ xs. xs ≡ []) (λ e. refl) (λ ne. absurd (ne refl))
+  without_last (r ∷ rs) x once =
+      by_place x.place r (rs ++ x ∷ []) (λ xs. xs ≡ r ∷ rs)
+      (λ here. absurd (omega (arith, once x.place, last_there rs x, places_here r (rs ++ x ∷ []) x.place here)))
+      (λ ne. ap (λ xs. r ∷ xs) (without_last rs x (tail_once_of r (rs ++ x ∷ []) once)))
+
   -- it is the one at its place
   pub row_last : (front : List (Placed K V)) (x : Placed K V) → ((p : ℕ) → places p (front ++ x ∷ []) ≤ 1) → row_at (front ++ x ∷ []) x.place ≡ Some x
   row_last [] x once = row_first x [] x.place refl

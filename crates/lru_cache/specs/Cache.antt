@@ -1,9 +1,9 @@
 -- A cache: its entries, most recent first, under two limits.
-use Rattle.std.specs.Prelude.{◌≡◌, ℕ, ◌+◌, ◌-◌, ◌<◌, ◌≤◌, ◌⊎◌, max, not, Bool, true, false, List, [], ◌∷◌, ◌++◌, length, filter, find, reverse, sum_by, count_by, Option, Some, None, Result, Ok, Err, refl, IsSome}
+use Rattle.std.specs.Prelude.{◌≡◌, ℕ, ◌+◌, ◌-◌, ◌<◌, ◌≤◌, ◌⊎◌, max, not, Bool, true, false, List, [], ◌∷◌, ◌++◌, length, map, filter, find, reverse, sum_by, count_by, Option, Some, None, Result, Ok, Err, refl, IsSome}
 use Rattle.std.specs.Option.{option_map_or}
 use Rattle.std.specs.List.{FoldsTo}
 use Rattle.std.specs.Coded.{Coded, code_by, coded×, coded_ℕ, coded_list}
-use Rattle.std.specs.Borrow.{MutBor}
+use Rattle.std.specs.Borrow.{Bor, MutBor}
 use Rattle.lru_rows.specs.Rows.{most_rows, Updates}
 use Rattle.lru_cache.specs.declared.cache.Entry.{Entry}
 use Rattle.lru_cache.specs.declared.cache.Refused.{Refused}
@@ -101,6 +101,26 @@ module _ {K V : Type 0} where
   abbrev pub IsLast : List (Entry K V) → Option (Entry K V) → Type 0
   IsLast es None = es ≡ []
   IsLast es (Some e) = (front : List (Entry K V)) × (es ≡ front ++ e ∷ [])
+
+  -- a test that is given a key, a value and a weight answered this for an entry
+  pub record Asks {F : Type 0} (step : F → Bor K → Bor V → ℕ → Bool → F → Type 0) (keep : F) (e : Entry K V) (answer : Bool) (next : F) : Type 0 where
+    pub key : Bor K
+    pub value : Bor V
+    pub shows_key : key.now ≡ e.key
+    pub shows_value : value.now ≡ e.value
+    pub called : step keep key value e.weight answer next
+
+  -- the entries of which a test answered true
+  abbrev pub kept_of : List (Entry K V × Bool) → List (Entry K V)
+  kept_of asked = map (λ a. a.0) (filter (λ a. a.1) asked)
+
+  -- a test was asked of each entry, the last first, and those stay of which it answered true
+  pub record Retains {F : Type 0} (step : F → Bor K → Bor V → ℕ → Bool → F → Type 0) (keep : F) (old new : Cached K V) : Type 0 where
+    pub asked : List (Entry K V × Bool)
+    pub left : F
+    pub all : map (λ a. a.0) asked ≡ old.entries
+    pub called : FoldsTo (λ p a q. Asks step p a.0 a.1 q) keep (reverse asked) left
+    pub kept : new ≡ with_entries old (kept_of asked)
 
   module _ (eq : K → K → Bool) where
     -- the entry of a key, if there is one

@@ -1,8 +1,9 @@
 //! A cache of one owner.
 ghost use Rattle.std.specs.Prelude.{◌≡◌, ◌<◌, ◌≤◌, None, length, map, is_some, nat_eq, IfOk};
 ghost use Rattle.std.specs.Option.{option_map, option_copied};
-ghost use Rattle.lru_cache.specs.Cache.{empty, weight_of, entry_of, without, used, with_entries, Puts, PutsFirst, HasPlace, MakesPlace, PopsLast, IsLast, entry, Limits, Clears, UpdatesEntry, UsesOrPuts, IsCache};
+ghost use Rattle.lru_cache.specs.Cache.{empty, weight_of, entry_of, without, used, with_entries, Puts, PutsFirst, HasPlace, MakesPlace, PopsLast, IsLast, entry, Limits, Clears, Retains, UpdatesEntry, UsesOrPuts, IsCache};
 
+use crate::keeping::retain;
 use crate::shrinking::{fits, shrink};
 use lru_index::hashing::SeededHashes;
 use lru_list::linked_list::LinkedListIter;
@@ -387,6 +388,15 @@ impl<K: Hash + Default + Drop, V: Drop, S: BuildHasher> Cache<K, V, S> {
         ensures { Clears (λ p x q. F.step p x tt q) visit self.old self.new }
     {
         self.weight = shrink(&mut self.rows, self.weight, 0, 0, visit);
+    }
+
+    /// Asks `keep` of each entry, the one that was used longest ago first, by its key, its value and its weight, and lets
+    /// those go for which it answers false. The others stay, in their order.
+    pub fn retain<F: FnMut(&K, &V, usize) -> bool + Drop>(&mut self, keep: F)
+        requires { F.IsAlwaysCallable keep }
+        ensures { Retains (λ p k v w b q. F.step p k v w b q) keep self.old self.new }
+    {
+        self.weight = retain(&mut self.rows, self.weight, keep);
     }
 
     /// Takes a key's entry out.

@@ -27,6 +27,8 @@ pub enum Call<K, V> {
     PeekLast,
     /// Answers whether there is room for as many more.
     Reserve(usize),
+    /// Keeps what weighs at most this. Answers the weights that were shown.
+    Retain(usize),
 }
 
 /// A call, the text of its answer, and that of the cache after it.
@@ -125,6 +127,24 @@ fn clear<K: Hash + Debug + Default + Drop, V: Debug + Drop>(
     Ok(gone)
 }
 
+// Keeps the entries that weigh at most this, and answers the text of what is shown to its test.
+fn retain<K: Hash + Debug + Default + Drop, V: Debug + Drop>(
+    alloc: Global,
+    cache: &mut Cache<K, V>,
+    most: usize,
+) -> Result<String, AllocError> {
+    let mut shown = String::from_str(alloc, "asked:")?;
+    let mut told = Ok(());
+    cache.retain(|key, value, weight| {
+        if told.is_ok() {
+            told = write!(shown, " {key:?}={value:?} {weight},");
+        }
+        weight <= most
+    });
+    told?;
+    Ok(shown)
+}
+
 /// Whether a key has an entry, its value and its weight.
 pub fn look<K: Hash, V: Debug>(
     alloc: Global,
@@ -185,6 +205,7 @@ where
             let is_reserved = cache.reserve(additional).is_ok();
             format!(in alloc; "{is_reserved}")
         }
+        Call::Retain(most) => retain(alloc, cache, most),
     }
 }
 
