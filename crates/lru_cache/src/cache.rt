@@ -68,8 +68,8 @@ pub enum NotPut<K, V, E> {
 ///
 /// Its entries stand in the order of their last use. It is over no limit after any call: what has to go for a new entry
 /// goes from the end, the entry that was used longest ago first, and is handed to the caller. A key that stands twice is
-/// found by `Eq`, also where hashes collide. Only a constructor, and a call that puts an entry where no place is free,
-/// take memory.
+/// found by `Eq`, also where hashes collide. Only a constructor, `reserve`, and a call that puts an entry where no place
+/// is free take memory.
 #[derive(Drop)]
 pub struct Cache<K: Hash, V, S: BuildHasher = SeededHashes> {
     rows: Rows<K, V, S>,
@@ -382,7 +382,7 @@ impl<K: Hash + Default + Drop, V: Drop, S: BuildHasher> Cache<K, V, S> {
     }
 
     /// Lets all entries go, the one that was used longest ago first, and hands each to `visit`. The limits stay, and so do
-    /// the places: the next entries take no memory.
+    /// the places: as many entries as went take no memory again.
     pub fn clear<F: FnMut(Entry<K, V>) + Drop>(&mut self, visit: F)
         requires { F.IsAlwaysCallable visit }
         ensures { Clears (λ p x q. F.step p x tt q) visit self.old self.new }
