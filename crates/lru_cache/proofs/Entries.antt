@@ -1,10 +1,11 @@
 -- Rows seen as entries.
-use Rattle.std.proofs.Common.{◌≡◌, ◌≢◌, ℕ, ◌+◌, ◌≤◌, cond, not, eqb, List, [], ◌∷◌, ◌++◌, length, Some, None, refl, sym, ap, ◌∙◌, inl, inr, arith, true, false, suc}
-use Rattle.std.specs.Prelude.{Bool, is_some, IsSome, count_by, ◌==◌}
+use Rattle.std.proofs.Common.{◌≡◌, ◌≢◌, ℕ, ◌+◌, ◌-◌, ◌≤◌, cond, not, eqb, List, [], ◌∷◌, ◌++◌, length, Some, None, refl, sym, ap, ◌∙◌, inl, inr, arith, true, false, suc}
+use Rattle.std.specs.Prelude.{Bool, Option, slice_get, is_some, IsSome, count_by, ◌==◌}
 use Rattle.std.specs.Option.{option_map}
 use Rattle.std.proofs.lemmas.Bool.{cond_both, cases_eq, eq-eqb, ne_eqb, eqb-true, eqb-false, not-true, not-false, false≢true}
+use Rattle.std.proofs.lemmas.Option.{slice_get-get_or}
 use Rattle.std.proofs.lemmas.List.Sums.{sum_by-cons, sum_by-append}
-use Rattle.lru_rows.specs.Rows.{Placed, placed, with_value, row_at, row_of, without as rows_without}
+use Rattle.lru_rows.specs.Rows.{Placed, placed, last_row, with_value, row_at, row_of, without as rows_without}
 use Rattle.lru_cache.specs.declared.cache.Entry.{Entry}
 use Rattle.lru_cache.specs.Cache.{entry_of, without, weight_of}
 use Rattle.lru_cache.specs.Representation.{entry_in, entries_in, weight_in}
@@ -108,6 +109,55 @@ module _ {K V : Type 0} where
 
   pub with_value-first : (p : ℕ) (d : V) (r : Placed K V) (rs : List (Placed K V)) → r.place ≡ p → with_value (r ∷ rs) p d ≡ placed r.place r.key d r.weight ∷ with_value rs p d
   with_value-first p d r rs e = ap (λ b. cond b (placed r.place r.key d r.weight) r ∷ with_value rs p d) (eq-eqb r.place p e)
+
+  -- ---- the row that stands last
+  last_there : (front : List (Placed K V)) (x : Placed K V) → 1 ≤ places x.place (front ++ x ∷ [])
+  last_there [] x = omega (arith, places_here x [] x.place refl)
+  last_there (r ∷ rs) x =
+      elim (cases_eq r.place x.place) [
+        | inl here ↦ omega (arith, places_here r (rs ++ x ∷ []) x.place here)
+        | inr ne ↦ omega (arith, last_there rs x, places_other r (rs ++ x ∷ []) x.place ne)
+      ]
+
+  -- the rows without it are those before it
+  pub without_last : (front : List (Placed K V)) (x : Placed K V) → ((p : ℕ) → places p (front ++ x ∷ []) ≤ 1) → rows_without (front ++ x ∷ []) x.place ≡ front
+  without_last [] x once = by_place x.place x [] (λ xs. xs ≡ []) (λ e. refl) (λ ne. absurd (ne refl))
+  without_last (r ∷ rs) x once =
+      by_place x.place r (rs ++ x ∷ []) (λ xs. xs ≡ r ∷ rs)
+      (λ here. absurd (omega (arith, once x.place, last_there rs x, places_here r (rs ++ x ∷ []) x.place here)))
+      (λ ne. ap (λ xs. r ∷ xs) (without_last rs x (tail_once_of r (rs ++ x ∷ []) once)))
+
+  -- it is the one at its place
+  pub row_last : (front : List (Placed K V)) (x : Placed K V) → ((p : ℕ) → places p (front ++ x ∷ []) ≤ 1) → row_at (front ++ x ∷ []) x.place ≡ Some x
+  row_last [] x once = row_first x [] x.place refl
+  row_last (r ∷ rs) x once =
+      elim (cases_eq r.place x.place) [
+        | inl here ↦ absurd (omega (arith, once x.place, last_there rs x, places_here r (rs ++ x ∷ []) x.place here))
+        | inr ne ↦ ap (λ b. cond b (Some r) (row_at (rs ++ x ∷ []) x.place)) (ne_eqb r.place x.place ne) ∙ row_last rs x (tail_once_of r (rs ++ x ∷ []) once)
+      ]
+
+  one_more : (r : Placed K V) (rs : List (Placed K V)) (x : Placed K V) → (front : List (Placed K V)) × (rs ≡ front ++ x ∷ []) → (front : List (Placed K V)) × (r ∷ rs ≡ front ++ x ∷ [])
+  one_more r rs x (front, is) = (r ∷ front, ap (λ xs. r ∷ xs) is)
+
+  split_last : (rows : List (Placed K V)) (x : Placed K V) → last_row rows ≡ Some x → (front : List (Placed K V)) × (rows ≡ front ++ x ∷ [])
+  split_last [] x is = absurd (false≢true (ap is_some is))
+  split_last (r ∷ []) x is = ([], ap (λ y. y ∷ []) (some_of r x is))
+  split_last (r ∷ s ∷ rs) x is =
+      let one_less : length (r ∷ s ∷ rs) - 1 ≡ suc (length (s ∷ rs) - 1) = omega arith in
+      one_more r (s ∷ rs) x (split_last (s ∷ rs) x (sym (ap (λ n. slice_get (r ∷ s ∷ rs) n) one_less) ∙ is))
+
+  -- the last row is told by its place
+  pub last_told : (rows : List (Placed K V)) (p : ℕ) → Some p ≡ option_map (λ (x : Placed K V). x.place) (last_row rows) → (x : Placed K V) × ((x.place ≡ p) × ((front : List (Placed K V)) × (rows ≡ front ++ x ∷ [])))
+  last_told rows p told = from (last_row rows) refl
+    where
+      from : (o : Option (Placed K V)) → last_row rows ≡ o → (x : Placed K V) × ((x.place ≡ p) × ((front : List (Placed K V)) × (rows ≡ front ++ x ∷ [])))
+      from None is = absurd (false≢true (sym (ap is_some (told ∙ ap (option_map (λ (x : Placed K V). x.place)) is))))
+      from (Some x) is = (x, (some_of x.place p (sym (told ∙ ap (option_map (λ (y : Placed K V). y.place)) is)), split_last rows x is))
+
+  pub none_told : (rows : List (Placed K V)) → None ≡ option_map (λ (x : Placed K V). x.place) (last_row rows) → rows ≡ []
+  none_told [] told = refl
+  none_told (r ∷ rs) told =
+      absurd (false≢true (ap is_some (told ∙ ap (option_map (λ (x : Placed K V). x.place)) (slice_get-get_or (r ∷ rs) (length (r ∷ rs) - 1) r (omega arith)))))
 
   module _ (eq : K → K → Bool) where
     -- the entry of a key

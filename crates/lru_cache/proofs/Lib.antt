@@ -3,3 +3,4 @@ pub mod Views
 pub mod Shrunk
 pub mod Placing
 pub mod Putting
+pub mod Retained

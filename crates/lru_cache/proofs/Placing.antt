@@ -8,7 +8,7 @@ use Rattle.lru_rows.specs.declared.rows.NoPlace.{NoPlace}
 use Rattle.lru_rows.specs.declared.rows.NoPlace.TheVariants.{Memory, Full}
 use Rattle.lru_rows.specs.Rows.{Placed, placed, Recency, recency, row_of, most_rows, LacksPlace}
 use Rattle.lru_cache.specs.declared.cache.Entry.{Entry}
-use Rattle.lru_cache.specs.Cache.{Cached, entry, entry_of, Fit, HasPlace, Leaves, Limits, PutsFirst}
+use Rattle.lru_cache.specs.Cache.{Clears, IsShown, with_entries, Cached, entry, entry_of, Fit, HasPlace, Leaves, Limits, PutsFirst}
 use Rattle.lru_cache.specs.Representation.{entry_in, entries_in, cached_in, IsKept, RowsFit, Shrinks}
 use Rattle.lru_cache.proofs.Entries.{weight-entries, length-entries, entry-row}
 use Rattle.lru_cache.proofs.Views.{entries_are}
@@ -71,6 +71,29 @@ module _ {K V F : Type 0} (Step : F → Entry K V → F → Type 0) (visit : F) 
         ),
       ),
     ),
+  )
+
+none_long : {A : Type 0} (xs : List A) → length xs ≤ 0 → xs ≡ []
+none_long [] short = refl
+none_long (x ∷ xs) short = absurd (omega (arith, short))
+
+-- where nothing may be left, all go
+module _ {K V F : Type 0} (Step : F → Entry K V → F → Type 0) (visit : F) (r r' : Recency K V) (s : Shrinks Step visit 0 0 r r') (most_weight most_entries : ℕ) where
+  none_left : s.front ≡ []
+  none_left = none_long s.front s.fits.1
+
+  all_went : r.rows ≡ s.back
+  all_went = s.parts ∙ ap (λ rs. rs ++ s.back) none_left
+
+  left_empty : r' ≡ recency [] (r.free + length s.back)
+  left_empty = s.left ∙ ap (λ rs. recency rs (r.free + length s.back)) none_left
+
+  pub clears : (c : Cached K V) → cached_in r most_weight most_entries ≡ c → Clears Step visit c (cached_in r' most_weight most_entries)
+  clears c view = (
+    subst (λ es. IsShown Step visit es) (ap entries_in (sym all_went) ∙ ap (λ (x : Cached K V). x.entries) view) s.shown,
+    ap (λ x. cached_in x most_weight most_entries) left_empty
+        ∙ ap (λ n. record { entries = []; places = n; most_weight = most_weight; most_entries = most_entries }) (omega (arith, ap length all_went))
+        ∙ ap (λ (x : Cached K V). with_entries x []) view,
   )
 
 module _ {K V F : Type 0} (eq : K → K → Bool) (r : Recency K V) (used_is most_weight most_entries : ℕ) (kept : IsKept r used_is most_weight most_entries) (c : Cached K V)

@@ -1,5 +1,5 @@
 -- An entry is put in place of its key's.
-use Rattle.std.proofs.Common.{◌≡◌, ℕ, ◌+◌, ◌-◌, ◌≤◌, cond, not, List, [], ◌∷◌, ◌++◌, length, Some, None, Ok, Err, refl, sym, ap, ◌∙◌, subst, arith, true, false, append-nil, inl, inr}
+use Rattle.std.proofs.Common.{◌≡◌, ℕ, ◌+◌, ◌-◌, ◌<◌, ◌≤◌, cond, not, List, [], ◌∷◌, ◌++◌, length, Some, None, Ok, Err, refl, sym, ap, ◌∙◌, subst, arith, true, false, append-nil, inl, inr}
 use Rattle.std.specs.Prelude.{Option, Bool, is_some, max}
 use Rattle.std.specs.Option.{option_map_or}
 use Rattle.std.proofs.lemmas.Bool.{false≢true}
@@ -10,11 +10,18 @@ use Rattle.lru_cache.specs.declared.cache.Refused.{Refused}
 use Rattle.lru_cache.specs.declared.cache.Cause.{Cause}
 use Rattle.lru_cache.specs.declared.cache.Cause.TheVariants.{TooHeavy, Full, Memory}
 use Rattle.lru_cache.specs.Cache.{Cached, entry, entry_of, without, weight_of, Fit, IsCache, HasPlace, MakesPlace, MayRefuse, Leaves, PutsFirst, Puts, with_entries, used}
+use Rattle.lru_rows.specs.Rows.{Recency}
+use Rattle.lru_cache.specs.Representation.{cached_in}
 use Rattle.lru_cache.proofs.Entries.{by_bool}
 
 pub none_is : {A : Type 0} (o : Option A) → is_some o ≡ false → o ≡ None
 none_is None e = refl
 none_is (Some a) e = absurd (false≢true (sym e))
+
+-- an entry that is within the limits that are kept is within those of the cache
+pub fits_alone : {K V : Type 0} (r : Recency K V) (most_weight most_entries : ℕ) (c : Cached K V) → cached_in r most_weight most_entries ≡ c → (w : ℕ) → w ≤ most_weight → 0 < most_entries →
+    (w ≤ c.most_weight) × (0 < c.most_entries)
+fits_alone r most_weight most_entries c view w light some = subst (λ x. (w ≤ x.most_weight) × (0 < x.most_entries)) view (light, some)
 
 module _ {K V : Type 0} (eq : K → K → Bool) where
   -- how many entries are left without a key's
@@ -129,24 +136,27 @@ module _ {K V : Type 0} (eq : K → K → Bool) where
     absent_ready m ready = ap (λ es. entry_of eq es key) ready.entries ∙ none_left old.entries key
 
     -- the entry is put
-    pub puts : {F : Type 0} (Step : F → Entry K V → F → Type 0) (visit : F) (v : V) (m new : Cached K V) → Ready m → PutsFirst Step visit m key v w new → (was : Option (Entry K V)) → was ≡ entry_of eq old.entries key →
+    pub puts : {F : Type 0} (Step : F → Entry K V → F → Type 0) (visit : F) (v : V) (m new : Cached K V) → (w ≤ old.most_weight) × (0 < old.most_entries) → Ready m → PutsFirst Step visit m key v w new → (was : Option (Entry K V)) → was ≡ entry_of eq old.entries key →
         Puts eq Step visit old key v w (Ok was) new
-    puts Step visit v m new ready (front, (gone, (l, (shown, is)))) was was_is = (
-      was_is,
+    puts Step visit v m new fits ready (front, (gone, (l, (shown, is)))) was was_is = (
+      fits,
       (
-        front,
+        was_is,
         (
-          gone,
+          front,
           (
-            subst (λ a. Leaves (a - w) (old.most_entries - 1) (without eq old.entries key) front gone) ready.most_weight
-                (subst (λ n. Leaves (m.most_weight - w) (n - 1) (without eq old.entries key) front gone) ready.most_entries
-                (subst (λ es. Leaves (m.most_weight - w) (m.most_entries - 1) es front gone) ready.entries l)),
+            gone,
             (
-              shown,
-              is
-                  ∙ ap (λ n. record { entries = entry key v w ∷ front; places = n; most_weight = m.most_weight; most_entries = m.most_entries }) (omega (arith, ready.places front gone l))
-                  ∙ ap (λ a. record { entries = entry key v w ∷ front; places = max old.places (length (entry key v w ∷ front)); most_weight = a; most_entries = m.most_entries }) ready.most_weight
-                  ∙ ap (λ n. record { entries = entry key v w ∷ front; places = max old.places (length (entry key v w ∷ front)); most_weight = old.most_weight; most_entries = n }) ready.most_entries,
+              subst (λ a. Leaves (a - w) (old.most_entries - 1) (without eq old.entries key) front gone) ready.most_weight
+                  (subst (λ n. Leaves (m.most_weight - w) (n - 1) (without eq old.entries key) front gone) ready.most_entries
+                  (subst (λ es. Leaves (m.most_weight - w) (m.most_entries - 1) es front gone) ready.entries l)),
+              (
+                shown,
+                is
+                    ∙ ap (λ n. record { entries = entry key v w ∷ front; places = n; most_weight = m.most_weight; most_entries = m.most_entries }) (omega (arith, ready.places front gone l))
+                    ∙ ap (λ a. record { entries = entry key v w ∷ front; places = max old.places (length (entry key v w ∷ front)); most_weight = a; most_entries = m.most_entries }) ready.most_weight
+                    ∙ ap (λ n. record { entries = entry key v w ∷ front; places = max old.places (length (entry key v w ∷ front)); most_weight = old.most_weight; most_entries = n }) ready.most_entries,
+              ),
             ),
           ),
         ),
@@ -180,7 +190,7 @@ module _ {K V : Type 0} (eq : K → K → Bool) where
 
     module _ {F : Type 0} (Step : F → Entry K V → F → Type 0) (visit : F) (v : V) (w : ℕ) (new : Cached K V) where
       from_old : (o : Option (Entry K V)) → Puts eq Step visit old key v w (Ok o) new → Puts eq Step visit old key v w (Ok None) new
-      from_old o puts = (sym none, puts.1)
+      from_old o puts = (puts.0, (sym none, puts.1.1))
 
       pub put_new : (o : Option (Entry K V)) → Puts eq Step visit m key v w (Ok o) new → Puts eq Step visit old key v w (Ok None) new
       put_new o puts = from_old o (subst (λ c. Puts eq Step visit c key v w (Ok o) new) same_unused puts)

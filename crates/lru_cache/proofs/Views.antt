@@ -1,15 +1,15 @@
 -- What calls make of a cache, by what they make of its rows.
 use Rattle.std.proofs.Common.{◌≡◌, ℕ, ◌+◌, ◌-◌, ◌≤◌, List, [], ◌∷◌, ◌++◌, length, map, Some, None, refl, sym, ap, ◌∙◌, subst, arith}
-use Rattle.std.specs.Prelude.{Option, Bool, is_some, max}
+use Rattle.std.specs.Prelude.{Option, Bool, is_some, max, count_by, ◌==◌}
 use Rattle.std.specs.Option.{option_map, option_map_or}
 use Rattle.std.proofs.lemmas.List.{map-append, length-append}
 use Rattle.lru_rows.specs.declared.rows.Taken.{Taken}
-use Rattle.lru_rows.specs.Rows.{placed, with_value, Updates, UpdatesAt, Placed, Recency, recency, row_at, row_of, IsAt, Finds, IsRecency, promoted, Removes as RowsRemoves, PopsLast as RowsPopsLast, without as rows_without}
+use Rattle.lru_rows.specs.Rows.{last_row, placed, with_value, Updates, UpdatesAt, Placed, Recency, recency, row_at, row_of, IsAt, Finds, IsRecency, promoted, Removes as RowsRemoves, PopsLast as RowsPopsLast, without as rows_without}
 use Rattle.lru_cache.specs.declared.cache.Entry.{Entry}
 use Rattle.std.specs.Borrow.{MutBor}
-use Rattle.lru_cache.specs.Cache.{UpdatesEntry, Cached, entry, entry_of, without, used, weight_of, with_entries, IsCache, PopsLast}
+use Rattle.lru_cache.specs.Cache.{IsLast, UpdatesEntry, Cached, entry, entry_of, without, used, weight_of, with_entries, IsCache, PopsLast}
 use Rattle.lru_cache.specs.Representation.{entry_in, entries_in, weight_in, cached_in, IsKept}
-use Rattle.lru_cache.proofs.Entries.{some_of, with_value-without, with_value-first, row_first, row_place, row_there, weight-entries, length-entries, weight-cons, weight-append, weight-without, length-without, entry-row, keyed-entries, entries-without, absent_without}
+use Rattle.lru_cache.proofs.Entries.{last_told, row_last, some_of, with_value-without, with_value-first, row_first, row_place, row_there, weight-entries, length-entries, weight-cons, weight-append, weight-without, length-without, entry-row, keyed-entries, entries-without, absent_without}
 
 -- the greater of two, where that is known
 max_left : (a b : ℕ) → b ≤ a → max a b ≡ a
@@ -44,6 +44,30 @@ module _ {K V : Type 0} (eq : K → K → Bool) (r : Recency K V) (used_is most_
     placed = omega (arith, length-entries r.rows);
     short = omega (arith, length-entries r.rows, valid.short);
   })
+
+  -- the last entry is shown
+  module _ (valid : IsRecency eq r.rows) (p : ℕ) (told : Some p ≡ option_map (λ (x : Placed K V). x.place) (last_row r.rows)) where
+    last_at : (x : Placed K V) × ((row_at r.rows p ≡ Some x) × ((front : List (Placed K V)) × (r.rows ≡ front ++ x ∷ [])))
+    last_at =
+        let last = last_told r.rows p told in
+        let rows_are = last.1.1.1 in
+        let at = row_last last.1.1.0 last.0 (λ q. subst (λ rs. count_by (λ (y : Placed K V). y.place == q) rs ≤ 1) rows_are (valid.places q)) in
+        (last.0, (ap (λ rs. row_at rs p) rows_are ∙ ap (row_at (last.1.1.0 ++ last.0 ∷ [])) (sym last.1.0) ∙ at, last.1.1))
+
+    pub last_stands : IsAt r.rows p
+    last_stands = ap is_some last_at.1.0
+
+    pub last_shown : (k : K) (v : V) (w : ℕ) → option_map (λ (x : Placed K V). x.key) (row_at r.rows p) ≡ Some k → option_map (λ (x : Placed K V). x.value) (row_at r.rows p) ≡ Some v →
+        option_map (λ (x : Placed K V). x.weight) (row_at r.rows p) ≡ Some w → IsLast c.entries (Some (entry k v w))
+    last_shown k v w key_is value_is weight_is =
+        let x = last_at.0 in
+        let key : x.key ≡ k = some_of x.key k (sym (ap (option_map (λ (y : Placed K V). y.key)) last_at.1.0) ∙ key_is) in
+        let value : x.value ≡ v = some_of x.value v (sym (ap (option_map (λ (y : Placed K V). y.value)) last_at.1.0) ∙ value_is) in
+        let weight : x.weight ≡ w = some_of x.weight w (sym (ap (option_map (λ (y : Placed K V). y.weight)) last_at.1.0) ∙ weight_is) in (
+          entries_in last_at.1.1.0,
+          sym entries_are ∙ ap entries_in last_at.1.1.1 ∙ map-append entry_in last_at.1.1.0 (x ∷ [])
+              ∙ ap (λ e. entries_in last_at.1.1.0 ++ e ∷ []) (ap (λ y. entry y x.value x.weight) key ∙ ap (λ y. entry k y x.weight) value ∙ ap (λ y. entry k v y) weight),
+        )
 
   module _ (key : K) where
     found_entry : entry_of eq c.entries key ≡ option_map entry_in (row_of eq r.rows key)

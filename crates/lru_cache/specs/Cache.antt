@@ -1,9 +1,9 @@
 -- A cache: its entries, most recent first, under two limits.
-use Rattle.std.specs.Prelude.{◌≡◌, ℕ, ◌+◌, ◌-◌, ◌<◌, ◌≤◌, ◌⊎◌, max, not, Bool, true, false, List, [], ◌∷◌, ◌++◌, length, filter, find, reverse, sum_by, count_by, Option, Some, None, Result, Ok, Err, refl, IsSome}
+use Rattle.std.specs.Prelude.{◌≡◌, ℕ, ◌+◌, ◌-◌, ◌<◌, ◌≤◌, ◌⊎◌, max, not, Bool, true, false, List, [], ◌∷◌, ◌++◌, length, map, filter, find, reverse, sum_by, count_by, Option, Some, None, Result, Ok, Err, refl, IsSome}
 use Rattle.std.specs.Option.{option_map_or}
 use Rattle.std.specs.List.{FoldsTo}
 use Rattle.std.specs.Coded.{Coded, code_by, coded×, coded_ℕ, coded_list}
-use Rattle.std.specs.Borrow.{MutBor}
+use Rattle.std.specs.Borrow.{Bor, MutBor}
 use Rattle.lru_rows.specs.Rows.{most_rows, Updates}
 use Rattle.lru_cache.specs.declared.cache.Entry.{Entry}
 use Rattle.lru_cache.specs.declared.cache.Refused.{Refused}
@@ -78,8 +78,8 @@ module _ {K V : Type 0} where
       ((new ≡ old) × ((length old.entries ≤ most_rows) × (Fit (old.most_weight - w) (old.most_entries - 1) old.entries → ⊥)))
       ⊎ ((new ≡ with_places old (max old.places (length old.entries + 1))) × ((length old.entries < most_rows) × Fit (old.most_weight - w) (old.most_entries - 1) old.entries))
   MakesPlace old w (Err TooHeavy) new = ⊥
-  MakesPlace old w (Err Full) new = (new ≡ old) × (length old.entries ≡ most_rows)
-  MakesPlace old w (Err Memory) new = (new ≡ old) × (Fit (old.most_weight - w) (old.most_entries - 1) old.entries × (old.places ≡ length old.entries))
+  MakesPlace old w (Err Full) new = (new ≡ old) × (Fit (old.most_weight - w) (old.most_entries - 1) old.entries × (length old.entries ≡ most_rows))
+  MakesPlace old w (Err Memory) new = (new ≡ old) × (Fit (old.most_weight - w) (old.most_entries - 1) old.entries × ((length old.entries < most_rows) × (old.places ≡ length old.entries)))
 
   -- an entry is put first, and the shortest end of the others goes that has to
   abbrev pub PutsFirst : {F : Type 0} → (F → Entry K V → F → Type 0) → F → Cached K V → K → V → ℕ → Cached K V → Type 0
@@ -92,6 +92,35 @@ module _ {K V : Type 0} where
   Limits Step visit old most_weight most_entries new =
       (front : List (Entry K V)) × ((gone : List (Entry K V)) × (Leaves most_weight most_entries old.entries front gone × (IsShown Step visit gone
       × (new ≡ record { entries = front; places = old.places; most_weight = most_weight; most_entries = most_entries }))))
+
+  -- all entries go, and each is shown
+  abbrev pub Clears : {F : Type 0} → (F → Entry K V → F → Type 0) → F → Cached K V → Cached K V → Type 0
+  Clears Step visit old new = IsShown Step visit old.entries × (new ≡ with_entries old [])
+
+  -- the entry that stands last, if there is one
+  abbrev pub IsLast : List (Entry K V) → Option (Entry K V) → Type 0
+  IsLast es None = es ≡ []
+  IsLast es (Some e) = (front : List (Entry K V)) × (es ≡ front ++ e ∷ [])
+
+  -- a test that is given a key, a value and a weight answered this for an entry
+  pub record Asks {F : Type 0} (step : F → Bor K → Bor V → ℕ → Bool → F → Type 0) (keep : F) (e : Entry K V) (answer : Bool) (next : F) : Type 0 where
+    pub key : Bor K
+    pub value : Bor V
+    pub shows_key : key.now ≡ e.key
+    pub shows_value : value.now ≡ e.value
+    pub called : step keep key value e.weight answer next
+
+  -- the entries of which a test answered true
+  abbrev pub kept_of : List (Entry K V × Bool) → List (Entry K V)
+  kept_of asked = map (λ a. a.0) (filter (λ a. a.1) asked)
+
+  -- a test was asked of each entry, the last first, and those stay of which it answered true
+  pub record Retains {F : Type 0} (step : F → Bor K → Bor V → ℕ → Bool → F → Type 0) (keep : F) (old new : Cached K V) : Type 0 where
+    pub asked : List (Entry K V × Bool)
+    pub left : F
+    pub all : map (λ a. a.0) asked ≡ old.entries
+    pub called : FoldsTo (λ p a q. Asks step p a.0 a.1 q) keep (reverse asked) left
+    pub kept : new ≡ with_entries old (kept_of asked)
 
   module _ (eq : K → K → Bool) where
     -- the entry of a key, if there is one
@@ -116,14 +145,14 @@ module _ {K V : Type 0} where
     -- why an entry may be refused: it is too heavy by itself, or there may be none; or its key has no entry, nothing has to go for it, and there is no place for it
     abbrev pub MayRefuse : Cached K V → K → ℕ → Cause → Type 0
     MayRefuse old k w TooHeavy = (old.most_weight < w) ⊎ (old.most_entries ≡ 0)
-    MayRefuse old k w Full = (entry_of old.entries k ≡ None) × (length old.entries ≡ most_rows)
-    MayRefuse old k w Memory = (entry_of old.entries k ≡ None) × (Fit (old.most_weight - w) (old.most_entries - 1) old.entries × (old.places ≡ length old.entries))
+    MayRefuse old k w Full = (entry_of old.entries k ≡ None) × (Fit (old.most_weight - w) (old.most_entries - 1) old.entries × (length old.entries ≡ most_rows))
+    MayRefuse old k w Memory = (entry_of old.entries k ≡ None) × (Fit (old.most_weight - w) (old.most_entries - 1) old.entries × ((length old.entries < most_rows) × (old.places ≡ length old.entries)))
 
-    -- an entry is put first in place of its key's, which is answered, and the shortest end of the others goes that has to. Or it is refused: key and value are handed back, and nothing has changed
+    -- an entry that fits by itself is put first in place of its key's, which is answered, and the shortest end of the others goes that has to. Or it is refused: key and value are handed back, and nothing has changed
     abbrev pub Puts : {F : Type 0} → (F → Entry K V → F → Type 0) → F → Cached K V → K → V → ℕ → Result (Option (Entry K V)) (Refused K V) → Cached K V → Type 0
     Puts Step visit old k v w (Ok was) new =
-        (was ≡ entry_of old.entries k) × ((front : List (Entry K V)) × ((gone : List (Entry K V)) × (Leaves (old.most_weight - w) (old.most_entries - 1) (without old.entries k) front gone
-        × (IsShown Step visit gone × (new ≡ with_entries old (entry k v w ∷ front))))))
+        ((w ≤ old.most_weight) × (0 < old.most_entries)) × ((was ≡ entry_of old.entries k) × ((front : List (Entry K V)) × ((gone : List (Entry K V))
+        × (Leaves (old.most_weight - w) (old.most_entries - 1) (without old.entries k) front gone × (IsShown Step visit gone × (new ≡ with_entries old (entry k v w ∷ front)))))))
     Puts Step visit old k v w (Err r) new = MayRefuse old k w r.cause × ((r.key ≡ k) × ((r.value ≡ v) × (new ≡ old)))
 
     -- a key's entry goes first, and its value is lent to a closure, which may change it; where it has none, nothing is called
@@ -137,4 +166,4 @@ module _ {K V : Type 0} where
     UsesOrPuts Makes Step visit old key (Ok true) new = IsSome (entry_of old.entries key) × (new ≡ with_entries old (used old.entries key))
     UsesOrPuts Makes Step visit old key (Ok false) new = (made : V × ℕ) × (Makes (Ok made) × Puts Step visit old key made.0 made.1 (Ok None) new)
     UsesOrPuts Makes Step visit old key (Err (Unmade k e)) new = (entry_of old.entries key ≡ None) × (Makes (Err e) × ((k ≡ key) × (new ≡ old)))
-    UsesOrPuts Makes Step visit old key (Err (EntryRefused r)) new = (made : V × ℕ) × (Makes (Ok made) × Puts Step visit old key made.0 made.1 (Err r) new)
+    UsesOrPuts Makes Step visit old key (Err (EntryRefused r)) new = (entry_of old.entries key ≡ None) × ((made : V × ℕ) × (Makes (Ok made) × Puts Step visit old key made.0 made.1 (Err r) new))

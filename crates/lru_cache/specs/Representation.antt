@@ -1,9 +1,10 @@
 -- What the rows of a cache stand for.
-use Rattle.std.specs.Prelude.{◌≡◌, ℕ, ◌+◌, ◌≤◌, List, [], ◌∷◌, ◌++◌, length, map, reverse, sum_by}
+use Rattle.std.specs.Prelude.{Bool, ◌≡◌, ℕ, ◌+◌, ◌≤◌, List, [], ◌∷◌, ◌++◌, length, map, reverse, sum_by}
 use Rattle.std.specs.List.{FoldsTo}
+use Rattle.std.specs.Borrow.{Bor}
 use Rattle.lru_rows.specs.Rows.{Placed, Recency, recency}
 use Rattle.lru_cache.specs.declared.cache.Entry.{Entry}
-use Rattle.lru_cache.specs.Cache.{Cached, entry, IsShown}
+use Rattle.lru_cache.specs.Cache.{Cached, entry, IsShown, Asks, kept_of}
 
 module _ {K V : Type 0} where
   abbrev pub entry_in : Placed K V → Entry K V
@@ -48,3 +49,27 @@ module _ {K V : Type 0} where
     pub free_is : now.free ≡ old.free + length back
     pub shown : FoldsTo Step visit (reverse (entries_in back)) last
     pub used_is : used ≡ weight_in now.rows
+
+  -- a test was asked of these rows, the last first, and these are those for which it answered true
+  pub record RetainsRows {F : Type 0} (step : F → Bor K → Bor V → ℕ → Bool → F → Type 0) (keep : F) (old new : Recency K V) : Type 0 where
+    pub asked : List (Entry K V × Bool)
+    pub left : F
+    pub all : map (λ a. a.0) asked ≡ entries_in old.rows
+    pub called : FoldsTo (λ p a q. Asks step p a.0 a.1 q) keep (reverse asked) left
+    pub kept : entries_in new.rows ≡ kept_of asked
+    pub free_is : length new.rows + new.free ≡ length old.rows + old.free
+
+  -- so far it was asked of the last rows, and those that it kept stand first
+  pub record Retaining {F : Type 0} (step : F → Bor K → Bor V → ℕ → Bool → F → Type 0) (keep last : F) (old now : Recency K V) (used count : ℕ) : Type 0 where
+    pub kept : List (Placed K V)
+    pub rest : List (Placed K V)
+    pub done : List (Placed K V)
+    pub asked : List (Entry K V × Bool)
+    pub now_is : now.rows ≡ kept ++ rest
+    pub parts : old.rows ≡ rest ++ done
+    pub all : map (λ a. a.0) asked ≡ entries_in done
+    pub called : FoldsTo (λ p a q. Asks step p a.0 a.1 q) keep (reverse asked) last
+    pub are_kept : entries_in kept ≡ kept_of asked
+    pub count_is : count ≡ length kept
+    pub used_is : used ≡ weight_in now.rows
+    pub free_is : length now.rows + now.free ≡ length old.rows + old.free

@@ -1,8 +1,9 @@
 //! A cache of one owner.
 ghost use Rattle.std.specs.Prelude.{◌≡◌, ◌<◌, ◌≤◌, None, length, map, is_some, nat_eq, IfOk};
 ghost use Rattle.std.specs.Option.{option_map, option_copied};
-ghost use Rattle.lru_cache.specs.Cache.{empty, weight_of, entry_of, without, used, with_entries, Puts, PutsFirst, HasPlace, MakesPlace, PopsLast, Limits, UpdatesEntry, UsesOrPuts, IsCache};
+ghost use Rattle.lru_cache.specs.Cache.{empty, weight_of, entry_of, without, used, with_entries, Puts, PutsFirst, HasPlace, MakesPlace, PopsLast, IsLast, entry, Limits, Clears, Retains, UpdatesEntry, UsesOrPuts, IsCache};
 
+use crate::keeping::retain;
 use crate::shrinking::{fits, shrink};
 use lru_index::hashing::SeededHashes;
 use lru_list::linked_list::LinkedListIter;
@@ -67,8 +68,8 @@ pub enum NotPut<K, V, E> {
 ///
 /// Its entries stand in the order of their last use. It is over no limit after any call: what has to go for a new entry
 /// goes from the end, the entry that was used longest ago first, and is handed to the caller. A key that stands twice is
-/// found by `Eq`, also where hashes collide. Only a constructor, and a call that puts an entry where no place is free,
-/// take memory.
+/// found by `Eq`, also where hashes collide. Only a constructor, `reserve`, and a call that puts an entry where no place
+/// is free take memory.
 #[derive(Drop)]
 pub struct Cache<K: Hash, V, S: BuildHasher = SeededHashes> {
     rows: Rows<K, V, S>,
@@ -144,7 +145,7 @@ impl<K: Hash, V, S: BuildHasher> Cache<K, V, S> {
     pub fn is_empty(&self) -> bool
         ensures { result ≡ nat_eq (length self.now.entries) 0 }
     {
-        self.rows.len() == 0
+        self.len() == 0
     }
 
     /// What the entries weigh together.
@@ -189,6 +190,18 @@ impl<K: Hash, V, S: BuildHasher> Cache<K, V, S> {
     {
         let place = self.rows.find(key)?;
         Some(self.rows.weight_at(place))
+    }
+
+    /// The key, the value and the weight of the entry that was used longest ago, which is not used by that.
+    pub fn peek_last(&self) -> Option<(&K, &V, usize)>
+        ensures { IsLast self.now.entries (option_map (λ s. entry s.0.now s.1.now s.2) result) }
+    {
+        if self.rows.len() == 0 {
+            return None;
+        }
+        let place = self.rows.last()?;
+        let (key, value) = (self.rows.key_at(place), self.rows.value_at(place));
+        Some((key, value, self.rows.weight_at(place)))
     }
 
     /// The keys, most recent first.
@@ -291,6 +304,17 @@ impl<K: Hash + Default + Drop, V: Drop, S: BuildHasher> Cache<K, V, S> {
         }
     }
 
+    /// Makes room for `additional` more entries. Nothing else changes, also where it is refused.
+    ///
+    /// # Errors
+    ///
+    /// There is no memory for that many, or there can't be as many entries.
+    pub fn reserve(&mut self, additional: usize) -> Result<(), AllocError>
+        ensures { self.new ≡ self.old }
+    {
+        self.rows.reserve(additional)
+    }
+
     // Makes sure of a place for an entry of this weight, whose key has none. Where another has to go for it, its place is
     // free then.
     fn make_place(&mut self, weight: usize) -> Result<(), Cause>
@@ -355,6 +379,24 @@ impl<K: Hash + Default + Drop, V: Drop, S: BuildHasher> Cache<K, V, S> {
         );
         self.most_weight = most_weight;
         self.most_entries = most_entries;
+    }
+
+    /// Lets all entries go, the one that was used longest ago first, and hands each to `visit`. The limits stay, and so do
+    /// the places: as many entries as went take no memory again.
+    pub fn clear<F: FnMut(Entry<K, V>) + Drop>(&mut self, visit: F)
+        requires { F.IsAlwaysCallable visit }
+        ensures { Clears (λ p x q. F.step p x tt q) visit self.old self.new }
+    {
+        self.weight = shrink(&mut self.rows, self.weight, 0, 0, visit);
+    }
+
+    /// Asks `keep` of each entry, the one that was used longest ago first, by its key, its value and its weight, and lets
+    /// those go for which it answers false. The others stay, in their order.
+    pub fn retain<F: FnMut(&K, &V, usize) -> bool + Drop>(&mut self, keep: F)
+        requires { F.IsAlwaysCallable keep }
+        ensures { Retains (λ p k v w b q. F.step p k v w b q) keep self.old self.new }
+    {
+        self.weight = retain(&mut self.rows, self.weight, keep);
     }
 
     /// Takes a key's entry out.

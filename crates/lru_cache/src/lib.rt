@@ -2,4 +2,5 @@
 #![tactic(auto)]
 
 pub mod cache;
+mod keeping;
 mod shrinking;

@@ -76,6 +76,53 @@ fn values_and_limits_change(rt: HostRuntime) -> Result<(), Fail> {
     Ok(())
 }
 
+// What is shown of the last entry, room that is made, and entries that all go.
+#[rattlefmt::skip]
+static FROM_THE_LAST: [Step<u64, u64>; 12] = [
+    (Call::PeekLast, "None", "0 0:"),
+    (Call::Reserve(3), "true", "0 0:"),
+    (Call::Put(1, 10, 2), "new, gone:", "1 2: 1=10 2,"),
+    (Call::PeekLast, "Some((1, 10, 2))", "1 2: 1=10 2,"),
+    (Call::Put(2, 20, 3), "new, gone:", "2 5: 2=20 3, 1=10 2,"),
+    (Call::Put(3, 30, 0), "new, gone:", "3 5: 3=30 0, 2=20 3, 1=10 2,"),
+    (Call::Promote(1), "true", "3 5: 1=10 2, 3=30 0, 2=20 3,"),
+    (Call::PeekLast, "Some((2, 20, 3))", "3 5: 1=10 2, 3=30 0, 2=20 3,"),
+    (Call::Reserve(usize::MAX), "false", "3 5: 1=10 2, 3=30 0, 2=20 3,"),
+    (Call::Clear, "gone: 2=20 3, 3=30 0, 1=10 2,", "0 0:"),
+    (Call::Clear, "gone:", "0 0:"),
+    (Call::Put(2, 21, 10), "new, gone:", "1 10: 2=21 10,"),
+];
+
+#[test]
+fn the_last_entry_is_shown(rt: HostRuntime) -> Result<(), Fail> {
+    let mut cache = Cache::new(rt.alloc(), 10, 5)?;
+    assert_eq!(rt; fault(rt.alloc(), &mut cache, &FROM_THE_LAST)?, None);
+    assert_eq!(rt; (cache.most_weight(), cache.most_entries()), (10, 5));
+    Ok(())
+}
+
+// What stays by what a test answers.
+#[rattlefmt::skip]
+static RETAINED: [Step<u64, u64>; 10] = [
+    (Call::Retain(9), "asked:", "0 0:"),
+    (Call::Put(1, 10, 2), "new, gone:", "1 2: 1=10 2,"),
+    (Call::Put(2, 20, 3), "new, gone:", "2 5: 2=20 3, 1=10 2,"),
+    (Call::Put(3, 30, 1), "new, gone:", "3 6: 3=30 1, 2=20 3, 1=10 2,"),
+    (Call::Put(4, 40, 4), "new, gone:", "4 10: 4=40 4, 3=30 1, 2=20 3, 1=10 2,"),
+    (Call::Retain(4), "asked: 1=10 2, 2=20 3, 3=30 1, 4=40 4,", "4 10: 4=40 4, 3=30 1, 2=20 3, 1=10 2,"),
+    (Call::Retain(2), "asked: 1=10 2, 2=20 3, 3=30 1, 4=40 4,", "2 3: 3=30 1, 1=10 2,"),
+    (Call::Put(2, 21, 7), "new, gone:", "3 10: 2=21 7, 3=30 1, 1=10 2,"),
+    (Call::Retain(0), "asked: 1=10 2, 3=30 1, 2=21 7,", "0 0:"),
+    (Call::Put(5, 50, 10), "new, gone:", "1 10: 5=50 10,"),
+];
+
+#[test]
+fn entries_are_retained(rt: HostRuntime) -> Result<(), Fail> {
+    let mut cache = Cache::new(rt.alloc(), 10, 5)?;
+    assert_eq!(rt; fault(rt.alloc(), &mut cache, &RETAINED)?, None);
+    Ok(())
+}
+
 // Where there may be no entry.
 #[rattlefmt::skip]
 static NO_ENTRIES: [Step<u64, u64>; 2] = [

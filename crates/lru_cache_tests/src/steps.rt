@@ -21,6 +21,14 @@ pub enum Call<K, V> {
     Update(K, V),
     /// Sets the most weight and the most entries. Answers what went.
     SetLimits(usize, usize),
+    /// Answers what went.
+    Clear,
+    /// Answers key, value and weight.
+    PeekLast,
+    /// Answers whether there is room for as many more.
+    Reserve(usize),
+    /// Keeps what weighs at most this. Answers the weights that were shown.
+    Retain(usize),
 }
 
 /// A call, the text of its answer, and that of the cache after it.
@@ -103,6 +111,40 @@ fn set_limits<K: Hash + Debug + Default + Drop, V: Debug + Drop>(
     Ok(gone)
 }
 
+// Lets all entries go, and answers the text of what is shown to its visitor.
+fn clear<K: Hash + Debug + Default + Drop, V: Debug + Drop>(
+    alloc: Global,
+    cache: &mut Cache<K, V>,
+) -> Result<String, AllocError> {
+    let mut gone = String::from_str(alloc, "gone:")?;
+    let mut told = Ok(());
+    cache.clear(|entry| {
+        if told.is_ok() {
+            told = tell(&mut gone, &entry);
+        }
+    });
+    told?;
+    Ok(gone)
+}
+
+// Keeps the entries that weigh at most this, and answers the text of what is shown to its test.
+fn retain<K: Hash + Debug + Default + Drop, V: Debug + Drop>(
+    alloc: Global,
+    cache: &mut Cache<K, V>,
+    most: usize,
+) -> Result<String, AllocError> {
+    let mut shown = String::from_str(alloc, "asked:")?;
+    let mut told = Ok(());
+    cache.retain(|key, value, weight| {
+        if told.is_ok() {
+            told = write!(shown, " {key:?}={value:?} {weight},");
+        }
+        weight <= most
+    });
+    told?;
+    Ok(shown)
+}
+
 /// Whether a key has an entry, its value and its weight.
 pub fn look<K: Hash, V: Debug>(
     alloc: Global,
@@ -154,6 +196,16 @@ where
         Call::SetLimits(most_weight, most_entries) => {
             set_limits(alloc, cache, most_weight, most_entries)
         }
+        Call::Clear => clear(alloc, cache),
+        Call::PeekLast => {
+            let last = cache.peek_last();
+            format!(in alloc; "{last:?}")
+        }
+        Call::Reserve(additional) => {
+            let is_reserved = cache.reserve(additional).is_ok();
+            format!(in alloc; "{is_reserved}")
+        }
+        Call::Retain(most) => retain(alloc, cache, most),
     }
 }
 

@@ -1,6 +1,6 @@
-use Rattle.std.proofs.Common.{not, sym, ap, subst, ◌∙◌}
+use Rattle.std.proofs.Common.{arith, not, sym, ap, subst, ◌∙◌}
 use Rattle.std.specs.Prelude.{is_some}
-use Rattle.lru_cache.proofs.Putting.{Ready, ready_new, ready_there, absent_ready, puts, refuses, none_is}
+use Rattle.lru_cache.proofs.Putting.{fits_alone, Ready, ready_new, ready_there, absent_ready, puts, refuses, none_is}
 use Rattle.lru_cache.proofs.cache.Cache.put.Goals.{then-is_none+in_default, else-is_none}
 use Rattle.lru_cache.proofs.cache.Cache.put.Goals as goal
 
@@ -34,4 +34,4 @@ returns g c =
       | then-is_none+in_default b ↦ subst (Ready g.K.PartialEq.eq c.args.self.now c.remove-was.ensures.valid c.args.key c.args.weight c.remove-was.new.self c.remove-was.ensures.entries) (sym b.self-is) (ready_new g.K.PartialEq.eq c.args.self.now c.remove-was.ensures.valid c.args.key c.args.weight c.remove-was.new.self c.remove-was.ensures.entries b.make_place.new.self b.in_default.ensures)
       | else-is_none b ↦ subst (Ready g.K.PartialEq.eq c.args.self.now c.remove-was.ensures.valid c.args.key c.args.weight c.remove-was.new.self c.remove-was.ensures.entries) (sym b.self-is) (ready_there g.K.PartialEq.eq c.args.self.now c.remove-was.ensures.valid c.args.key c.args.weight c.remove-was.new.self c.remove-was.ensures.entries (ap is_some (sym c.remove-was.ensures.answer) ∙ c.is_none.ensures ∙ ap not b.if-is_none.false))
     ] in
-    puts g.K.PartialEq.eq c.args.self.now c.remove-was.ensures.valid c.args.key c.args.weight c.remove-was.new.self c.remove-was.ensures.entries (λ p x q. goal.F-step g p x tt q) c.args.visit c.args.value c.if-is_none.self c.put_first.new.self ready c.put_first.ensures c.remove-was.result c.remove-was.ensures.answer
+    puts g.K.PartialEq.eq c.args.self.now c.remove-was.ensures.valid c.args.key c.args.weight c.remove-was.new.self c.remove-was.ensures.entries (λ p x q. goal.F-step g p x tt q) c.args.visit c.args.value c.if-is_none.self c.put_first.new.self (fits_alone c.self.inside.rows c.self.inside.most_weight c.self.inside.most_entries c.args.self.now c.self.view_is c.args.weight (omega (arith, c.if-weight-self.false)) (omega (arith, c.if-self-eq0.false))) ready c.put_first.ensures c.remove-was.result c.remove-was.ensures.answer

@@ -1,0 +1,243 @@
+-- The rows that stay, by what a test answers.
+use Rattle.std.proofs.Common.{◌≡◌, ℕ, ◌+◌, ◌-◌, ◌<◌, ◌≤◌, List, [], ◌∷◌, ◌++◌, length, map, cond, Some, None, refl, sym, ap, ◌∙◌, subst, arith, true, false, append_assoc, append-nil}
+use Rattle.std.specs.Prelude.{filter, Bool, is_some, reverse, count_by, ◌==◌}
+use Rattle.std.specs.Option.{option_map, option_map_or}
+use Rattle.std.specs.Borrow.{Bor}
+use Rattle.std.specs.List.{FoldsTo}
+use Rattle.std.proofs.lemmas.Fn.{FoldsTo-push}
+use Rattle.std.proofs.lemmas.List.Sums.{sum_by-cons}
+use Rattle.std.proofs.lemmas.List.{reverse-append, length-append}
+use Rattle.lru_rows.specs.declared.rows.Taken.{Taken}
+use Rattle.lru_rows.specs.Rows.{Placed, Recency, recency, row_at, last_row, IsAt, IsRecency, promoted, PopsLast, without as rows_without}
+use Rattle.lru_cache.specs.declared.cache.Entry.{Entry}
+use Rattle.lru_cache.specs.Cache.{weight_of, Cached, Asks, Retains, kept_of, with_entries}
+use Rattle.lru_cache.specs.Representation.{entry_in, entries_in, weight_in, cached_in, IsKept, Retaining, RetainsRows}
+use Rattle.lru_cache.proofs.Entries.{by_bool, weight-entries, length-entries, some_of, row_last, without_last, last_told, none_told, weight-append, weight-cons}
+
+same_head : {A : Type 0} (a b : A) (xs ys : List A) → a ∷ xs ≡ b ∷ ys → a ≡ b
+same_head a b xs ys e = cc
+
+same_tail : {A : Type 0} (a b : A) (xs ys : List A) → a ∷ xs ≡ b ∷ ys → xs ≡ ys
+same_tail a b xs ys e = cc
+
+-- lists that end alike are alike before that
+same_front : {A : Type 0} (xs ys : List A) (a b : A) → xs ++ a ∷ [] ≡ ys ++ b ∷ [] → (xs ≡ ys) × (a ≡ b)
+same_front [] [] a b e = (refl, same_head a b [] [] e)
+same_front [] (y ∷ ys) a b e = absurd (omega (arith, ap length e, length-append ys (b ∷ [])))
+same_front (x ∷ xs) [] a b e = absurd (omega (arith, ap length e, length-append xs (a ∷ [])))
+same_front (x ∷ xs) (y ∷ ys) a b e =
+    let rest = same_front xs ys a b (same_tail x y (xs ++ a ∷ []) (ys ++ b ∷ []) e) in
+    (ap (λ zs. x ∷ zs) rest.0 ∙ ap (λ z. z ∷ ys) (same_head x y (xs ++ a ∷ []) (ys ++ b ∷ []) e), rest.1)
+
+-- the last of two lists is that of the second, if it has any
+split_end : {A : Type 0} (kept rest front : List A) (x : A) → kept ++ rest ≡ front ++ x ∷ [] → length kept < length (kept ++ rest) → (others : List A) × ((rest ≡ others ++ x ∷ []) × (front ≡ kept ++ others))
+split_end [] rest front x e short = (front, (e, refl))
+split_end (k ∷ ks) rest [] x e short = absurd (omega (arith, ap length e, short))
+split_end (k ∷ ks) rest (f ∷ fs) x e short =
+    let tail = split_end ks rest fs x (same_tail k f (ks ++ rest) (fs ++ x ∷ []) e) (omega (arith, short)) in
+    (tail.0, (tail.1.0, ap (λ y. y ∷ fs) (sym (same_head k f (ks ++ rest) (fs ++ x ∷ []) e)) ∙ ap (λ ys. k ∷ ys) tail.1.1))
+
+module _ {K V F : Type 0} (step : F → Bor K → Bor V → ℕ → Bool → F → Type 0) (keep : F) (old : Recency K V) where
+  pub none_asked : (used : ℕ) → used ≡ weight_in old.rows → Retaining step keep keep old old used 0
+  none_asked used is = record {
+    kept = [];
+    rest = old.rows;
+    done = [];
+    asked = [];
+    now_is = refl;
+    parts = sym (append-nil old.rows);
+    all = refl;
+    called = refl;
+    are_kept = refl;
+    count_is = refl;
+    used_is = is;
+    free_is = refl;
+  }
+
+  module _ (last : F) (now : Recency K V) (used count : ℕ) (s : Retaining step keep last old now used count) where
+    -- what is not told has no rows
+    pub not_untold : count < length now.rows → None ≡ option_map (λ (x : Placed K V). x.place) (last_row now.rows) → ⊥
+    not_untold short told = absurd (omega (arith, short, ap length (none_told now.rows told)))
+
+    pub all_asked : (count < length now.rows → ⊥) → RetainsRows step keep old now
+    all_asked over = from s.rest refl
+      where
+        from : (rest : List (Placed K V)) → s.rest ≡ rest → RetainsRows step keep old now
+        from (x ∷ xs) is = absurd (over (omega (arith, s.count_is, ap length s.now_is, length-append s.kept s.rest, ap length is)))
+        from [] is = record {
+          asked = s.asked;
+          left = last;
+          all = s.all ∙ ap entries_in (sym (s.parts ∙ ap (λ rs. rs ++ s.done) is));
+          called = s.called;
+          kept = ap entries_in (s.now_is ∙ ap (λ rs. s.kept ++ rs) is ∙ append-nil s.kept) ∙ s.are_kept;
+          free_is = s.free_is;
+        }
+
+    module _ (eq : K → K → Bool) (valid : IsRecency eq now.rows) (short : count < length now.rows) (p : ℕ) (told : Some p ≡ option_map (λ (x : Placed K V). x.place) (last_row now.rows)) where
+      -- the row that is asked of
+      pub record Asked : Type 0 where
+        pub row : Placed K V
+        pub others : List (Placed K V)
+        pub place_is : row.place ≡ p
+        pub rest_is : s.rest ≡ others ++ row ∷ []
+        pub now_is : now.rows ≡ (s.kept ++ others) ++ row ∷ []
+        pub at : row_at now.rows p ≡ Some row
+        pub without_is : rows_without now.rows p ≡ s.kept ++ others
+
+      pub asked_row : Asked
+      asked_row =
+          let told_last = last_told now.rows p told in
+          let x = told_last.0 in
+          let front = told_last.1.1.0 in
+          let rows_are : now.rows ≡ front ++ x ∷ [] = told_last.1.1.1 in
+          let parts = split_end s.kept s.rest front x (sym s.now_is ∙ rows_are) (omega (arith, short, s.count_is, ap length s.now_is)) in
+          let once : (q : ℕ) → count_by (λ (y : Placed K V). y.place == q) (front ++ x ∷ []) ≤ 1 = λ q. subst (λ rs. count_by (λ (y : Placed K V). y.place == q) rs ≤ 1) rows_are (valid.places q) in
+          record {
+            row = x;
+            others = parts.0;
+            place_is = told_last.1.0;
+            rest_is = parts.1.0;
+            now_is = rows_are ∙ ap (λ rs. rs ++ x ∷ []) parts.1.1;
+            at = ap (λ rs. row_at rs p) rows_are ∙ ap (row_at (front ++ x ∷ [])) (sym told_last.1.0) ∙ row_last front x once;
+            without_is = ap (λ rs. rows_without rs p) rows_are ∙ ap (rows_without (front ++ x ∷ [])) (sym told_last.1.0) ∙ without_last front x once ∙ parts.1.1;
+          }
+
+      module _ (a : Asked) where
+        pub row_stands : IsAt now.rows p
+        row_stands = ap is_some a.at
+
+        -- what the test was given is the entry
+        pub asks : (k : Bor K) (v : Bor V) (w : ℕ) → option_map (λ (x : Placed K V). x.key) (row_at now.rows p) ≡ Some k.now → option_map (λ (x : Placed K V). x.value) (row_at now.rows p) ≡ Some v.now →
+            option_map (λ (x : Placed K V). x.weight) (row_at now.rows p) ≡ Some w → (answer : Bool) (next : F) → step last k v w answer next → Asks step last (entry_in a.row) answer next
+        asks k v w key_is value_is weight_is answer next called = record {
+          key = k;
+          value = v;
+          shows_key = sym (some_of a.row.key k.now (sym (ap (option_map (λ (x : Placed K V). x.key)) a.at) ∙ key_is));
+          shows_value = sym (some_of a.row.value v.now (sym (ap (option_map (λ (x : Placed K V). x.value)) a.at) ∙ value_is));
+          called = subst (λ n. step last k v n answer next) (sym (some_of a.row.weight w (sym (ap (option_map (λ (x : Placed K V). x.weight)) a.at) ∙ weight_is))) called;
+        }
+
+        front_heavy : weight_in now.rows ≡ weight_in (s.kept ++ a.others) + a.row.weight
+        front_heavy = omega (arith, ap weight_in a.now_is, weight-append (s.kept ++ a.others) (a.row ∷ []), weight-cons a.row [])
+
+        front_long : length now.rows ≡ length (s.kept ++ a.others) + 1
+        front_long = ap length a.now_is ∙ length-append (s.kept ++ a.others) (a.row ∷ [])
+
+        parts_now : old.rows ≡ a.others ++ a.row ∷ s.done
+        parts_now = s.parts ∙ ap (λ rs. rs ++ s.done) a.rest_is ∙ append_assoc a.others (a.row ∷ []) s.done
+
+        called_now : (answer : Bool) (next : F) → Asks step last (entry_in a.row) answer next → FoldsTo (λ p x q. Asks step p x.0 x.1 q) keep (reverse ((entry_in a.row, answer) ∷ s.asked)) next
+        called_now answer next asks =
+            subst (λ xs. FoldsTo (λ p x q. Asks step p x.0 x.1 q) keep xs next) (sym (reverse-append ((entry_in a.row, answer) ∷ []) s.asked))
+            (FoldsTo-push (λ p x q. Asks step p x.0 x.1 q) keep (reverse s.asked) last (entry_in a.row, answer) next s.called asks)
+
+        -- a row that stays goes first
+        module _ (then : Recency K V) (is : then ≡ recency (promoted now.rows p) now.free) where
+          first : then.rows ≡ a.row ∷ (s.kept ++ a.others)
+          first =
+              ap (λ (x : Recency K V). x.rows) is ∙ ap (λ o. option_map_or (λ x. x ∷ rows_without now.rows p) o now.rows) a.at
+              ∙ ap (λ rs. a.row ∷ rs) a.without_is
+
+          pub as_long : length then.rows ≡ length now.rows
+          as_long = omega (arith, front_long, ap length first)
+
+          pub one_kept : (next : F) → Asks step last (entry_in a.row) true next → Retaining step keep next old then used (count + 1)
+          one_kept next asks = record {
+            kept = a.row ∷ s.kept;
+            rest = a.others;
+            done = a.row ∷ s.done;
+            asked = (entry_in a.row, true) ∷ s.asked;
+            now_is = first;
+            parts = parts_now;
+            all = ap (λ es. entry_in a.row ∷ es) s.all;
+            called = called_now true next asks;
+            are_kept = ap (λ es. entry_in a.row ∷ es) s.are_kept;
+            count_is = omega (arith, s.count_is);
+            used_is = omega (arith, s.used_is, front_heavy, ap weight_in first, weight-cons a.row (s.kept ++ a.others));
+            free_is = omega (arith, s.free_is, front_long, ap length first, ap (λ (x : Recency K V). x.free) is);
+          }
+
+        pub not_none : now.rows ≡ [] → ⊥
+        not_none none = absurd (omega (arith, short, ap length none))
+
+        -- a row that goes is the last
+        module _ (t : Taken K V) (then : Recency K V) (pops : PopsLast now (Some t) then) where
+          same : (pops.1 ≡ s.kept ++ a.others) × (pops.0 ≡ a.row)
+          same = same_front pops.1 (s.kept ++ a.others) pops.0 a.row (sym pops.2 ∙ a.now_is)
+
+          left : then.rows ≡ s.kept ++ a.others
+          left = ap (λ (x : Recency K V). x.rows) pops.4 ∙ same.0
+
+          gone_weight : t.weight ≡ a.row.weight
+          gone_weight = ap (λ (x : Taken K V). x.weight) pops.3 ∙ ap (λ (x : Placed K V). x.weight) same.1
+
+          pub gone_light : t.weight ≤ used
+          gone_light = omega (arith, s.used_is, front_heavy, gone_weight)
+
+          pub one_fewer : length then.rows + 1 ≡ length now.rows
+          one_fewer = omega (arith, front_long, ap length left)
+
+          pub one_gone : (next : F) → Asks step last (entry_in a.row) false next → Retaining step keep next old then (used - t.weight) count
+          one_gone next asks = record {
+            kept = s.kept;
+            rest = a.others;
+            done = a.row ∷ s.done;
+            asked = (entry_in a.row, false) ∷ s.asked;
+            now_is = left;
+            parts = parts_now;
+            all = ap (λ es. entry_in a.row ∷ es) s.all;
+            called = called_now false next asks;
+            are_kept = s.are_kept;
+            count_is = s.count_is;
+            used_is = omega (arith, s.used_is, front_heavy, gone_weight, ap weight_in left);
+            free_is = omega (arith, s.free_is, front_long, ap length left, ap (λ (x : Recency K V). x.free) pops.4);
+          }
+
+module _ {K V : Type 0} where
+  -- what stays is no heavier and no longer
+  kept_light : (asked : List (Entry K V × Bool)) → weight_of (kept_of asked) ≤ weight_of (map (λ a. a.0) asked)
+  kept_light [] = omega arith
+  kept_light (a ∷ rest) =
+      by_bool a.1
+      (λ is. omega (
+        arith,
+        kept_light rest,
+        ap (λ b. weight_of (map (λ (x : Entry K V × Bool). x.0) (cond b (a ∷ filter (λ (x : Entry K V × Bool). x.1) rest) (filter (λ (x : Entry K V × Bool). x.1) rest)))) is,
+        sum_by-cons (λ (e : Entry K V). e.weight) a.0 (kept_of rest),
+        sum_by-cons (λ (e : Entry K V). e.weight) a.0 (map (λ (x : Entry K V × Bool). x.0) rest),
+      ))
+      (λ is. omega (
+        arith,
+        kept_light rest,
+        ap (λ b. weight_of (map (λ (x : Entry K V × Bool). x.0) (cond b (a ∷ filter (λ (x : Entry K V × Bool). x.1) rest) (filter (λ (x : Entry K V × Bool). x.1) rest)))) is,
+        sum_by-cons (λ (e : Entry K V). e.weight) a.0 (map (λ (x : Entry K V × Bool). x.0) rest),
+      ))
+
+  kept_few : (asked : List (Entry K V × Bool)) → length (kept_of asked) ≤ length (map (λ a. a.0) asked)
+  kept_few [] = omega arith
+  kept_few (a ∷ rest) =
+      by_bool a.1
+      (λ is. omega (arith, kept_few rest, ap (λ b. length (map (λ (x : Entry K V × Bool). x.0) (cond b (a ∷ filter (λ (x : Entry K V × Bool). x.1) rest) (filter (λ (x : Entry K V × Bool). x.1) rest)))) is))
+      (λ is. omega (arith, kept_few rest, ap (λ b. length (map (λ (x : Entry K V × Bool). x.0) (cond b (a ∷ filter (λ (x : Entry K V × Bool). x.1) rest) (filter (λ (x : Entry K V × Bool). x.1) rest)))) is))
+
+-- what the cache is then
+module _ {K V F : Type 0} (step : F → Bor K → Bor V → ℕ → Bool → F → Type 0) (keep : F) (r r' : Recency K V) (s : RetainsRows step keep r r') where
+  pub retains : (most_weight most_entries : ℕ) (c : Cached K V) → cached_in r most_weight most_entries ≡ c → Retains step keep c (cached_in r' most_weight most_entries)
+  retains most_weight most_entries c view = record {
+    asked = s.asked;
+    left = s.left;
+    all = s.all ∙ ap (λ (x : Cached K V). x.entries) view;
+    called = s.called;
+    kept =
+        ap (λ es. record { entries = es; places = length r'.rows + r'.free; most_weight = most_weight; most_entries = most_entries }) s.kept
+        ∙ ap (λ n. record { entries = kept_of s.asked; places = n; most_weight = most_weight; most_entries = most_entries })
+        (omega (arith, s.free_is, ap length s.kept, length-entries r'.rows))
+        ∙ ap (λ (x : Cached K V). with_entries x (kept_of s.asked)) view;
+  }
+
+  pub kept_retained : (most_weight most_entries used used' : ℕ) → IsKept r used most_weight most_entries → used' ≡ weight_in r'.rows → IsKept r' used' most_weight most_entries
+  kept_retained most_weight most_entries used used' was is = record {
+    used_is = is;
+    light = omega (arith, is, was.light, was.used_is, weight-entries r'.rows, ap weight_of s.kept, kept_light s.asked, ap weight_of s.all, weight-entries r.rows);
+    few = omega (arith, was.few, length-entries r'.rows, ap length s.kept, kept_few s.asked, ap length s.all, length-entries r.rows);
+  }
