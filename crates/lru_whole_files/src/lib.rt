@@ -1,0 +1,6 @@
+//! Whole files of a folder: written and synced, and read to their end.
+#![tactic(auto)]
+
+pub mod errors;
+pub mod reading;
+pub mod writing;
