@@ -3,4 +3,5 @@
 
 pub mod errors;
 pub mod reading;
+pub mod replacing;
 pub mod writing;
