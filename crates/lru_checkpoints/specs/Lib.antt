@@ -1,0 +1,4 @@
+pub mod Texts
+pub mod Checkpoints
+pub mod Causes
+pub mod Loads

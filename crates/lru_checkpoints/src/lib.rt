@@ -1,0 +1,6 @@
+//! Checkpoints of shards in a folder: whole, or refused.
+#![tactic(auto)]
+
+pub mod errors;
+pub mod loading;
+pub mod saving;
