@@ -1,23 +1,19 @@
 -- What a save of a checkpoint leaves.
-use Rattle.std.proofs.Common.{◌≡◌, ◌≢◌, ◌⊎◌, inl, inr, ⊎_elim, ℕ, zero, suc, ◌<◌, ◌≤◌, ◌^◌, List, [], ◌∷◌, length, Some, slice_get, Vec, Result, Ok, Err, refl, sym, ◌∙◌, ap, subst, arith}
+use Rattle.std.proofs.Common.{◌≡◌, inl, inr, ⊎_elim, ℕ, zero, suc, ◌<◌, ◌^◌, List, [], ◌∷◌, length, Some, slice_get, Result, Ok, Err, sym, ◌∙◌, arith}
 use Rattle.std.specs.Prelude.{OnOk}
-use Rattle.std.specs.declared.alloc.Global.{Global}
-use Rattle.std.specs.FinMap.{get}
 use Rattle.lru_folder.specs.Files.{Files}
 use Rattle.lru_folder.specs.Folder.{LeavesOnly}
 use Rattle.lru_folder.specs.Losses.{IsFromStart, LosesOnly}
 use Rattle.lru_folder.specs.Meaning.{Meaning}
 use Rattle.lru_folder.proofs.LossLemmas.{then_loses}
 use Rattle.lru_folder.proofs.Moments.{then_run}
-use Rattle.lru_frames.specs.declared.row.Row.{Row}
-use Rattle.lru_frames.specs.Frame.{frame_of}
 use Rattle.lru_manifests.specs.declared.manifest.Manifest.{Manifest}
-use Rattle.lru_manifests.specs.Manifests.{part_header, manifest_bytes}
+use Rattle.lru_manifests.specs.Manifests.{manifest_bytes}
 use Rattle.lru_manifests.specs.Names.{frame_path, manifest_path, manifest_temp_path}
 use Rattle.lru_manifests.proofs.NameLaws.{frame-apart-manifest, frame-apart-temp, temp-apart-manifest}
 use Rattle.lru_whole_files.specs.Touching.{IsSameBut, TouchesOnly}
 use Rattle.lru_whole_files.specs.Replacing.{IsReplaced, IsOldOrReplaced, Replaces}
-use Rattle.lru_checkpoints.specs.Checkpoints.{Shards, manifest_of, IsFrame, AreFirm, IsPartOf, HasFrames, HasCheckpoint, IsOldOrNew, SavesCheckpoint}
+use Rattle.lru_checkpoints.specs.Checkpoints.{Shards, manifest_of, IsFrame, AreFirm, HasFrames, HasCheckpoint, IsOldOrNew, SavesCheckpoint}
 
 -- an item of a list stands below its length
 pub get-below : {A : Type 0} (xs : List A) (i : ℕ) (y : A) → slice_get xs i ≡ Some y → i < length xs

@@ -1,9 +1,8 @@
-use Rattle.std.proofs.Common.{◌≡◌, ◌≢◌, ◌<◌, ◌^◌, ℕ, List, length, inl, inr, ⊎_elim, Some, Vec, slice_get, refl, sym, ◌∙◌, ap, subst, arith, rules}
+use Rattle.std.proofs.Common.{◌≡◌, ◌≢◌, ◌<◌, ℕ, List, inl, inr, ⊎_elim, Some, Vec, slice_get, refl, sym, ◌∙◌, ap, subst, arith}
 use Rattle.std.specs.declared.alloc.Global.{Global}
 use Rattle.std.specs.FinMap.{get}
 use Rattle.std.proofs.lemmas.Bool.{cases_lt}
 use Rattle.std.proofs.lemmas.Option.{get_or_from_slice_get}
-use Rattle.lru_folder.specs.Files.{Files}
 use Rattle.lru_folder.specs.Meaning.{Meaning}
 use Rattle.lru_folder.specs.Names.{shard_text}
 use Rattle.lru_folder.proofs.NamesLemmas.{shard_path-injective}
@@ -11,7 +10,6 @@ use Rattle.lru_frames.specs.Frame.{frame_of, Fits}
 use Rattle.lru_frames.specs.declared.row.Row.{Row}
 use Rattle.lru_manifests.specs.Manifests.{part_header}
 use Rattle.lru_manifests.specs.Names.{frame_path}
-use Rattle.lru_whole_files.specs.Touching.{TouchesOnly}
 use Rattle.lru_whole_files.proofs.Touched.{touches_started, touches_then, touches_more}
 use Rattle.lru_checkpoints.specs.Checkpoints.{IsFrame}
 use Rattle.lru_checkpoints.proofs.Saved.{get-below}

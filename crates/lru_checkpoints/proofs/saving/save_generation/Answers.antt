@@ -1,4 +1,4 @@
-use Rattle.std.proofs.Common.{◌<◌, ◌^◌, length, Result, Ok, Err, OnOk, subst, sym, arith}
+use Rattle.std.proofs.Common.{◌<◌, ◌^◌, length, arith}
 use Rattle.lru_folder.specs.Meaning.{Meaning}
 use Rattle.lru_checkpoints.specs.Checkpoints.{HasCheckpoint}
 use Rattle.lru_checkpoints.proofs.Saved.{saves_frames, saves_all, new_checkpoint, on_ok}
