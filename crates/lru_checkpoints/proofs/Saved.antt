@@ -8,12 +8,12 @@ use Rattle.lru_folder.specs.Meaning.{Meaning}
 use Rattle.lru_folder.proofs.LossLemmas.{then_loses}
 use Rattle.lru_folder.proofs.Moments.{then_run}
 use Rattle.lru_manifests.specs.declared.manifest.Manifest.{Manifest}
-use Rattle.lru_manifests.specs.Manifests.{manifest_bytes}
+use Rattle.lru_manifests.specs.Manifests.{IsManifest, manifest_bytes}
 use Rattle.lru_manifests.specs.Names.{frame_path, manifest_path, manifest_temp_path}
 use Rattle.lru_manifests.proofs.NameLaws.{frame-apart-manifest, frame-apart-temp, temp-apart-manifest}
 use Rattle.lru_whole_files.specs.Touching.{IsSameBut, TouchesOnly}
 use Rattle.lru_whole_files.specs.Replacing.{IsReplaced, IsOldOrReplaced, Replaces}
-use Rattle.lru_checkpoints.specs.Checkpoints.{Shards, manifest_of, IsFrame, AreFirm, HasFrames, HasCheckpoint, IsOldOrNew, SavesCheckpoint}
+use Rattle.lru_checkpoints.specs.Checkpoints.{Shards, manifest_of, IsFrame, AreFirm, FitsEach, HasFrames, HasCheckpoint, IsOldOrNew, SavesCheckpoint}
 
 -- an item of a list stands below its length
 pub get-below : {A : Type 0} (xs : List A) (i : ℕ) (y : A) → slice_get xs i ≡ Some y → i < length xs
@@ -48,12 +48,12 @@ module _ {F : Type 0} (meaning : Meaning F) (P Q : Files → Files → Type 0) (
     before = λ t m le s. ⊎_elim inl (λ from. inr (from_more m from)) (h.before t m le s);
   }
 
-module _ {K V : Type 0} (key_bytes : K → List ℕ) (data_bytes : V → List ℕ) (dir file_name : List ℕ) (generation : ℕ) (shards : Shards K V) (small : length shards < 2 ^ 64) where
+module _ {K V : Type 0} (key_bytes : K → List ℕ) (IsKey : K → Type 0) (data_bytes : V → List ℕ) (IsData : V → Type 0) (dir file_name : List ℕ) (generation : ℕ) (shards : Shards K V) (small : length shards < 2 ^ 64) where
   abbrev manifest : Manifest
   manifest = manifest_of generation shards
 
   abbrev R : Files → Files → Type 0
-  R = IsOldOrNew key_bytes data_bytes dir file_name generation shards
+  R = IsOldOrNew key_bytes IsKey data_bytes IsData dir file_name generation shards
 
   abbrev Frame : List ℕ → Type 0
   Frame = IsFrame dir file_name manifest
@@ -69,11 +69,13 @@ module _ {K V : Type 0} (key_bytes : K → List ℕ) (data_bytes : V → List �
   frames_only was m h = record { checkpoint = inl (h (manifest_path dir file_name) no_frame); others = λ q other. h q (λ f. other (inr (inr f))) }
 
   -- once they stand, and no loss of power changes them
-  module _ (held : Files) (loose : List ℕ → Type 0) (frames : HasFrames key_bytes data_bytes dir file_name manifest shards held) (firm : AreFirm dir file_name manifest loose) where
+  module _ (numbers : IsManifest manifest) (fits : FitsEach IsKey IsData manifest shards) (held : Files) (loose : List ℕ → Type 0) (frames : HasFrames key_bytes data_bytes dir file_name manifest shards held) (firm : AreFirm dir file_name manifest loose) where
     pub new_checkpoint : (old m : Files) → IsReplaced (manifest_temp_path dir file_name) (manifest_path dir file_name) (manifest_bytes manifest) held loose old m
-        → HasCheckpoint key_bytes data_bytes dir file_name generation shards m
+        → HasCheckpoint key_bytes IsKey data_bytes IsData dir file_name generation shards m
     new_checkpoint old m r = record {
+      numbers = numbers;
       manifest = r.file;
+      fits = fits;
       frames = λ shard rows at.
           let below : shard < length shards = get-below shards shard rows at in
           let path = frame_path dir file_name generation shard in
@@ -93,7 +95,7 @@ module _ {K V : Type 0} (key_bytes : K → List ℕ) (data_bytes : V → List �
 
   module _ {F : Type 0} (meaning : Meaning F) (start : F) where
     abbrev Saves : F → Type 0
-    Saves = SavesCheckpoint meaning key_bytes data_bytes dir file_name generation shards start
+    Saves = SavesCheckpoint key_bytes IsKey data_bytes IsData dir file_name meaning generation shards start
 
     pub saves_frames : (mid : F) → TouchesOnly meaning Frame start mid → Saves mid
     saves_frames mid h = record {
@@ -102,14 +104,14 @@ module _ {K V : Type 0} (key_bytes : K → List ℕ) (data_bytes : V → List �
       loosens = λ q l. ⊎_elim (λ f. inl (inr (inr f))) inr (h.loosens q l);
     }
 
-    pub saves_all : (mid new : F) → TouchesOnly meaning Frame start mid → HasFrames key_bytes data_bytes dir file_name manifest shards (meaning.files mid)
+    pub saves_all : (mid new : F) → IsManifest manifest → FitsEach IsKey IsData manifest shards → TouchesOnly meaning Frame start mid → HasFrames key_bytes data_bytes dir file_name manifest shards (meaning.files mid)
         → AreFirm dir file_name manifest (meaning.loose mid)
         → Replaces meaning (manifest_temp_path dir file_name) (manifest_path dir file_name) (manifest_bytes manifest) mid new → Saves new
-    saves_all mid new first frames firm second = record {
+    saves_all mid new numbers fits first frames firm second = record {
       any_moment = then_run meaning (IsSameBut Frame (meaning.files start)) (Replaced (meaning.files mid) (meaning.loose mid) (meaning.files mid)) (R (meaning.files start)) start mid new
           first.any_moment second.any_moment (frames_only (meaning.files start))
-          (λ m r. then_replaced (meaning.files mid) (meaning.loose mid) frames firm (meaning.files start) (meaning.files mid) m first.any_moment.now r);
+          (λ m r. then_replaced numbers fits (meaning.files mid) (meaning.loose mid) frames firm (meaning.files start) (meaning.files mid) m first.any_moment.now r);
       any_loss = then_loses meaning (IsSameBut Frame) (Replaced (meaning.files mid) (meaning.loose mid)) R start mid new first.any_loss second.any_loss
-          frames_only (then_replaced (meaning.files mid) (meaning.loose mid) frames firm);
+          frames_only (then_replaced numbers fits (meaning.files mid) (meaning.loose mid) frames firm);
       loosens = λ q l. ⊎_elim (λ t. inl (inr (inl t))) (λ before. ⊎_elim (λ f. inl (inr (inr f))) inr (first.loosens q before)) (second.loosens q l);
     }

@@ -9,7 +9,7 @@ use Rattle.lru_folder.specs.Meaning.{Meaning}
 use Rattle.lru_frames.specs.declared.row.Row.{Row}
 use Rattle.lru_frames.specs.Frame.{frame_of, Fits}
 use Rattle.lru_manifests.specs.declared.manifest.Manifest.{Manifest}
-use Rattle.lru_manifests.specs.Manifests.{part_header, manifest_bytes}
+use Rattle.lru_manifests.specs.Manifests.{IsManifest, part_header, manifest_bytes}
 use Rattle.lru_manifests.specs.Names.{frame_path, manifest_path, manifest_temp_path}
 
 -- the rows of each shard
@@ -44,22 +44,24 @@ module _ {K V : Type 0} where
     HasFrames manifest shards files = (shard : ℕ) (rows : Vec (Row K V) Global) → slice_get shards shard ≡ Some rows
         → get files (frame_path dir file_name manifest.generation shard) ≡ Some (frame_of key_bytes data_bytes (part_header manifest shard) rows.items)
 
-    -- The files have a whole checkpoint.
+  module _ (key_bytes : K → List ℕ) (IsKey : K → Type 0) (data_bytes : V → List ℕ) (IsData : V → Type 0) (dir file_name : List ℕ) where
+    -- The files have a whole checkpoint, which can be read.
     pub record HasCheckpoint (generation : ℕ) (shards : Shards K V) (files : Files) : Type 0 where
+      pub numbers : IsManifest (manifest_of generation shards)
       pub manifest : get files (manifest_path dir file_name) ≡ Some (manifest_bytes (manifest_of generation shards))
-      pub frames : HasFrames (manifest_of generation shards) shards files
+      pub fits : FitsEach IsKey IsData (manifest_of generation shards) shards
+      pub frames : HasFrames key_bytes data_bytes dir file_name (manifest_of generation shards) shards files
 
     -- The manifest is as it was, or there is the whole new checkpoint; and no path that is none of its parts has changed.
     pub record IsOldOrNew (generation : ℕ) (shards : Shards K V) (old m : Files) : Type 0 where
       pub checkpoint : (get m (manifest_path dir file_name) ≡ get old (manifest_path dir file_name)) ⊎ HasCheckpoint generation shards m
       pub others : (q : List ℕ) → ¬ IsPartOf dir file_name (manifest_of generation shards) q → get m q ≡ get old q
 
--- What is safe at every moment of a save.
-pub record SavesCheckpoint {F K V : Type 0} (meaning : Meaning F) (key_bytes : K → List ℕ) (data_bytes : V → List ℕ) (dir file_name : List ℕ)
-    (generation : ℕ) (shards : Shards K V) (old new : F) : Type 0 where
-  -- a stop leaves the old checkpoint or the new one,
-  pub any_moment : LeavesOnly meaning (IsOldOrNew key_bytes data_bytes dir file_name generation shards (meaning.files old)) old new
-  -- and so does a loss of power, where old is as a loss at the start could have left it
-  pub any_loss : LosesOnly meaning (IsOldOrNew key_bytes data_bytes dir file_name generation shards) old new
-  -- no path of another checkpoint becomes loose
-  pub loosens : (q : List ℕ) → meaning.loose new q → IsPartOf dir file_name (manifest_of generation shards) q ⊎ meaning.loose old q
+    -- What is safe at every moment of a save.
+    pub record SavesCheckpoint {F : Type 0} (meaning : Meaning F) (generation : ℕ) (shards : Shards K V) (old new : F) : Type 0 where
+      -- a stop leaves the old checkpoint or the new one,
+      pub any_moment : LeavesOnly meaning (IsOldOrNew generation shards (meaning.files old)) old new
+      -- and so does a loss of power, where old is as a loss at the start could have left it
+      pub any_loss : LosesOnly meaning (IsOldOrNew generation shards) old new
+      -- no path of another checkpoint becomes loose
+      pub loosens : (q : List ℕ) → meaning.loose new q → IsPartOf dir file_name (manifest_of generation shards) q ⊎ meaning.loose old q

@@ -2,3 +2,4 @@ pub mod Texts
 pub mod Checkpoints
 pub mod Causes
 pub mod Loads
+pub mod Crashes

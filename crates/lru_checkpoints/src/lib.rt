@@ -2,5 +2,6 @@
 #![tactic(auto)]
 
 pub mod errors;
+pub mod law;
 pub mod loading;
 pub mod saving;

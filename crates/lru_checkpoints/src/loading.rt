@@ -8,7 +8,7 @@ ghost use Rattle.lru_manifests.specs.declared.manifest.Manifest.{Manifest};
 ghost use Rattle.lru_manifests.specs.Manifests.{IsManifest, part_header, manifest_bytes};
 ghost use Rattle.lru_manifests.specs.Names.{frame_path, manifest_path};
 ghost use Rattle.lru_whole_files.specs.Touching.{TouchesNothing};
-ghost use Rattle.lru_checkpoints.specs.Checkpoints.{Shards, manifest_of, FitsEach, HasCheckpoint, HasFrames};
+ghost use Rattle.lru_checkpoints.specs.Checkpoints.{Shards, FitsEach, HasCheckpoint, HasFrames};
 ghost use Rattle.lru_checkpoints.specs.Loads.{AreSameShards, IsFault, IsRefused, IsRefusedFrame, IsRefusedManifest, refused, unread};
 
 use crate::errors::{CheckpointError, CheckpointFile};
@@ -189,14 +189,12 @@ pub fn load_checkpoint<F: Folder, K: Stored, V: Stored>(
     file_name: &str,
 ) -> Result<Checkpoint<K, V>, CheckpointError>
     // What is loaded stands there whole.
-    ensures found { F.meaning.keeps folder.old → IfOk result (λ checkpoint. HasCheckpoint K.bytes_of V.bytes_of
+    ensures found { F.meaning.keeps folder.old → IfOk result (λ checkpoint. HasCheckpoint K.bytes_of K.is_value V.bytes_of V.is_value
         dir.now file_name.now checkpoint.generation checkpoint.shards.items (F.meaning.files folder.old)) }
-    ensures fits { IfOk result (λ checkpoint. FitsEach K.is_value V.is_value (manifest_of checkpoint.generation checkpoint.shards.items) checkpoint.shards.items) }
 
     // What stands there whole is loaded, unless memory or the device fails.
-    ensures written { F.meaning.keeps folder.old → (generation : ℕ) (shards : Shards K V) → IsManifest (manifest_of generation shards)
-        → FitsEach K.is_value V.is_value (manifest_of generation shards) shards
-        → HasCheckpoint K.bytes_of V.bytes_of dir.now file_name.now generation shards (F.meaning.files folder.old)
+    ensures written { F.meaning.keeps folder.old → (generation : ℕ) (shards : Shards K V)
+        → HasCheckpoint K.bytes_of K.is_value V.bytes_of V.is_value dir.now file_name.now generation shards (F.meaning.files folder.old)
         → MatchResult result
         (λ checkpoint. (checkpoint.generation ≡ generation) × AreSameShards K.is_same V.is_same checkpoint.shards.items shards) IsFault }
 

@@ -7,7 +7,7 @@ ghost use Rattle.lru_manifests.specs.Manifests.{IsManifest, part_header, manifes
 ghost use Rattle.lru_manifests.specs.Names.{frame_path, manifest_path, manifest_temp_path};
 ghost use Rattle.lru_whole_files.specs.Touching.{IsWritten, TouchesOnly};
 ghost use Rattle.lru_whole_files.specs.Replacing.{IsReplaced, Replaces};
-ghost use Rattle.lru_checkpoints.specs.Checkpoints.{manifest_of, FitsEach, HasCheckpoint, HasFrames, IsFrame, AreFirm, SavesCheckpoint};
+ghost use Rattle.lru_checkpoints.specs.Checkpoints.{FitsEach, HasCheckpoint, HasFrames, IsFrame, AreFirm, SavesCheckpoint};
 ghost use Rattle.lru_checkpoints.specs.Causes.{HasSaveReason};
 
 use crate::errors::{CheckpointError, CheckpointFile};
@@ -145,13 +145,12 @@ pub fn save_generation<F: Folder, K: Stored, V: Stored>(
 ) -> Result<(), CheckpointError>
     requires { suc (length shards.now) < 2 ^ 64 }
 
-    ensures saved { F.meaning.keeps folder.old → OnOk result (HasCheckpoint K.bytes_of V.bytes_of
+    ensures saved { F.meaning.keeps folder.old → OnOk result (HasCheckpoint K.bytes_of K.is_value V.bytes_of V.is_value
         dir.now file_name.now generation shards.now (F.meaning.files folder.new)) }
-    ensures fits { OnOk result (FitsEach K.is_value V.is_value (manifest_of generation shards.now) shards.now) }
 
     // A stop, and a loss of power, at any moment leaves the checkpoint that was there, or the whole new one.
-    ensures saves { F.meaning.keeps folder.old → SavesCheckpoint F.meaning K.bytes_of V.bytes_of
-        dir.now file_name.now generation shards.now folder.old folder.new }
+    ensures saves { F.meaning.keeps folder.old → SavesCheckpoint K.bytes_of K.is_value V.bytes_of V.is_value
+        dir.now file_name.now F.meaning generation shards.now folder.old folder.new }
 
     // An error names the file and the call that failed, and it has its reason.
     ensures reason { F.meaning.keeps folder.old → IfErr result (HasSaveReason F.meaning dir.now file_name.now generation folder.old folder.new) }

@@ -11,16 +11,16 @@ use Rattle.lru_checkpoints.proofs.Loaded.{refused_from, same_shards, same_manife
 use Rattle.lru_checkpoints.proofs.loading.load_checkpoint.Goals as goal
 
 pub returns-in-Err-clause-written : goal.returns-in-Err-clause-written
-returns-in-Err-clause-written g c k generation shards numbers fits checkpoint = c.in-Err.ensures.written k (manifest_of generation shards) numbers checkpoint.manifest
+returns-in-Err-clause-written g c k generation shards checkpoint = c.in-Err.ensures.written k (manifest_of generation shards) checkpoint.numbers checkpoint.manifest
 
 pub returns-in-Err-load_frames-clause-written : goal.returns-in-Err-load_frames-clause-written
-returns-in-Err-load_frames-clause-written g c k generation shards numbers fits checkpoint =
+returns-in-Err-load_frames-clause-written g c k generation shards checkpoint =
     let F = g.F.Folder in
     let m : Meaning _ = F.meaning in
     let is : c.in-Ok-Some.manifest ≡ manifest_of generation shards
-    = same_manifest c.in-Ok-Some.field-0 c.in-Ok-Some.manifest (manifest_of generation shards) c.in-Ok-Some.field-0-is (c.in-Ok-Some.ensures.written k (manifest_of generation shards) numbers checkpoint.manifest) in
+    = same_manifest c.in-Ok-Some.field-0 c.in-Ok-Some.manifest (manifest_of generation shards) c.in-Ok-Some.field-0-is (c.in-Ok-Some.ensures.written k (manifest_of generation shards) checkpoint.numbers checkpoint.manifest) in
     c.in-Err-load_frames.ensures.written (c.load_manifest.ensures.kept.0 k) shards (ap (λ (n : Manifest). n.shards) (sym is))
-    (subst (λ (n : Manifest). FitsEach g.K.Stored.is_value g.V.Stored.is_value n shards) (sym is) fits)
+    (subst (λ (n : Manifest). FitsEach g.K.Stored.is_value g.V.Stored.is_value n shards) (sym is) checkpoint.fits)
     (subst (λ (n : Manifest). HasFrames g.K.Stored.bytes_of g.V.Stored.bytes_of c.args.dir.now c.args.file_name.now n shards (F.meaning.files c.load_manifest.new.folder)) (sym is)
     (subst (λ (f : Files). HasFrames g.K.Stored.bytes_of g.V.Stored.bytes_of c.args.dir.now c.args.file_name.now (manifest_of generation shards) shards f) (sym (c.load_manifest.ensures.files k)) checkpoint.frames))
 
@@ -56,18 +56,18 @@ returns-clause-touches g c k =
     touches_then g.F.Folder.meaning (λ q. ⊥) c.args.folder.now c.load_manifest.new.folder c.load_frames.new.folder (c.load_manifest.ensures.touches k) (c.load_frames.ensures.touches (c.load_manifest.ensures.kept.0 k))
 
 pub returns-clause-written : goal.returns-clause-written
-returns-clause-written g c k generation shards numbers fits checkpoint =
+returns-clause-written g c k generation shards checkpoint =
     let F = g.F.Folder in
     let K = g.K.Stored in
     let V = g.V.Stored in
     let m : Meaning _ = F.meaning in
     let manifest = c.in-Ok-Some.manifest in
     let is : manifest ≡ manifest_of generation shards
-    = same_manifest c.in-Ok-Some.field-0 manifest (manifest_of generation shards) c.in-Ok-Some.field-0-is (c.in-Ok-Some.ensures.written k (manifest_of generation shards) numbers checkpoint.manifest) in (
+    = same_manifest c.in-Ok-Some.field-0 manifest (manifest_of generation shards) c.in-Ok-Some.field-0-is (c.in-Ok-Some.ensures.written k (manifest_of generation shards) checkpoint.numbers checkpoint.manifest) in (
       ap (λ (n : Manifest). n.generation) is,
       same_shards K.bytes_of K.is_value K.is_same V.bytes_of V.is_value V.is_same g.met.K.Stored.tells_its_end g.met.V.Stored.tells_its_end c.args.dir.now c.args.file_name.now manifest (F.meaning.files c.args.folder.now)
           c.in-Ok.shards.items shards (c.in-Ok.ensures.count ∙ ap (λ (n : Manifest). n.shards) is) c.in-Ok.ensures.fits
-          (subst (λ (n : Manifest). FitsEach K.is_value V.is_value n shards) (sym is) fits)
+          (subst (λ (n : Manifest). FitsEach K.is_value V.is_value n shards) (sym is) checkpoint.fits)
           (subst (λ (f : Files). HasFrames K.bytes_of V.bytes_of c.args.dir.now c.args.file_name.now manifest c.in-Ok.shards.items f) (c.load_manifest.ensures.files k)
           (c.in-Ok.ensures.found (c.load_manifest.ensures.kept.0 k)))
           (subst (λ (n : Manifest). HasFrames K.bytes_of V.bytes_of c.args.dir.now c.args.file_name.now n shards (F.meaning.files c.args.folder.now)) (sym is) checkpoint.frames),
