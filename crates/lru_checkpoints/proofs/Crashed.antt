@@ -28,7 +28,7 @@ if_matched (Ok x) P Q X then p = then x p
 if_matched (Err e) P Q X then p = p
 
 -- the bytes of a manifest are those of one alone
-one_manifest : (a b : Manifest) → IsManifest a → IsManifest b → ◌≡◌ {A = Option (List ℕ)} (Some (manifest_bytes a)) (Some (manifest_bytes b)) → a ≡ b
+pub one_manifest : (a b : Manifest) → IsManifest a → IsManifest b → ◌≡◌ {A = Option (List ℕ)} (Some (manifest_bytes a)) (Some (manifest_bytes b)) → a ≡ b
 one_manifest a b is_a is_b same =
     let bytes : manifest_bytes a ≡ manifest_bytes b = cc in
     let content = one_content (manifest_content a) (manifest_content b) bytes in

@@ -3,3 +3,4 @@ pub mod Checkpoints
 pub mod Causes
 pub mod Loads
 pub mod Crashes
+pub mod Generations

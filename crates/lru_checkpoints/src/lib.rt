@@ -4,4 +4,5 @@
 pub mod errors;
 pub mod law;
 pub mod loading;
+pub mod next;
 pub mod saving;
