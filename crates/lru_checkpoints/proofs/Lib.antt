@@ -1,0 +1,4 @@
+pub mod Saved
+pub mod Loaded
+pub mod Crashed
+pub mod Counted

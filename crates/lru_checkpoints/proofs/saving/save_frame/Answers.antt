@@ -1,0 +1,23 @@
+use Rattle.std.proofs.Common.{◌≡◌, ℕ, List, ◌∙◌, subst}
+use Rattle.lru_folder.specs.Meaning.{Meaning}
+use Rattle.lru_whole_files.specs.Touching.{TouchesOnly}
+use Rattle.lru_whole_files.proofs.Touched.{touches_started}
+use Rattle.lru_checkpoints.proofs.saving.save_frame.Goals as goal
+
+pub returns-in_default-clause-touches : goal.returns-in_default-clause-touches
+returns-in_default-clause-touches g c k = touches_started g.F.Folder.meaning _ c.args.folder.now (λ m s. g.met.F.Folder.only_now c.args.folder.now m k s)
+
+pub returns-in_default-encode-clause-touches : goal.returns-in_default-encode-clause-touches
+returns-in_default-encode-clause-touches g c k = touches_started g.F.Folder.meaning _ c.args.folder.now (λ m s. g.met.F.Folder.only_now c.args.folder.now m k s)
+
+pub returns-in-Ok-write_file-clause-touches : goal.returns-in-Ok-write_file-clause-touches
+returns-in-Ok-write_file-clause-touches g c k =
+    let F = g.F.Folder in
+    let m : Meaning _ = F.meaning in
+    subst (λ (p : List ℕ). TouchesOnly m (λ q. q ≡ p) c.args.folder.now c.write_file.new.folder) (c.deref.ensures ∙ c.in-Ok.ensures) (c.write_file.ensures.touches k)
+
+pub returns-clause-touches : goal.returns-clause-touches
+returns-clause-touches g c k =
+    let F = g.F.Folder in
+    let m : Meaning _ = F.meaning in
+    subst (λ (p : List ℕ). TouchesOnly m (λ q. q ≡ p) c.args.folder.now c.write_file.new.folder) (c.deref.ensures ∙ c.in-Ok.ensures) (c.write_file.ensures.touches k)

@@ -1,0 +1,94 @@
+//! Why a checkpoint was not saved or not loaded.
+ghost use Rattle.std.specs.Prelude.{◌≡◌};
+ghost use Rattle.lru_checkpoints.specs.declared.errors.CheckpointError.TheVariants.{Memory};
+
+use lru_frames::errors::Part;
+use lru_whole_files::errors::CallFault;
+use std::alloc::AllocError;
+use std::error::Error;
+use std::fmt;
+use std::fmt::Display;
+
+/// A file of a checkpoint.
+#[derive(Clone, Copy, Debug, PartialEq, Eq)]
+pub enum CheckpointFile {
+    /// The manifest, or the file that it is first written to.
+    Manifest,
+    /// The frame of this shard.
+    Shard(u64),
+}
+
+impl Display for CheckpointFile {
+    ghost use Rattle.std.specs.Prelude.{Some};
+    ghost use Rattle.lru_checkpoints.specs.Texts.{file_text};
+
+    ghost output = { λ file. Some (file_text file) };
+
+    fn fmt<W: fmt::Write>(&self, f: &mut fmt::Formatter<W>) -> fmt::Result {
+        match self {
+            CheckpointFile::Manifest => f.write_str("manifest"),
+            CheckpointFile::Shard(shard) => write!(f, "shard {shard}"),
+        }
+    }
+}
+
+/// Why a checkpoint was not saved or not loaded.
+#[derive(Clone, Copy, Debug, PartialEq, Eq)]
+pub enum CheckpointError {
+    /// No memory was found for names or bytes.
+    Memory,
+    /// A call of the folder failed.
+    Folder {
+        /// The file of the call.
+        file: CheckpointFile,
+        /// The call, and why it failed.
+        fault: CallFault,
+    },
+    /// The file is not there.
+    Missing {
+        /// Which one.
+        file: CheckpointFile,
+    },
+    /// The file is damaged.
+    Damaged {
+        /// Which one.
+        file: CheckpointFile,
+        /// Where the damage was found.
+        part: Part,
+    },
+    /// The file is whole, but is another part, or of another checkpoint.
+    Other {
+        /// Which one.
+        file: CheckpointFile,
+    },
+    /// No generation is left after that of the manifest.
+    LastGeneration,
+}
+
+impl Display for CheckpointError {
+    ghost use Rattle.std.specs.Prelude.{Some};
+    ghost use Rattle.lru_checkpoints.specs.Texts.{error_text};
+
+    ghost output = { λ error. Some (error_text error) };
+
+    fn fmt<W: fmt::Write>(&self, f: &mut fmt::Formatter<W>) -> fmt::Result {
+        match self {
+            CheckpointError::Memory => f.write_str("out of memory"),
+            CheckpointError::Folder { file, fault } => write!(f, "{file}: {fault}"),
+            CheckpointError::Missing { file } => write!(f, "{file}: not there"),
+            CheckpointError::Damaged { file, part } => write!(f, "{file}: damaged {part}"),
+            CheckpointError::Other { file } => write!(f, "{file}: of another checkpoint"),
+            CheckpointError::LastGeneration => f.write_str("no generation is left"),
+        }
+    }
+}
+
+impl Error for CheckpointError {}
+
+impl From<AllocError> for CheckpointError {
+    ghost from_gives = { λ _ error. error ≡ Memory };
+
+    fn from(_: AllocError) -> Self {
+        CheckpointError::Memory
+    }
+}
