@@ -1,0 +1,34 @@
+-- What is answered of what lies behind a shard's lock, and what is left there.
+use Rattle.std.specs.Prelude.{◌≡◌, ℕ, Bool, ◌&&◌, not, nat_eq, List, [], ◌∷◌, ◌++◌, filter, Option, Some, None, Result, Ok, Err, is_some}
+use Rattle.std.specs.List.{list_any}
+use Rattle.std.specs.Borrow.{Bor, MutBor}
+use Rattle.std.specs.declared.alloc.AllocError.{AllocError}
+use Rattle.lru_cache.specs.declared.cache.Entry.{Entry}
+use Rattle.lru_cache.specs.Cache.{entry_of}
+
+-- whether a hash is among those of the keys whose values are being made
+abbrev pub is_among : List ℕ → ℕ → Bool
+is_among hashes hash = list_any (λ h. nat_eq h hash) hashes
+
+-- the hashes without this one
+abbrev pub left_of : List ℕ → ℕ → List ℕ
+left_of hashes hash = filter (λ h. not (nat_eq h hash)) hashes
+
+module _ {K V : Type 0} where
+  -- a clone of an entry's value, or nothing where there is no entry
+  abbrev pub IsCloned : (V → V → Type 0) → Option (Entry K V) → Option V → Type 0
+  IsCloned clones None None = Unit {0}
+  IsCloned clones None (Some v) = ⊥
+  IsCloned clones (Some e) None = ⊥
+  IsCloned clones (Some e) (Some v) = clones e.value v
+
+  -- the value of a key's entry was lent to a closure, which answered this; or there is no entry, and nothing was called
+  abbrev pub ShowsEntry : {R : Type 0} → (K → K → Bool) → (Bor V → R → Type 0) → List (Entry K V) → K → Option R → Type 0
+  ShowsEntry eq post es key None = entry_of eq es key ≡ None
+  ShowsEntry eq post es key (Some answer) = (e : Entry K V) × ((entry_of eq es key ≡ Some e) × ((lent : Bor V) × ((lent.now ≡ e.value) × post lent answer)))
+
+-- the hashes after a call that answers a clone, or notes that a value is being made, or finds no memory
+abbrev pub noted : {V E : Type 0} → List ℕ → ℕ → Result (Option V) E → List ℕ
+noted hashes hash (Ok None) = hashes ++ hash ∷ []
+noted hashes hash (Ok (Some v)) = hashes
+noted hashes hash (Err e) = hashes
