@@ -288,9 +288,9 @@ impl<K: Hash + Default + Drop, V: Drop, const N: usize, S: BuildHasher> SharedCa
     /// weight, as `put` does, and answers a clone of that value.
     ///
     /// `make` is called under no lock, and only where the key has no entry and nobody makes one. While it runs, others who
-    /// call this for the same key wait until the entry is put or refused, or until somebody puts one; if none is put, the
-    /// next of them makes one. Other keys go on, but for those of the very same hash, which wait in the same way; so `make`
-    /// is not to call this. An entry that somebody else put of the key meanwhile is replaced, and let go.
+    /// call this for the same key wait until `make` is done; where no entry is put then, the next of them makes one. Other
+    /// keys go on, but for those of the very same hash, which wait in the same way; so `make` must not call this on the
+    /// same cache. An entry that somebody else put of the key meanwhile is replaced, and let go.
     ///
     /// # Errors
     ///

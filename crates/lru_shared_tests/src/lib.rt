@@ -1,0 +1,9 @@
+//! Tests of `lru_shared`: each call, limits that are divided, a value that is made once, and a soak.
+#![tactic(auto)]
+
+#[cfg(test)]
+mod calls;
+#[cfg(test)]
+mod made;
+#[cfg(test)]
+mod soak;

@@ -1,0 +1,108 @@
+//! Values that are made where a key has none: once, by one thread while others wait.
+use lru_shared::shared::{NotGot, SharedCache};
+use std::alloc::{AllocError, Global};
+use std::sync::Wait;
+use std::sync::atomic::{AtomicU64, Ordering};
+use std::test::Fail;
+use std::thread;
+use std::thread::Threads;
+
+// What a closure makes: a value and a weight, or a number that tells why none is made.
+type Made = Result<(u64, usize), u8>;
+
+type Numbers = SharedCache<u64, u64, 2>;
+
+// Asks for a key's value, and makes this one where it has none.
+fn ask(rt: &impl Wait, cache: &Numbers, key: u64, made: Made) -> Result<u64, NotGot<u64, u64, u8>> {
+    cache.get_or_put_with(rt, key, move || -> Made { made }, |_gone| {})
+}
+
+// A key that is there is used, and nothing is made; a missing one is put, unless none is made or it is too heavy.
+fn are_made_where_missing(rt: &impl Wait, alloc: Global) -> Result<bool, AllocError> {
+    let cache = Numbers::new(alloc, 20, 20)?;
+    let put = ask(rt, &cache, 1, Ok((10, 2)));
+    let used = ask(rt, &cache, 1, Err(7));
+    let unmade = ask(rt, &cache, 2, Err(7));
+    let heavy = ask(rt, &cache, 3, Ok((30, 11)));
+    let then = ask(rt, &cache, 3, Ok((31, 1)));
+    let is_as_told = matches!(put, Ok(10))
+        && matches!(used, Ok(10))
+        && matches!(unmade, Err(NotGot::Unmade(2, 7)))
+        && matches!(heavy, Err(NotGot::Refused(_)))
+        && matches!(then, Ok(31));
+    Ok(is_as_told && (cache.len(rt), cache.weight(rt)) == (2, 3))
+}
+
+#[test]
+fn a_value_is_made_where_a_key_has_none(rt: HostRuntime) -> Result<(), Fail> {
+    assert!(rt; are_made_where_missing(&rt, rt.alloc())?);
+    Ok(())
+}
+
+// Asks for a key's value, which takes a while to make, and is not made the first `refusals` times. Whether 7 is answered.
+fn asks<R: Wait>(rt: &R, cache: &Numbers, made: &AtomicU64, refusals: u64) -> bool {
+    let answer = cache.get_or_put_with(
+        rt,
+        5,
+        || -> Made {
+            let before = made.fetch_add(1, Ordering::SeqCst);
+            for _ in 0..1000u32 {
+                thread::yield_now();
+            }
+            if before < refusals {
+                return Err(1);
+            }
+            Ok((7, 1))
+        },
+        |_gone| {},
+    );
+    matches!(answer, Ok(7))
+}
+
+fn two_ask<R: Threads + Wait + Sync>(
+    rt: &R,
+    cache: &Numbers,
+    made: &AtomicU64,
+    refusals: u64,
+) -> (bool, bool) {
+    thread::join(
+        rt,
+        move || asks(rt, cache, made, refusals),
+        move || asks(rt, cache, made, refusals),
+    )
+}
+
+// Four threads ask for one key's value. How many were answered, and how often it was made.
+fn all_ask<R: Threads + Wait + Sync>(
+    rt: &R,
+    alloc: Global,
+    refusals: u64,
+) -> Result<(u8, u64), AllocError> {
+    let cache = Numbers::new(alloc, 20, 20)?;
+    let count = AtomicU64::new(0);
+    let (shared, made) = (&cache, &count);
+    let ((a, b), (c, d)) = thread::join(
+        rt,
+        move || two_ask(rt, shared, made, refusals),
+        move || two_ask(rt, shared, made, refusals),
+    );
+    let mut answered = 0u8;
+    for is_answered in [a, b, c, d] {
+        if is_answered {
+            answered = answered.saturating_add(1);
+        }
+    }
+    Ok((answered, count.load(Ordering::SeqCst)))
+}
+
+#[test]
+fn a_value_is_made_once(rt: HostRuntime) -> Result<(), Fail> {
+    assert_eq!(rt; all_ask(&rt, rt.alloc(), 0)?, (4, 1));
+    Ok(())
+}
+
+#[test]
+fn the_next_makes_what_was_refused(rt: HostRuntime) -> Result<(), Fail> {
+    assert_eq!(rt; all_ask(&rt, rt.alloc(), 2)?, (2, 3));
+    Ok(())
+}
