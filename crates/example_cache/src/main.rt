@@ -137,9 +137,21 @@ fn main(rt: HostRuntime) -> io::Result<ExitCode> {
         };
         ask(rt, &mut cache, &mut met, key, size)?;
     }
-    println!(rt; "{} hits, {} misses, {} bytes", met.hits, met.misses, cache.weight())?;
+    println!(rt;
+        "{} hits, {} misses, {} bytes",
+        met.hits,
+        met.misses,
+        cache.weight()
+    )?;
     let shards = [rows_of(rt, cache)?];
-    if let Err(error) = save_generation(rt.alloc(), &mut folder, FOLDER, NAME, generation, &shards) {
+    if let Err(error) = save_generation(
+        rt.alloc(),
+        &mut folder,
+        FOLDER,
+        NAME,
+        generation,
+        &shards,
+    ) {
         println!(rt; "not saved: {error}")?;
         return Ok(ExitCode::from(1));
     }

@@ -46,11 +46,18 @@ fn ask<R: Wait>(rt: &R, squares: &Squares, made: &AtomicU64, first: u64) -> Met 
 fn main(rt: HostRuntime) -> io::Result<()> {
     let squares = Squares::new(rt.alloc(), usize::MAX, usize::MAX)?;
     let made = AtomicU64::new(0);
-    let all = thread::map_indices(&rt, rt.alloc(), THREADS, &|number| {
-        ask(&rt, &squares, &made, 250u64.wrapping_mul(number as u64))
-    })?;
+    let all = thread::map_indices(
+        &rt,
+        rt.alloc(),
+        THREADS,
+        &|number| { ask(&rt, &squares, &made, 250u64.wrapping_mul(number as u64)) },
+    )?;
     for (number, met) in all.iter().enumerate() {
         println!(rt; "thread {number}: sum {}, missed {}", met.sum, met.missed)?;
     }
-    println!(rt; "made {} values, {} entries", made.load(Ordering::SeqCst), squares.len(&rt))
+    println!(rt;
+        "made {} values, {} entries",
+        made.load(Ordering::SeqCst),
+        squares.len(&rt)
+    )
 }
