@@ -1,1 +1,2 @@
 pub mod Possibles
+pub mod Words

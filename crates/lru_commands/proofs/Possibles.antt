@@ -1,12 +1,12 @@
 -- A command that a line means names shards that are there.
-use Rattle.std.proofs.Common.{◌≡◌, ℕ, Bool, true, false, refl, cond, ltb, ◌&&◌, List, [], ◌∷◌, map, Some, None, arith, zero, suc}
-use Rattle.std.specs.Prelude.{◌==◌, All, Option, not, length, option_and_then, codes}
+use Rattle.std.proofs.Common.{◌≡◌, ℕ, Bool, true, false, refl, cond, ltb, ◌&&◌, List, [], ◌∷◌, Some, None}
+use Rattle.std.specs.Prelude.{◌==◌, Option, not, length, option_and_then, codes}
 use Rattle.std.specs.Str.{bytes_eq, is_utf8}
 use Rattle.pingora_lru_files.specs.Names.{has_slash}
 use Rattle.std.proofs.lemmas.Bool.{cond_both, and_parts, ltb-true}
 use Rattle.pingora_lru.specs.declared.calls.Call.TheVariants.{EvictStep}
-use Rattle.lru_lines.specs.Lines.{number_of, most_of, lines_of, parts_of}
-use Rattle.lru_commands.specs.Commands.{Asked, Do, ListRows, Save, Load, text_of, file_name_of, of_name_and_two, bare, with_one, with_two, with_three, with_four, of_words, command_of, commands_of, Possible, IsPossible}
+use Rattle.lru_lines.specs.Lines.{number_of, most_of}
+use Rattle.lru_commands.specs.Commands.{Asked, Do, ListRows, Save, Load, text_of, file_name_of, of_name_and_two, bare, with_one, with_two, with_three, with_four, of_words, Possible, IsPossible}
 
 -- a name that is asked for, and else what the names after it mean
 or_else : (b : Bool) (command : Asked) (other : Option Asked) → IsPossible command → Possible other → Possible (cond b (Some command) other)
@@ -57,7 +57,7 @@ possible_of_name_and_two name a b =
     (λ _. cond_both (bytes_eq name (codes "load")) _ _ Possible (λ _. possible_place a b Load (λ dir file e. e))
     (λ _. then_possible (number_of a) _ (λ x. then_possible (number_of b) _ (λ y. possible_two name x y))))
 
-possible_words : (words : List (List ℕ)) → Possible (of_words words)
+pub possible_words : (words : List (List ℕ)) → Possible (of_words words)
 possible_words [] = tt
 possible_words (name ∷ []) = possible_bare name
 possible_words (name ∷ a ∷ []) = then_possible (number_of a) _ (λ x. possible_one name x)
@@ -66,11 +66,3 @@ possible_words (name ∷ a ∷ b ∷ c ∷ []) = then_possible (number_of a) _ (
 possible_words (name ∷ a ∷ b ∷ c ∷ m ∷ []) =
     then_possible (number_of a) _ (λ x. then_possible (number_of b) _ (λ y. then_possible (number_of c) _ (λ z. then_possible (most_of m) _ (λ most. possible_four name x y z most))))
 possible_words (name ∷ a ∷ b ∷ c ∷ m ∷ d ∷ words) = tt
-
-each_possible : (lines : List (List ℕ)) → All Possible (map command_of lines)
-each_possible [] k d lt = absurd (omega arith)
-each_possible (line ∷ lines) zero d lt = possible_words (parts_of 32 line)
-each_possible (line ∷ lines) (suc k) d lt = each_possible lines k d (omega arith)
-
-pub all_possible : (input : List ℕ) → All Possible (commands_of input)
-all_possible input = each_possible (lines_of input)

@@ -1,13 +1,12 @@
 //! The commands of the program: what the lines of an input ask for.
-ghost use Rattle.std.specs.Prelude.{◌≡◌, All, IfOk, map, option_map};
-ghost use Rattle.lru_commands.specs.Commands.{asked, text_of, file_name_of, of_words, of_name_and_two, bare, with_one, with_two, with_three, with_four, command_of, commands_of, Possible};
+ghost use Rattle.std.specs.Prelude.{◌≡◌, option_map};
+ghost use Rattle.lru_commands.specs.Commands.{asked, text_of, file_name_of, of_name_and_two, bare, with_one, with_two, with_three, with_four, command_of, Possible};
 ghost use Rattle.lru_lines.specs.Lines.{now_of};
 
 use lru_lines::numbers::{number, number_or_dash};
-use lru_lines::parts::{lines, parts};
+use lru_lines::parts::cut;
 use pingora_lru::calls::Call;
 use pingora_lru_files::snapshot::Keyed;
-use std::alloc::{AllocError, Global};
 
 /// What a line asks for.
 #[derive(Drop)]
@@ -22,45 +21,45 @@ pub enum Command<'a> {
     Load { dir: &'a str, file_name: &'a str },
 }
 
-// The command of a line, if it is one.
-fn line_command(alloc: Global, line: &[u8]) -> Result<Option<Command<'_>>, AllocError>
-    ensures { IfOk result (λ command. option_map asked command ≡ command_of line.now) }
+/// The command of a line, if it is one: words with single spaces between them.
+pub fn command_from(line: &[u8]) -> Option<Command<'_>>
+    ensures read { option_map asked result ≡ command_of line.now }
+    ensures possible { Possible (option_map asked result) }
 {
-    let words = parts(alloc, line, b' ')?;
-    Ok(command_from(&words))
+    from_words(line)
 }
 
-/// The commands of an input, a line each; `None` for a bad line. An error is want of memory.
-pub fn commands(alloc: Global, input: &[u8]) -> Result<Vec<Option<Command<'_>>>, AllocError>
-    ensures read { IfOk result (λ commands. map (option_map asked) commands.items ≡ commands_of input.now) }
-    ensures possible { IfOk result (λ commands. All Possible (map (option_map asked) commands.items)) }
+// It is a function of its own, so that each of its ways out has one statement.
+fn from_words(line: &[u8]) -> Option<Command<'_>>
+    ensures { option_map asked result ≡ command_of line.now }
 {
-    let lines = lines(alloc, input)?;
-    let mut commands = Vec::new(alloc);
-    for line in &lines {
-        commands.push(line_command(alloc, line)?)?;
+    let (name, rest) = cut(line, b' ');
+    let Some(rest) = rest else {
+        return bare(name);
+    };
+    let (a, rest) = cut(rest, b' ');
+    let Some(rest) = rest else {
+        return with_one(name, number(a)?);
+    };
+    let (b, rest) = cut(rest, b' ');
+    let Some(rest) = rest else {
+        return of_name_and_two(name, a, b);
+    };
+    let (c, rest) = cut(rest, b' ');
+    let Some(rest) = rest else {
+        return with_three(name, number(a)?, number(b)?, number(c)?);
+    };
+    let (most, rest) = cut(rest, b' ');
+    if rest.is_some() {
+        return None;
     }
-    Ok(commands)
-}
-
-/// The command that a line's words are, if they are one.
-pub fn command_from<'a>(words: &[&'a [u8]]) -> Option<Command<'a>>
-    ensures { option_map asked result ≡ of_words (map now_of words.now) }
-{
-    match words {
-        [name] => bare(name),
-        [name, a] => with_one(name, number(a)?),
-        [name, a, b] => of_name_and_two(name, a, b),
-        [name, a, b, c] => with_three(name, number(a)?, number(b)?, number(c)?),
-        [name, a, b, c, most] => with_four(
-            name,
-            number(a)?,
-            number(b)?,
-            number(c)?,
-            number_or_dash(most)?,
-        ),
-        _ => None,
-    }
+    with_four(
+        name,
+        number(a)?,
+        number(b)?,
+        number(c)?,
+        number_or_dash(most)?,
+    )
 }
 
 // A name with a folder and a file's name, or with two numbers.

@@ -1,16 +1,17 @@
 //! The engine: all of the program but where its arguments and its streams come from.
-ghost use Rattle.std.specs.Prelude.{◌≡◌, ◌≢◌, ◌↔◌, ◌⊎◌, List, ℕ, All, Some, None, IfOk, IfSome, IsNone, IsSome, OnErr, OnOk, map, option_map, is_some, string_bytes};
+ghost use Rattle.std.specs.Prelude.{◌≡◌, ◌≢◌, ◌↔◌, ◌⊎◌, List, ℕ, Some, None, IfOk, IfSome, IsNone, IsSome, OnErr, OnOk, map, is_some, string_bytes};
 ghost use Rattle.std.specs.List.{list_all};
 ghost use Rattle.std.specs.Io.Buffered.{writer_contents};
 ghost use Rattle.std.specs.Io.KnownBytes.{Appends};
-ghost use Rattle.lru_commands.specs.Commands.{asked, Possible, commands_of};
+ghost use Rattle.lru_commands.specs.Commands.{commands_of};
 ghost use Rattle.lru_commands.specs.Settings.{settings_of};
 ghost use Rattle.lru_replies.specs.Replies.{usage_text, error_line_text};
 ghost use Rattle.lru_engine.specs.Program.{fresh, memory_text, input_text, WritesFor, Runs, GivesUp};
 
 use log::Log;
-use lru_commands::command::{Command, commands};
+use lru_commands::command::command_from;
 use lru_commands::settings::{Settings, settings_from};
+use lru_lines::parts::first_line;
 use lru_replies::replies::answer;
 use lru_streams::input::{Input, InputError};
 use lru_streams::output::Output;
@@ -33,25 +34,25 @@ fn serve<F: Folder, R: Rng, L: Log, W: Output>(
     alloc: Global,
     rng: &mut R,
     log: &L,
-    lines: Vec<Option<Command<'_>>>,
+    input: &[u8],
     writer: &mut W,
 ) -> io::Result<bool>
-    requires { All Possible (map (option_map asked) lines.items) }
     ensures text { OnOk result (WritesFor F.meaning
         (record { core = core.old; folder = folder.old; words = R.stream rng.old })
-        (map (option_map asked) lines.entry.items) (W.contents writer.old) (W.contents writer.new) folder.new) }
+        (commands_of input.now) (W.contents writer.old) (W.contents writer.new) folder.new) }
     ensures failed { OnErr result (W.has_failed writer.new) }
-    ensures good { IfOk result (λ good. good ≡ list_all is_some (map (option_map asked) lines.entry.items)) }
+    ensures good { IfOk result (λ good. good ≡ list_all is_some (commands_of input.now)) }
     ensures kept { F.meaning.keeps folder.old ↔ F.meaning.keeps folder.new }
 {
-    let count = lines.len();
-    let mut rest = lines.into_iter();
-    while let Some(line) = rest.next() {
-        match line {
+    let mut rest = input;
+    let mut number = 0;
+    while !rest.is_empty() {
+        let (line, behind) = first_line(rest);
+        rest = behind;
+        number += 1;
+        match command_from(line) {
             Some(command) => answer(core, folder, alloc, rng, log, command, writer)?,
             None => {
-                // how many lines were taken, this one with them
-                let number = count - rest.len();
                 write_bad_line(writer, number)?;
                 return Ok(false);
             }
@@ -128,14 +129,11 @@ pub fn run<F: Folder, L: Log, R: Input, W: Output>(
         Err(InputError::Memory) => return memory_error(writer),
         Err(InputError::Failed) => return input_error(writer),
     }
-    let Ok(lines) = commands(alloc, &input) else {
-        return memory_error(writer);
-    };
     let Ok(mut core) = make_core(alloc, settings) else {
         return memory_error(writer);
     };
     let mut rng = StdRng::seed_from_u64(settings.seed);
-    match serve(&mut core, folder, alloc, &mut rng, log, lines, writer) {
+    match serve(&mut core, folder, alloc, &mut rng, log, &input, writer) {
         Ok(true) => 0,
         Ok(false) => 2,
         Err(_) => 1,

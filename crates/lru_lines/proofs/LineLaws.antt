@@ -1,11 +1,10 @@
 -- Laws of numbers and of parts of a text.
-use Rattle.std.proofs.Common.{◌≡◌, ℕ, ◌+◌, ◌-◌, ◌*◌, ◌<◌, ◌≤◌, true, false, cond, leb, ◌&&◌, List, [], ◌∷◌, ◌++◌, length, take, drop, get_or, Some, None, refl, sym, ap, ◌∙◌, arith, eqb, append_assoc, length-drop}
-use Rattle.std.specs.Prelude.{fold, map}
-use Rattle.std.specs.Borrow.{Bor}
+use Rattle.std.proofs.Common.{◌≡◌, Bool, ℕ, ◌+◌, ◌-◌, ◌*◌, ◌<◌, ◌≤◌, true, false, cond, leb, ◌&&◌, List, [], ◌∷◌, ◌++◌, length, take, drop, get_or, Some, None, refl, sym, ap, ◌∙◌, arith, eqb}
+use Rattle.std.specs.Prelude.{fold, ◌==◌, if◌then◌else◌, slice_index_or}
 use Rattle.std.specs.List.{list_all}
 use Rattle.std.proofs.lemmas.Bool.{and_left, and_right, and_from, le-leb, lt-leb, cond-true, cond-false, eq-eqb, ne_eqb}
-use Rattle.std.proofs.lemmas.List.{take_more, drop_more, get_or-drop, map-append}
-use Rattle.lru_lines.specs.Lines.{is_digit, value_of, number_of, parts_from, now_of}
+use Rattle.std.proofs.lemmas.List.{take_more, drop_more}
+use Rattle.lru_lines.specs.Lines.{is_digit, value_of, number_of, parts_from, parts_of, lines_of}
 
 abbrev pub step : ℕ → ℕ → ℕ
 step n byte = n * 10 + (byte - 48)
@@ -42,21 +41,41 @@ part_ends s text part at lt e =
     ap (parts_from s part) (drop_more text at 0 lt)
     ∙ cond-true (eqb (get_or text at 0) s) (part ∷ parts_from s [] (drop (at + 1) text)) (parts_from s (part ++ get_or text at 0 ∷ []) (drop (at + 1) text)) (eq-eqb _ _ e)
 
-pub part_goes_on : (s : ℕ) (text : List ℕ) (start at : ℕ) → start ≤ at → at < length text → (get_or text at 0 ≡ s → ⊥) →
-    parts_from s (take (at - start) (drop start text)) (drop at text) ≡ parts_from s (take (at + 1 - start) (drop start text)) (drop (at + 1) text)
-part_goes_on s text start at le lt ne =
-    ap (parts_from s (take (at - start) (drop start text))) (drop_more text at 0 lt)
-    ∙ cond-false (eqb (get_or text at 0) s) (take (at - start) (drop start text) ∷ parts_from s [] (drop (at + 1) text)) (parts_from s (take (at - start) (drop start text) ++ get_or text at 0 ∷ []) (drop (at + 1) text)) (ne_eqb _ _ ne)
-    ∙ ap (λ part. parts_from s part (drop (at + 1) text)) (sym (ap (λ n. take n (drop start text)) (let e : at + 1 - start ≡ at - start + 1 = omega arith in e) ∙ take_more (drop start text) (at - start) 0 (omega (arith, length-drop start text))
-    ∙ ap (λ b. take (at - start) (drop start text) ++ b ∷ []) (get_or-drop start text (at - start) 0 ∙ ap (λ n. get_or text n 0) (let e : start + (at - start) ≡ at = omega arith in e))))
+pub part_goes_on : (s : ℕ) (text : List ℕ) (at : ℕ) → at < length text → (get_or text at 0 ≡ s → ⊥) →
+    parts_from s (take at text) (drop at text) ≡ parts_from s (take (at + 1) text) (drop (at + 1) text)
+part_goes_on s text at lt ne =
+    ap (parts_from s (take at text)) (drop_more text at 0 lt)
+    ∙ cond-false (eqb (get_or text at 0) s) (take at text ∷ parts_from s [] (drop (at + 1) text)) (parts_from s (take at text ++ get_or text at 0 ∷ []) (drop (at + 1) text)) (ne_eqb _ _ ne)
+    ∙ ap (λ part. parts_from s part (drop (at + 1) text)) (sym (take_more text at 0 lt))
 
--- a part that ends is put behind the others
-pub cut : (parts : List (Bor (List ℕ))) (x : Bor (List ℕ)) (s : ℕ) (text : List ℕ) (start at : ℕ) (all : List (List ℕ)) → x.now ≡ take (at - start) (drop start text) → at < length text → get_or text at 0 ≡ s →
-    map now_of parts ++ parts_from s (take (at - start) (drop start text)) (drop at text) ≡ all →
-    map now_of (parts ++ x ∷ []) ++ parts_from s (take (at + 1 - (at + 1)) (drop (at + 1) text)) (drop (at + 1) text) ≡ all
-cut parts x s text start at all is lt e h =
-    ap (λ ps. ps ++ parts_from s (take (at + 1 - (at + 1)) (drop (at + 1) text)) (drop (at + 1) text)) (map-append now_of parts (x ∷ []))
-    ∙ append_assoc (map now_of parts) (x.now ∷ []) (parts_from s (take (at + 1 - (at + 1)) (drop (at + 1) text)) (drop (at + 1) text))
-    ∙ ap (λ n. map now_of parts ++ x.now ∷ parts_from s (take n (drop (at + 1) text)) (drop (at + 1) text)) (let z : at + 1 - (at + 1) ≡ 0 = omega arith in z)
-    ∙ ap (λ part. map now_of parts ++ part ∷ parts_from s [] (drop (at + 1) text)) is
-    ∙ ap (λ ps. map now_of parts ++ ps) (sym (part_ends s text (take (at - start) (drop start text)) at lt e)) ∙ h
+-- the parts of a text of lines, where the first line begins so: the last byte may end the last line
+abbrev pub ended : List ℕ → List ℕ → List (List ℕ)
+ended part [] = part ∷ []
+ended part (b ∷ text) =
+    if slice_index_or (b ∷ text) (length text) 0 == 10 then parts_from 10 part (take (length text) (b ∷ text)) else parts_from 10 part (b ∷ text)
+
+under : {X Y : Type 0} (f : X → Y) (b : Bool) (x y : X) → cond b (f x) (f y) ≡ f (cond b x y)
+under f true x y = refl
+under f false x y = refl
+
+-- what stands before byte 10 is a line
+line_ends : (b : ℕ) (text part : List ℕ) → b ≡ 10 → ended part (b ∷ text) ≡ part ∷ lines_of text
+line_ends b [] part e = cond-true (b == 10) (part ∷ []) (parts_from 10 part (b ∷ [])) (eq-eqb b 10 e)
+line_ends b (next ∷ text) part e = rw e (under (λ parts. part ∷ parts) (get_or (next ∷ text) (length text) 0 == 10) (parts_of 10 (take (length text) (next ∷ text))) (parts_of 10 (next ∷ text)))
+
+-- and any other byte belongs to it
+line_goes_on : (b : ℕ) (text part : List ℕ) → (b ≡ 10 → ⊥) → ended part (b ∷ text) ≡ ended (part ++ b ∷ []) text
+line_goes_on b [] part ne = rw (ne_eqb b 10 ne) refl
+line_goes_on b (next ∷ text) part ne = rw (ne_eqb b 10 ne) refl
+
+pub line_ends_at : (text part : List ℕ) (at : ℕ) → at < length text → get_or text at 0 ≡ 10 → ended part (drop at text) ≡ part ∷ lines_of (drop (at + 1) text)
+line_ends_at text part at lt e = ap (ended part) (drop_more text at 0 lt) ∙ line_ends (get_or text at 0) (drop (at + 1) text) part e
+
+pub line_goes_on_at : (text : List ℕ) (at : ℕ) → at < length text → (get_or text at 0 ≡ 10 → ⊥) → ended (take at text) (drop at text) ≡ ended (take (at + 1) text) (drop (at + 1) text)
+line_goes_on_at text at lt ne =
+    ap (ended (take at text)) (drop_more text at 0 lt) ∙ line_goes_on (get_or text at 0) (drop (at + 1) text) (take at text) ne
+    ∙ ap (λ part. ended part (drop (at + 1) text)) (sym (take_more text at 0 lt))
+
+pub lines_ended : (text : List ℕ) → 0 < length text → lines_of text ≡ ended [] text
+lines_ended [] h = absurd (omega (arith, h))
+lines_ended (b ∷ text) h = refl

@@ -29,6 +29,11 @@ parts_from s part (b ∷ text) = if b == s then part ∷ parts_from s [] text el
 abbrev pub parts_of : ℕ → List ℕ → List (List ℕ)
 parts_of s text = parts_from s [] text
 
+-- the parts of what stands behind a part, if anything does
+abbrev pub parts_behind : ℕ → Option (List ℕ) → List (List ℕ)
+parts_behind s None = []
+parts_behind s (Some text) = parts_of s text
+
 -- the lines of an input: each ends at byte 10, which the last one may lack
 abbrev pub lines_of : List ℕ → List (List ℕ)
 lines_of [] = []

@@ -10,7 +10,8 @@ use std::sync::{Condvar, Mutex, MutexGuard, Wait};
 /// Messages that threads put and take, first come first served: a `MailState` behind a lock.
 ///
 /// Each call takes the lock, does what the call of that name does to the state, and lets go. Those that take messages wait
-/// while the mailbox is open and none is there.
+/// while the mailbox is open and none is there. A push into an empty mailbox wakes one that waits, and who leaves messages
+/// behind wakes the next: so a batch costs one wake-up.
 #[derive(Drop)]
 pub struct Mailbox<M> {
     state: Mutex<MailState<M>>,
@@ -31,8 +32,13 @@ impl<M> Mailbox<M> {
     pub fn push(&self, rt: &impl Wait, message: M) -> Result<(), MailError<M>>
         ensures { HandsBack message result }
     {
-        let pushed = self.state.lock(rt).push(message);
-        self.changed.notify_one();
+        let mut state = self.state.lock(rt);
+        let was_empty = state.len() == 0;
+        let pushed = state.push(message);
+        drop(state);
+        if was_empty {
+            self.changed.notify_one();
+        }
         pushed
     }
 
@@ -40,8 +46,13 @@ impl<M> Mailbox<M> {
     pub fn push_evict(&self, rt: &impl Wait, message: M) -> Result<(), MailError<M>>
         ensures { HandsBackEvict message result }
     {
-        let pushed = self.state.lock(rt).push_evict(message);
-        self.changed.notify_one();
+        let mut state = self.state.lock(rt);
+        let was_empty = state.len() == 0;
+        let pushed = state.push_evict(message);
+        drop(state);
+        if was_empty {
+            self.changed.notify_one();
+        }
         pushed
     }
 
@@ -50,7 +61,9 @@ impl<M> Mailbox<M> {
         let mut state = self
             .changed
             .wait_while(rt, self.state.lock(rt), |state| is_idle(state));
-        state.pop()
+        let popped = state.pop();
+        self.pass_on(state);
+        popped
     }
 
     /// Moves the first messages into `into`, in order: `max` of them, or as many as are there, and answers how many. It
@@ -65,7 +78,18 @@ impl<M> Mailbox<M> {
         let mut state = self
             .changed
             .wait_while(rt, self.state.lock(rt), |state| is_idle(state));
-        state.pop_many(max, into)
+        let count = state.pop_many(max, into);
+        self.pass_on(state);
+        count
+    }
+
+    // Lets go, and wakes the next where messages are left.
+    fn pass_on(&self, state: MutexGuard<'_, MailState<M>>) {
+        let is_left = state.len() > 0;
+        drop(state);
+        if is_left {
+            self.changed.notify_one();
+        }
     }
 
     /// Closes the mailbox. What waits can still be taken.

@@ -4,3 +4,4 @@ pub mod Windows
 pub mod Distances
 pub mod Order
 pub mod Refused
+pub mod Noted

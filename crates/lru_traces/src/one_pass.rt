@@ -3,15 +3,14 @@
 //! Under a limit the cache has the objects that were asked for in the last so many requests: a window that ends at the
 //! request that is played. So it is enough to know, at each request, when its key was asked for before, and which requests
 //! of the trace are the last for their keys. A window has as many objects as it has such requests.
-ghost use Rattle.std.specs.Prelude.{◌≡◌, ◌+◌, ◌<◌, ◌↔◌, IsTrue, ℕ, List, cond, eqb, length, drop, map, nat_eq, Some, IfOk, OnOk, IfSome};
-ghost use Rattle.std.specs.HashMap as hash;
+ghost use Rattle.std.specs.Prelude.{◌≡◌, ◌+◌, ◌<◌, ◌↔◌, IsTrue, ℕ, List, cond, eqb, length, drop, map, Some, IfOk, OnOk, IfSome};
 ghost use Rattle.std.specs.List.Sorted.{IsNonDecreasing, IsPermutation};
 ghost use Rattle.lru_traces.specs.Traces.{played, near, AreOfSizeOne};
-ghost use Rattle.lru_traces.specs.Representation.Windows.{window_after, empty_window, tally_of, oldest, after, with_request, asked, summed};
+ghost use Rattle.lru_traces.specs.Representation.Windows.{place_of, window_after, empty_window, tally_of, oldest, after, with_request, asked, summed};
 
 use crate::player::{Request, Tally};
+use lru_rows::rows::Rows;
 use std::alloc::{AllocError, Global};
-use std::collections::HashMap;
 
 /// Whether each request is for an object of size 1.
 pub fn are_of_size_one(requests: &[Request]) -> bool
@@ -103,21 +102,28 @@ fn ask_in_order(windows: &mut [Window], previous: usize, is_last: &[bool])
 
 // Notes a request, and answers the place behind the last one for its key, or 0 where it is the first.
 fn note(
-    places: &mut HashMap<u64, usize>,
+    places: &mut Rows<u64, usize>,
     is_last: &mut Vec<bool>,
     key: u64,
 ) -> Result<usize, AllocError>
-    requires { (k : ℕ) → IfSome (hash.get nat_eq places.old k) (λ place. place < length is_last.old.items) }
-    ensures previous { IfOk result (λ previous. previous ≡ after (hash.get nat_eq places.old key)) }
-    ensures places { OnOk result ((k : ℕ) → hash.get nat_eq places.new k ≡ cond (eqb key k) (Some (length is_last.old.items)) (hash.get nat_eq places.old k)) }
-    ensures is_last { OnOk result (is_last.new.items ≡ with_request (hash.get nat_eq places.old key) is_last.old.items) }
+    requires { (k : ℕ) → IfSome (place_of places.old k) (λ place. place < length is_last.old.items) }
+    ensures previous { IfOk result (λ previous. previous ≡ after (place_of places.old key)) }
+    ensures places { OnOk result ((k : ℕ) → place_of places.new k ≡ cond (eqb key k) (Some (length is_last.old.items)) (place_of places.old k)) }
+    ensures is_last { OnOk result (is_last.new.items ≡ with_request (place_of places.old key) is_last.old.items) }
 {
-    let previous = match places.insert(key, is_last.len())? {
-        Some(place) => {
-            is_last[place] = false;
-            place + 1
+    let place = is_last.len();
+    let previous = match places.find(&key) {
+        Some(row) => {
+            let before = places.replace(row, place);
+            is_last[before] = false;
+            before + 1
         }
-        None => 0,
+        None => {
+            if places.push_first(key, place, 1).is_err() {
+                return Err(AllocError);
+            }
+            0
+        }
     };
     is_last.push(true)?;
     Ok(previous)
@@ -142,7 +148,7 @@ fn play_windows(
     ensures tallies { OnOk result ((limits : List ℕ) → windows.old ≡ map empty_window limits → IsNonDecreasing limits → map (tally_of (length requests.now)) (summed 0 windows.new) ≡ map (λ limit. played limit requests.now) limits) }
     ensures hits { OnOk result ((limits : List ℕ) → map (λ tally. tally.hits) (map (λ limit. played limit requests.now) limits) ≡ map (λ limit. near limit requests.now) limits) }
 {
-    let mut places = HashMap::new(alloc);
+    let mut places = Rows::with_capacity(alloc, 0)?;
     let mut is_last = Vec::with_capacity(alloc, requests.len())?;
     for request in requests {
         let previous = note(&mut places, &mut is_last, request.key)?;
@@ -206,8 +212,8 @@ fn by_place(
 /// The tallies of a trace by caches under these limits, each as `play` has it, in one pass. Each object has to have the
 /// size 1, as `are_of_size_one` tells.
 ///
-/// It takes one look-up for each request, a byte for each, and an entry of a map for each key. There may be no memory for
-/// that.
+/// It takes one look-up for each request, a byte for each, and a row for each key. There may be no memory for that, and a
+/// trace of more than 4294967293 keys finds none.
 pub fn play_all(
     alloc: Global,
     limits: &[usize],

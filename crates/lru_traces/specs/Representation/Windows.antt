@@ -1,6 +1,7 @@
 -- Windows over a trace of requests for objects of size 1: each has the requests from a place on, up to the last one.
-use Rattle.std.specs.Prelude.{ℕ, ◌+◌, ◌%◌, ◌^◌, ◌==◌, min, not, Bool, true, false, suc, List, [], ◌∷◌, ◌++◌, drop, set, nat_lt, if◌then◌else◌, Option, Some, None}
+use Rattle.std.specs.Prelude.{ℕ, ◌+◌, ◌%◌, ◌^◌, ◌==◌, min, not, Bool, true, false, suc, List, [], ◌∷◌, ◌++◌, drop, set, nat_eq, nat_lt, if◌then◌else◌, Option, Some, None, option_map}
 use Rattle.std.specs.List.{list_any}
+use Rattle.lru_rows.specs.Rows.{Recency, row_of}
 use Rattle.lru_traces.specs.declared.player.Request.{Request}
 use Rattle.lru_traces.specs.declared.player.Tally.{Tally}
 use Rattle.lru_traces.specs.declared.one_pass.Window.{Window}
@@ -23,6 +24,10 @@ moved_on None here = if here then Some 0 else None
 abbrev pub last_place : ℕ → List Request → Option ℕ
 last_place k [] = None
 last_place k (q ∷ qs) = moved_on (last_place k qs) (q.key == k)
+
+-- the place that is noted under a key
+abbrev pub place_of : Recency ℕ ℕ → ℕ → Option ℕ
+place_of noted k = option_map (λ r. r.value) (row_of nat_eq noted.rows k)
 
 -- the place behind a place, or 0
 abbrev pub after : Option ℕ → ℕ

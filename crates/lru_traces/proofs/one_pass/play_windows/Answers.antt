@@ -1,11 +1,9 @@
 use Rattle.std.proofs.Common.{◌≡◌, ℕ, ◌+◌, ◌<◌, ◌^◌, List, [], ◌∷◌, ◌++◌, length, map, take, get_or, nat_eq, refl, sym, ap, subst, ◌∙◌, arith}
-use Rattle.std.specs.HashMap as hash
-use Rattle.std.specs.Map.{lookup}
 use Rattle.std.proofs.lemmas.List.{take_more, take_all}
 use Rattle.lru_traces.specs.declared.player.Request.{Request}
 use Rattle.lru_traces.specs.declared.one_pass.Window.{Window}
 use Rattle.lru_traces.specs.Traces.{played}
-use Rattle.lru_traces.specs.Representation.Windows.{after, summed, tally_of}
+use Rattle.lru_traces.specs.Representation.Windows.{place_of, after, summed, tally_of}
 use Rattle.lru_traces.proofs.Places.{Noted, noted_more, noted_below, length-last_ones}
 use Rattle.lru_traces.proofs.Windows.{ServeAll, serve_none, serve_step, limits_empty, one_sizes, one_take, tallies}
 use Rattle.lru_traces.proofs.Order.{Rise, rise_from, limits_of, asked_step, asked_limits, summed_limits, summed_empty}
@@ -15,7 +13,7 @@ use Rattle.lru_traces.proofs.one_pass.play_windows.Goals as goal
 pub loop-request-init : goal.loop-request-init
 loop-request-init c = record {
   noted = record {
-    places = λ k. ap (lookup (nat_eq k)) c.new-places.ensures.empty;
+    places = λ k. ap (λ r. place_of r k) c.in_ok-places.ensures;
     flags_are = c.in_ok-is_last.ensures.items;
   };
   windows = λ limits e up. (subst (ServeAll []) (sym (ap (summed 0) e ∙ summed_empty limits)) (serve_none limits), ap limits_of e ∙ limits_empty limits);
@@ -23,7 +21,7 @@ loop-request-init c = record {
 
 pub note-requires : goal.note-requires
 note-requires c =
-    noted_below (λ k. hash.get nat_eq c.loop-request.places k) c.loop-request.is_last.items (take c.loop-request.request-index c.args.requests.now) c.loop-request.invariant.noted
+    noted_below (place_of c.loop-request.places) c.loop-request.is_last.items (take c.loop-request.request-index c.args.requests.now) c.loop-request.invariant.noted
 
 pub loop-request-preserved : goal.loop-request-preserved
 loop-request-preserved c =
@@ -35,12 +33,12 @@ loop-request-preserved c =
     let more : take (place + 1) requests ≡ so_far ++ request ∷ [] = take_more requests place (record { key = 0; size = 0 }) in_range in
     let inv = c.loop-request.invariant in
     let old_flags = c.loop-request.is_last in
-    let noted : Noted (λ k. hash.get nat_eq c.note.new.places k) c.note.new.is_last.items (so_far ++ request ∷ []) =
-    noted_more (λ k. hash.get nat_eq c.loop-request.places k) (λ k. hash.get nat_eq c.note.new.places k) old_flags.items c.note.new.is_last.items so_far request
+    let noted : Noted (place_of c.note.new.places) c.note.new.is_last.items (so_far ++ request ∷ []) =
+    noted_more (place_of c.loop-request.places) (place_of c.note.new.places) old_flags.items c.note.new.is_last.items so_far request
     inv.noted c.in_ok-previous.ensures.places c.in_ok-previous.ensures.is_last in
     let fits : length so_far + 1 < 2 ^ 64 = omega (arith, ap length inv.noted.flags_are, length-last_ones so_far, old_flags.ok.0, old_flags.ok.1, old_flags.small) in
     record {
-      noted = subst (Noted (λ k. hash.get nat_eq c.note.new.places k) c.note.new.is_last.items) (sym more) noted;
+      noted = subst (Noted (place_of c.note.new.places) c.note.new.is_last.items) (sym more) noted;
       windows = λ limits e up.
           let before = inv.windows limits e up in
           let ws = c.loop-request.windows in

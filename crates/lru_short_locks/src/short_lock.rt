@@ -1,0 +1,45 @@
+//! A lock that many may take to read.
+use crate::{TRIES, spin};
+use std::sync::{RwLock, RwLockReadGuard, RwLockWriteGuard, Wait};
+
+/// A value that many may read at a time, or one may write.
+#[derive(Drop)]
+pub struct ShortLock<T> {
+    lock: RwLock<T>,
+}
+
+impl<T> ShortLock<T> {
+    /// A lock that is free, with this value behind it.
+    pub fn new(value: T) -> Self {
+        ShortLock {
+            lock: RwLock::new(value),
+        }
+    }
+
+    /// What is behind it.
+    pub fn into_inner(self) -> T {
+        self.lock.into_inner()
+    }
+
+    /// Takes the lock together with other readers.
+    pub fn read(&self, rt: &impl Wait) -> RwLockReadGuard<'_, T> {
+        for _ in 0..TRIES {
+            if let Some(guard) = self.lock.try_read() {
+                return guard;
+            }
+            spin();
+        }
+        self.lock.read(rt)
+    }
+
+    /// Takes the lock alone.
+    pub fn write(&self, rt: &impl Wait) -> RwLockWriteGuard<'_, T> {
+        for _ in 0..TRIES {
+            if let Some(guard) = self.lock.try_write() {
+                return guard;
+            }
+            spin();
+        }
+        self.lock.write(rt)
+    }
+}
