@@ -2,7 +2,7 @@
 use Rattle.std.specs.Prelude.{◌≡◌, ℕ, ◌-◌, ◌%◌, ◌^◌, Bool, true, false, List, [], ◌∷◌, length, map, sum_by, None, if◌then◌else◌}
 use Rattle.lru_shard.specs.Row.{Row, weight_of}
 use Rattle.lru_actors.specs.declared.message.LruMsg.{LruMsg}
-use Rattle.lru_actors.specs.declared.message.LruMsg.TheVariants.{Evict}
+use Rattle.lru_actors.specs.declared.message.LruMsg.TheVariants.{Evict, Promote, PeekLru, Snapshot, QueryWeight}
 use Rattle.lru_actors.specs.declared.effect.Effect.{Effect}
 use Rattle.lru_actors.specs.Messages.{State}
 use Rattle.lru_letters.specs.declared.letter.Letter.{Letter}
@@ -14,6 +14,19 @@ module _ {K : Type 0} where
   abbrev pub is_evict : LruMsg K → Bool
   is_evict Evict = true
   is_evict _ = false
+
+  -- any other message
+  abbrev pub evicts_none : LruMsg K → Bool
+  evicts_none Evict = false
+  evicts_none _ = true
+
+  -- a message that changes no weight and evicts nothing, whatever the rows are: it promotes, or asks
+  abbrev pub stays_inside : LruMsg K → Bool
+  stays_inside (Promote _) = true
+  stays_inside PeekLru = true
+  stays_inside Snapshot = true
+  stays_inside QueryWeight = true
+  stays_inside _ = false
 
   -- what is kept of a letter, before its message is processed
   abbrev pub asked_by : Letter K → Asked K

@@ -1,10 +1,10 @@
 //! The loop of an actor.
-ghost use Rattle.std.specs.Prelude.{◌≡◌, ◌%◌, ◌^◌, ◌<◌, ◌≤◌, [], map, length, sum_by, vec_len, vec_capacity, nat_eq, IfOk};
+ghost use Rattle.std.specs.Prelude.{◌≡◌, ℕ, Option, ◌%◌, ◌^◌, ◌<◌, ◌≤◌, [], All, map, length, sum_by, vec_len, vec_capacity, nat_eq, true, IfOk, IsTrue};
 ghost use Rattle.std.specs.List.{zip};
 ghost use Rattle.std.specs.HashMap as hash;
 ghost use Rattle.lru_rules.specs.Limits.{cap_of};
 ghost use Rattle.lru_actors.specs.Processing.{ProcessesAll};
-ghost use Rattle.lru_world.specs.Batch.{is_evict, asked_by, replied, weight_taken, rows_taken, IsChange};
+ghost use Rattle.lru_world.specs.Batch.{is_evict, evicts_none, stays_inside, asked_by, replied, weight_taken, rows_taken, IsChange};
 
 use crate::callback::Gate;
 use crate::outlet::Outlet;
@@ -17,14 +17,15 @@ use lru_desks::DeskPutter;
 use lru_dispatch::Dispatch;
 use lru_ledgers::{PutSeat, Registry};
 use lru_letters::{Letter, ReplyCell};
+use lru_mailbox::MailState;
 use std::alloc::{AllocError, Global};
 use std::collections::HashMap;
 use std::marker::Brand;
 use std::sync::{Arc, Wait};
 use std::thread;
 
-// The most messages that are taken at once.
-const MOST: usize = 64;
+// The most messages that are taken at once. Who looks into the map of weights waits until a batch is through.
+const MOST: usize = 16;
 
 // What is kept of a message while it is processed.
 #[derive(Drop)]
@@ -48,6 +49,7 @@ pub struct Actor<K: Drop, B: Registry = Brand> {
     asked: Vec<Asked<K>>,
     batch: Vec<LruMsg<K>>,
     effects: Vec<Effect<K>>,
+    alloc: Global,
     ghost capped: { state.shard.cap ≡ cap_of shards },
 }
 
@@ -74,6 +76,7 @@ impl<K: Clone + Drop, B: Registry> Actor<K, B> {
             asked: Vec::with_capacity(alloc, MOST)?,
             batch: Vec::with_capacity(alloc, MOST)?,
             effects: Vec::with_capacity(alloc, MOST)?,
+            alloc,
         })
     }
 
@@ -121,26 +124,36 @@ impl<K: Clone + Drop, B: Registry> Actor<K, B> {
         take_apart(&mut self.letters, &mut self.batch, &mut self.asked);
         self.process(rt, world);
         let looks = self.effects.iter().any(|effect| effect.look);
-        note_replies(&mut self.effects, &mut self.asked);
-        reply_all(rt, &mut self.asked);
+        reply_where_asked(rt, &mut self.effects, &mut self.asked);
         if looks && world.over_limit() {
             world.trigger.raise(rt);
         }
         true
     }
 
-    // Processes the batch under the locks of the map and of the evicted pairs.
+    // Processes the batch, under the lock of the map where it may change a weight, and under that of the evicted pairs
+    // where it evicts.
     fn process<R: Wait>(&mut self, rt: &R, world: &World<K, B>)
         requires shard { self.old.shard < vec_len world.now.shards }
-        requires few { vec_len self.old.batch ≤ 64 }
+        requires few { vec_len self.old.batch ≤ 16 }
         requires none { self.old.effects.items ≡ [] }
-        requires room { 64 ≤ vec_capacity self.old.effects }
+        requires room { 16 ≤ vec_capacity self.old.effects }
         requires asked { map (λ a. a.evicts) self.old.asked.items ≡ map is_evict self.old.batch.items }
         ensures shard { self.new.shard ≡ self.old.shard }
         ensures asked { self.new.asked ≡ self.old.asked }
         ensures effects { vec_len self.new.effects ≤ vec_len self.old.asked }
     {
+        if all_stay_inside(&self.batch) {
+            // no weight and no length is another afterwards
+            self.batch_inside::<MailState<(K, usize)>>();
+            return;
+        }
         let mut weights = world.shards[self.shard].map.write(rt);
+        if all_evict_none(&self.batch) {
+            let change = self.batch_held::<MailState<(K, usize)>>(&mut *weights);
+            world.count(self.shard, &change);
+            return;
+        }
         match &world.outlet {
             Outlet::Mailbox(mailbox) => {
                 let mut queue = mailbox.lend(rt);
@@ -172,6 +185,43 @@ impl<K: Clone + Drop, B: Registry> Actor<K, B> {
         }
     }
 
+    // Processes a batch that neither changes a weight nor evicts: whatever the map and the queue of evicted pairs are, it
+    // leaves them as they are.
+    fn batch_inside<D: Dispatch<K>>(&mut self) -> Change
+        requires inside { All (λ m. stays_inside m ≡ true) self.old.batch.items }
+        requires few { vec_len self.old.batch ≤ 16 }
+        requires none { self.old.effects.items ≡ [] }
+        requires room { 16 ≤ vec_capacity self.old.effects }
+        requires asked { map (λ a. a.evicts) self.old.asked.items ≡ map is_evict self.old.batch.items }
+        ensures processed { (look : ℕ → Option ℕ) (queue : D) → ProcessesAll D.Puts D.IsSame D.queue K.is_clone D.MayRefuse self.old.state look queue self.old.batch.items self.new.effects.items self.new.state look queue }
+        ensures change { IsChange self.old.state self.old.batch.items self.new.effects.items self.new.state result }
+        ensures effects { vec_len self.new.effects ≤ vec_len self.old.asked }
+        ensures shard { self.new.shard ≡ self.old.shard }
+        ensures seat { self.new.seat ≡ self.old.seat }
+        ensures asked { self.new.asked ≡ self.old.asked }
+    {
+        let mut no_weights = HashMap::new(self.alloc);
+        self.batch_held::<D>(&mut no_weights)
+    }
+
+    // Processes a batch that does not evict: whatever the queue of evicted pairs is, it leaves it as it is.
+    fn batch_held<D: Dispatch<K>>(&mut self, weights: &mut HashMap<u64, usize>) -> Change
+        requires held { All (λ m. evicts_none m ≡ true) self.old.batch.items }
+        requires few { vec_len self.old.batch ≤ 16 }
+        requires none { self.old.effects.items ≡ [] }
+        requires room { 16 ≤ vec_capacity self.old.effects }
+        requires asked { map (λ a. a.evicts) self.old.asked.items ≡ map is_evict self.old.batch.items }
+        ensures processed { (queue : D) → ProcessesAll D.Puts D.IsSame D.queue K.is_clone D.MayRefuse self.old.state (hash.get nat_eq weights.old) queue self.old.batch.items self.new.effects.items self.new.state (hash.get nat_eq weights.new) queue }
+        ensures change { IsChange self.old.state self.old.batch.items self.new.effects.items self.new.state result }
+        ensures effects { vec_len self.new.effects ≤ vec_len self.old.asked }
+        ensures shard { self.new.shard ≡ self.old.shard }
+        ensures seat { self.new.seat ≡ self.old.seat }
+        ensures asked { self.new.asked ≡ self.old.asked }
+    {
+        let mut no_queue = MailState::new(self.alloc);
+        self.batch_through(weights, &mut no_queue)
+    }
+
     // Processes the batch. Each message has its effect, in order, and the change is that of the shard and of the pairs that
     // were evicted.
     fn batch_through<D: Dispatch<K>>(
@@ -179,9 +229,9 @@ impl<K: Clone + Drop, B: Registry> Actor<K, B> {
         weights: &mut HashMap<u64, usize>,
         dispatch: &mut D,
     ) -> Change
-        requires few { vec_len self.old.batch ≤ 64 }
+        requires few { vec_len self.old.batch ≤ 16 }
         requires none { self.old.effects.items ≡ [] }
-        requires room { 64 ≤ vec_capacity self.old.effects }
+        requires room { 16 ≤ vec_capacity self.old.effects }
         requires asked { map (λ a. a.evicts) self.old.asked.items ≡ map is_evict self.old.batch.items }
         ensures processed { ProcessesAll D.Puts D.IsSame D.queue K.is_clone D.MayRefuse self.old.state (hash.get nat_eq weights.old) dispatch.old self.old.batch.items self.new.effects.items self.new.state (hash.get nat_eq weights.new) dispatch.new }
         ensures change { IsChange self.old.state self.old.batch.items self.new.effects.items self.new.state result }
@@ -215,7 +265,7 @@ impl<K: Clone + Drop, B: Registry> Actor<K, B> {
 // Empties a vector that has room for a batch from the start. Were it not so, this would wait for memory.
 fn clear<T: Drop, R: Wait>(rt: &R, items: &mut Vec<T>)
     ensures none { items.new.items ≡ [] }
-    ensures room { 64 ≤ vec_capacity items.new }
+    ensures room { 16 ≤ vec_capacity items.new }
 {
     items.clear();
     for _ in rt.forever() {
@@ -270,6 +320,35 @@ fn is_evict<K>(message: &LruMsg<K>) -> bool
     matches!(message, LruMsg::Evict)
 }
 
+// Whether it asks for anything else.
+fn evicts_none<K>(message: &LruMsg<K>) -> bool
+    ensures { result ≡ evicts_none message.now }
+{
+    !matches!(message, LruMsg::Evict)
+}
+
+fn all_evict_none<K>(batch: &Vec<LruMsg<K>>) -> bool
+    ensures { IsTrue result → All (λ m. evicts_none m ≡ true) batch.now.items }
+{
+    batch.iter().all(|message| evicts_none(message))
+}
+
+// Whether a message changes no weight and evicts nothing, whatever the rows are: it promotes, or asks.
+fn stays_inside<K>(message: &LruMsg<K>) -> bool
+    ensures { result ≡ stays_inside message.now }
+{
+    matches!(
+        message,
+        LruMsg::Promote { .. } | LruMsg::PeekLru | LruMsg::Snapshot | LruMsg::QueryWeight
+    )
+}
+
+fn all_stay_inside<K>(batch: &Vec<LruMsg<K>>) -> bool
+    ensures { IsTrue result → All (λ m. stays_inside m ≡ true) batch.now.items }
+{
+    batch.iter().all(|message| stays_inside(message))
+}
+
 // The weight of the row that a message's eviction took, and how many rows it took.
 fn taken_by<K: Drop>(asked: &Asked<K>, effect: &Effect<K>) -> (usize, usize)
     ensures { result ≡ (weight_taken (asked.now, effect.now), rows_taken (asked.now, effect.now)) }
@@ -297,6 +376,20 @@ fn evicted_in<K: Drop>(effects: &Vec<Effect<K>>, asked: &Vec<Asked<K>>) -> (usiz
         len = len.wrapping_add(taken_len);
     }
     (weight, len)
+}
+
+// Gives those who asked the replies of their messages' effects. Most batches ask for nothing.
+fn reply_where_asked<K: Drop, R: Wait>(
+    rt: &R,
+    effects: &mut Vec<Effect<K>>,
+    asked: &mut Vec<Asked<K>>,
+)
+    requires { vec_len effects.old ≤ vec_len asked.old }
+{
+    if asked.iter().any(|asked| asked.cell.is_some()) {
+        note_replies(effects, asked);
+        reply_all(rt, asked);
+    }
 }
 
 // Notes for each who asked what the effect of its message answers, and empties the effects.

@@ -8,11 +8,12 @@ use lru_letters::Letter;
 use lru_mailboxes::Mailbox;
 use lru_rules::counters::shift;
 use lru_rules::eviction::is_past;
+use lru_short_locks::ShortLock;
 use std::alloc::{AllocError, Global};
 use std::collections::HashMap;
 use std::marker::Brand;
+use std::sync::Wait;
 use std::sync::atomic::{AtomicBool, AtomicU64, AtomicUsize, Ordering};
-use std::sync::{RwLock, Wait};
 
 /// What all shards together are held to.
 #[derive(Clone, Copy, Debug, PartialEq, Eq)]
@@ -29,7 +30,7 @@ pub struct ShardPlace<K: Drop> {
     /// The messages that its actor is to take.
     pub mailbox: Mailbox<Letter<K>>,
     /// The weight of each row, by hash.
-    pub map: RwLock<HashMap<u64, usize>>,
+    pub map: ShortLock<HashMap<u64, usize>>,
     /// How many rows there are.
     pub len: AtomicUsize,
     /// How many messages were refused, modulo 2^64.
@@ -41,7 +42,7 @@ impl<K: Drop> ShardPlace<K> {
     pub fn new(alloc: Global, capacity: usize) -> Result<Self, AllocError> {
         Ok(ShardPlace {
             mailbox: Mailbox::new(alloc),
-            map: RwLock::new(HashMap::with_capacity(alloc, capacity)?),
+            map: ShortLock::new(HashMap::with_capacity(alloc, capacity)?),
             len: AtomicUsize::new(0),
             refused: AtomicU64::new(0),
         })
