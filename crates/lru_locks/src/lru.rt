@@ -296,12 +296,12 @@ fn unit_of<T: Drop, const N: usize>(
     locked.into_unit()
 }
 
-fn zeros(alloc: Global, count: usize) -> Result<Vec<CachePadded<AtomicUsize>>, AllocError>
+fn zeros(alloc: Global, count: usize) -> Result<Vec<CachePadded<ShardCounters>>, AllocError>
     ensures { IfOk result (λ zeros. vec_len zeros ≡ count) }
 {
     let mut zeros = Vec::with_capacity(alloc, count)?;
     for _ in 0..count {
-        zeros.push(CachePadded::new(AtomicUsize::new(0)))?;
+        zeros.push(CachePadded::new(ShardCounters::zero()))?;
     }
     Ok(zeros)
 }
@@ -316,14 +316,32 @@ fn stepped(counter: &AtomicUsize, before: usize, after: usize, read: usize) -> u
     counter.fetch_add(more, Ordering::SeqCst).wrapping_add(more)
 }
 
+// What is counted of one shard.
+#[derive(Drop)]
+struct ShardCounters {
+    // how many rows it has
+    len: AtomicUsize,
+    // what was evicted from it so far
+    evicted_weight: AtomicUsize,
+    evicted_len: AtomicUsize,
+}
+
+impl ShardCounters {
+    fn zero() -> Self {
+        ShardCounters {
+            len: AtomicUsize::new(0),
+            evicted_weight: AtomicUsize::new(0),
+            evicted_len: AtomicUsize::new(0),
+        }
+    }
+}
+
 // What is counted over all shards. Calls write it, and so it has cache lines of its own: those of the shards' places,
-// which each call reads, stay as they are.
+// which each call reads, stay as they are. An eviction that makes the room for one row is no change of it.
 #[derive(Drop)]
 struct Counters {
     weight: AtomicUsize,
     len: AtomicUsize,
-    evicted_weight: AtomicUsize,
-    evicted_len: AtomicUsize,
 }
 
 impl Counters {
@@ -331,8 +349,6 @@ impl Counters {
         Counters {
             weight: AtomicUsize::new(0),
             len: AtomicUsize::new(0),
-            evicted_weight: AtomicUsize::new(0),
-            evicted_len: AtomicUsize::new(0),
         }
     }
 }
@@ -348,14 +364,14 @@ impl Counters {
 pub struct Lru<T, const N: usize> {
     // no two shards share a cache line, so that a thread at one doesn't slow a thread at another
     units: Vec<CachePadded<ShortLock<Locked<T, N>>>>,
-    // how many rows each unit has
-    lens: Vec<CachePadded<AtomicUsize>>,
+    // what is counted of each unit
+    counts: Vec<CachePadded<ShardCounters>>,
     counters: CachePadded<Counters>,
     weight_limit: AtomicUsize,
     watermark: Option<usize>,
     ghost some: { 0 < N },
     ghost has_units: { vec_len units ≡ N },
-    ghost has_lens: { vec_len lens ≡ N },
+    ghost has_counts: { vec_len counts ≡ N },
 }
 
 impl<T, const N: usize> Lru<T, N> {
@@ -387,7 +403,7 @@ impl<T, const N: usize> Lru<T, N> {
     {
         Ok(Lru {
             units: empty_units(alloc, capacity)?,
-            lens: zeros(alloc, N)?,
+            counts: zeros(alloc, N)?,
             counters: CachePadded::new(Counters::zero()),
             weight_limit: AtomicUsize::new(weight_limit),
             watermark,
@@ -416,7 +432,7 @@ impl<T, const N: usize> Lru<T, N> {
     pub fn shard_len(&self, shard: usize) -> usize
         requires { shard < N }
     {
-        self.lens[shard].load(Ordering::SeqCst)
+        self.counts[shard].len.load(Ordering::SeqCst)
     }
 
     /// The weight above which the `Lru` is over.
@@ -431,12 +447,20 @@ impl<T, const N: usize> Lru<T, N> {
 
     /// The sum of the weights of all rows evicted so far, modulo 2^64.
     pub fn evicted_weight(&self) -> usize {
-        self.counters.evicted_weight.load(Ordering::SeqCst)
+        let mut sum = 0usize;
+        for counts in &self.counts {
+            sum = sum.wrapping_add(counts.evicted_weight.load(Ordering::SeqCst));
+        }
+        sum
     }
 
     /// The number of all rows evicted so far, modulo 2^64.
     pub fn evicted_len(&self) -> usize {
-        self.counters.evicted_len.load(Ordering::SeqCst)
+        let mut sum = 0usize;
+        for counts in &self.counts {
+            sum = sum.wrapping_add(counts.evicted_len.load(Ordering::SeqCst));
+        }
+        sum
     }
 
     /// The sum of the weights of the rows of a shard.
@@ -551,18 +575,18 @@ impl<T, const N: usize> Lru<T, N> {
     {
         shift(&self.counters.weight, before.weight, after.weight);
         shift(&self.counters.len, before.len, after.len);
-        shift(&self.lens[shard], before.len, after.len);
+        shift(&self.counts[shard].len, before.len, after.len);
     }
 
-    // Counts rows that were evicted.
-    fn note_evicted(&self, evicted: Totals) {
-        let counters = &self.counters;
-        counters
+    // Counts rows that were evicted from a shard.
+    fn note_evicted(&self, shard: usize, evicted: Totals)
+        requires { shard < N }
+    {
+        let counts = &self.counts[shard];
+        counts
             .evicted_weight
             .fetch_add(evicted.weight, Ordering::SeqCst);
-        counters
-            .evicted_len
-            .fetch_add(evicted.len, Ordering::SeqCst);
+        counts.evicted_len.fetch_add(evicted.len, Ordering::SeqCst);
     }
 
     // The longer of two drawn shards, a first and b second, by the lengths as read; a where they are as
@@ -728,7 +752,7 @@ impl<T: Drop, const N: usize> Lru<T, N> {
         let before = unit.totals();
         let (data, weight) = unit.evict()?;
         self.note(shard, before, unit.totals());
-        self.note_evicted(Totals { weight, len: 1 });
+        self.note_evicted(shard, Totals { weight, len: 1 });
         Some((data, weight))
     }
 
@@ -741,7 +765,7 @@ impl<T: Drop, const N: usize> Lru<T, N> {
         let before = unit.totals();
         let (data, weight) = unit.evict_besides(key)?;
         self.note(shard, before, unit.totals());
-        self.note_evicted(Totals { weight, len: 1 });
+        self.note_evicted(shard, Totals { weight, len: 1 });
         Some((data, weight))
     }
 
@@ -786,9 +810,9 @@ impl<T: Drop, const N: usize> Lru<T, N> {
         let counters = &self.counters;
         all.weight = stepped(&counters.weight, before.weight, after.weight, all.weight);
         all.len = stepped(&counters.len, before.len, after.len, all.len);
-        shift(&self.lens[shard], before.len, after.len);
+        shift(&self.counts[shard].len, before.len, after.len);
         if evicted.len > 0 {
-            self.note_evicted(evicted);
+            self.note_evicted(shard, evicted);
         }
         Ok(all)
     }
