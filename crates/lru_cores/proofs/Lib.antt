@@ -1,4 +1,5 @@
 pub mod CoreEvicts
 pub mod Evicting
 pub mod EvictionRuns
+pub mod Sparing
 pub mod Units

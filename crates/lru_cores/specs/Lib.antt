@@ -1,4 +1,5 @@
 pub mod Core
 pub mod CoreCalls
 pub mod Eviction
+pub mod Sparing
 pub mod Representation

@@ -2,6 +2,7 @@
 ghost use Rattle.std.specs.Prelude.{◌≡◌, ℕ, ◌+◌, ◌%◌, ◌<◌, ◌≤◌, [], length, Ok, vec_len, slice_index_or, IfOk, IfErr, IfSome, IfNone, OnOk, Option, option_map, is_some, map, replicate};
 ghost use Rattle.lru_shard.specs.Shard.{shard};
 ghost use Rattle.lru_cores.specs.Eviction.{IsVictim};
+ghost use Rattle.lru_cores.specs.Sparing.{IsNext, IsLast, GivesUp, HasPut};
 ghost use Rattle.lru_cores.specs.Representation.Units.{lists_of};
 
 pub use lru_rules::eviction::EvictError;
@@ -57,6 +58,22 @@ fn first_held<T>(units: &Vec<LruUnit<T>>, from: usize) -> Option<usize>
     ensures none { IfNone result ((k : ℕ) → k < length (lists_of units.now.items) → slice_index_or (lists_of units.now.items) ((from + k) % length (lists_of units.now.items)) [] ≡ []) }
 {
     for steps in 0..units.len() {
+        let at = place_after(from, steps, units.len());
+        if units[at].len() > 0 {
+            return Some(at);
+        }
+    }
+    None
+}
+
+// The first unit that holds a row, behind this one and round the circle.
+fn next_held<T>(units: &Vec<LruUnit<T>>, from: usize) -> Option<usize>
+    requires { from < vec_len units.now }
+    ensures held { IfSome result (λ at. IsNext (lists_of units.now.items) from at) }
+    ensures at { IfSome result (λ at. at < vec_len units.now) }
+    ensures none { IfNone result (IsLast (lists_of units.now.items) from) }
+{
+    for steps in 1..units.len() {
         let at = place_after(from, steps, units.len());
         if units[at].len() > 0 {
             return Some(at);
@@ -306,6 +323,28 @@ impl<T, const N: usize> LruCore<T, N> {
         Some(victim)
     }
 
+    // The shard that an eviction that spares a key takes a row of; `None` where the core is not over.
+    fn victim_sparing(&self, key: u64) -> Option<usize>
+        requires { HasPut self.now key }
+        ensures over { is_some result ≡ is_over self.now }
+        ensures victim { IfSome result (λ victim. GivesUp self.now key victim) }
+        ensures at { IfSome result (λ victim. victim < N) }
+        ensures valid { IsCore N self.now }
+    {
+        let _units = &self.units;
+        if !self.is_over() {
+            return None;
+        }
+        let own = (key % N as u64) as usize;
+        if self.units[own].len() > 1 {
+            return Some(own);
+        }
+        match next_held(&self.units, own) {
+            Some(next) => Some(next),
+            None => Some(own),
+        }
+    }
+
     fn is_over(&self) -> bool
         ensures { result ≡ is_over self.now }
     {
@@ -319,12 +358,14 @@ impl<T, const N: usize> LruCore<T, N> {
 }
 
 impl<T: Drop, const N: usize> LruCore<T, N> {
-    ghost use Rattle.lru_shard.specs.Row.{pair_of, row_of, is_held, without};
+    ghost use Rattle.std.specs.Prelude.{max};
+    ghost use Rattle.lru_shard.specs.Row.{Row, row, pair_of, row_of, is_held, without};
     ghost use Rattle.lru_shard.specs.Unit.{Updates, accessed};
     ghost use Rattle.lru_cores.specs.Core.{list_at, with_list, home};
     ghost use Rattle.lru_rules.specs.ShardCalls.{promoted_past};
     ghost use Rattle.lru_cores.specs.CoreCalls.{CoreAdmits, CoreInsertsTail, CoreIncrements, CoreUpdates, CoreSetsWeight, CorePulls};
     ghost use Rattle.lru_cores.specs.Eviction.{EvictsFrom, EvictsWhereOver, EvictsToLimit, IsCutShort, KeepsLongestFront};
+    ghost use Rattle.lru_cores.specs.Sparing.{SparesToLimit, CoreAdmitsAndEvicts, StandsFirst};
 
     /// Puts a row first in the shard of its key, in place of the key's, and answers that shard.
     /// A weight of 0 counts as 1.
@@ -345,6 +386,47 @@ impl<T: Drop, const N: usize> LruCore<T, N> {
             return Err(refused);
         }
         Ok(shard)
+    }
+
+    /// Admits as `admit` does, then evicts while the core is over, and calls a closure with the data and the weight
+    /// of each evicted row, in order. It answers the shard. A weight of 0 counts as 1.
+    ///
+    /// The last row leaves of the first shard, from the key's own on and round the circle, that has a row besides
+    /// the one just put. Where no other row is left anywhere, and the core is still over, the row just put leaves
+    /// too. Nothing is drawn, and evictions take no memory.
+    ///
+    /// A refusal, for Length, Weight or Memory as a shard refuses, hands the data back, evicts nothing and changes
+    /// nothing.
+    pub fn admit_and_evict<F: FnMut((T, usize))>(
+        &mut self,
+        key: u64,
+        data: T,
+        weight: usize,
+        visit: F,
+    ) -> Result<usize, Refused<T>>
+        requires { F.IsAlwaysCallable visit }
+        ensures done { CoreAdmitsAndEvicts (λ p x q. F.step p x tt q) visit self.old key «data» weight result self.new }
+        ensures first { OnOk result (StandsFirst self.new (row key «data» (max weight 1))) }
+    {
+        let _units = &self.units;
+        let shard = self.admit(key, data, weight)?;
+        self.evict_sparing(key, visit);
+        Ok(shard)
+    }
+
+    // Evicts while the core is over, and spares the row of a key that was just put as long as there is another.
+    fn evict_sparing<F: FnMut((T, usize))>(&mut self, key: u64, mut visit: F)
+        requires put { HasPut self.old key }
+        requires visit { F.IsAlwaysCallable visit }
+        ensures done { SparesToLimit (λ p x q. F.step p x tt q) visit self.old key self.new }
+        ensures first { (r : Row T) → r.key ≡ key → StandsFirst self.old r → StandsFirst self.new r }
+    {
+        while let Some(victim) = self.victim_sparing(key) {
+            let Some(pair) = self.evict_from(victim) else {
+                unreachable!()
+            };
+            visit(pair);
+        }
     }
 
     /// Puts a row last in the shard of its key where the key has none, and answers true; else it answers

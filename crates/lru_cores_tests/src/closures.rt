@@ -2,7 +2,7 @@
 use crate::steps::shown;
 use lru_cores::lru_core::LruCore;
 use lru_shard::unit::{Cause, Refused};
-use std::alloc::Global;
+use std::alloc::{AllocError, Global};
 use std::test::Fail;
 
 const MOST: usize = 18446744073709551615;
@@ -110,5 +110,53 @@ fn makes_no_data_that_it_need_not(rt: HostRuntime) -> Result<(), Fail> {
         are_updates_right(&mut core, &mut made),
     ];
     assert_eq!(rt; (shard, is_added, are_right, made), (0, true, [true; 2], 1));
+    Ok(())
+}
+
+// What each admission that evicts answers, the pairs that leave, and what is left, with three shards and a limit of 5.
+static ADMISSIONS: [(u64, usize, &str); 7] = [
+    (0, 2, "Ok(0) [] 2: [(0, 2)] [] []"),
+    (1, 2, "Ok(1) [] 4: [(0, 2)] [(1, 2)] []"),
+    // its own shard's last row leaves, though another's was used longer ago
+    (4, 2, "Ok(1) [(1, 2)] 4: [(0, 2)] [(4, 2)] []"),
+    // no row of its own shard is left but itself: the next shard's, round the circle
+    (7, 4, "Ok(1) [(4, 2), (0, 2)] 4: [] [(7, 4)] []"),
+    // what it replaces counts no more
+    (7, 5, "Ok(1) [] 5: [] [(7, 5)] []"),
+    // too heavy by itself: it leaves after the last other row
+    (3, 6, "Ok(0) [(7, 5), (3, 6)] 0: [] [] []"),
+    (
+        2,
+        MOST,
+        "Err(Refused { cause: Weight, held: 2 }) [] 0: [] [] []",
+    ),
+];
+
+// The faults of these admissions, done in turn.
+fn admission_faults(alloc: Global) -> Result<String, AllocError> {
+    let mut core = LruCore::<u64, 3>::with_capacity(alloc, 5, 0)?;
+    let mut faults = String::new(alloc);
+    for (key, weight, wanted) in &ADMISSIONS {
+        let mut evicted = Vec::new(alloc);
+        let mut all_kept = true;
+        let answer = core.admit_and_evict(*key, *key, *weight, |pair| {
+            all_kept &= evicted.push(pair).is_ok();
+        });
+        let left = shown(alloc, &core)?;
+        let text = format!(in alloc; "{answer:?} {evicted:?} {left}")?;
+        if !all_kept || text.as_str() != *wanted {
+            writeln!(faults, "{key} of {weight}: {text}")?;
+        }
+    }
+    let counters = (core.len(), core.evicted_len(), core.evicted_weight());
+    if counters != (0, 5, 17) {
+        write!(faults, "{counters:?}")?;
+    }
+    Ok(faults)
+}
+
+#[test]
+fn admits_and_evicts(rt: HostRuntime) -> Result<(), Fail> {
+    assert_eq!(rt; admission_faults(rt.alloc())?.as_str(), "");
     Ok(())
 }

@@ -1,11 +1,11 @@
 -- What a call does not do: it brings in no key of another shard.
-use Rattle.std.proofs.Common.{◌≡◌, ℕ, ◌+◌, ◌%◌, ◌<◌, ◌≤◌, ◌-◌, cond, eqb, List, length, Some, None, Ok, Err, refl, sym, ap, ◌∙◌, arith, inl, inr, ◌⊎◌}
-use Rattle.std.specs.Prelude.{Option, Result, max}
+use Rattle.std.proofs.Common.{◌≡◌, ℕ, ◌%◌, ◌<◌, ◌≤◌, ◌-◌, cond, eqb, List, length, Some, None, Ok, Err, refl, sym, ap, ◌∙◌, arith, inl, inr}
+use Rattle.std.specs.Prelude.{Option, Result}
 use Rattle.std.specs.Option.{option_map_or}
 use Rattle.std.proofs.lemmas.Bool.{cases_eq, cases_lt, ne_eqb}
 use Rattle.std.proofs.lemmas.List.Sums.{sum_by-take-le}
 use Rattle.lru_shard.specs.declared.unit.Cause.{Cause}
-use Rattle.lru_shard.specs.Row.{Row, row_of, times, with_first, without, without_last, with_weight}
+use Rattle.lru_shard.specs.Row.{Row, row_of, times, with_first, without, without_last}
 use Rattle.lru_shard.specs.Shard.{Shard, shard}
 use Rattle.lru_shard.specs.Unit.{SetsWeight, accessed}
 use Rattle.lru_shard.proofs.EditsOf.{Edit}
@@ -20,7 +20,7 @@ module _ {T : Type 0} (n s : ℕ) where
   home_edit k a b e own all j h = elim (e.fresh j h) [ inl old ↦ all j old | inr new ↦ ap (λ x. x % n) new ∙ own ]
 
   -- no more rows of any key
-  home_fewer : (a b : Shard T) → ((j : ℕ) → times j b.rows ≤ times j a.rows) → AreAtHome n s a.rows → AreAtHome n s b.rows
+  pub home_fewer : (a b : Shard T) → ((j : ℕ) → times j b.rows ≤ times j a.rows) → AreAtHome n s a.rows → AreAtHome n s b.rows
   home_fewer a b fewer all j h = all j (omega (arith, h, fewer j))
 
   pub home_set : (k w : ℕ) (a b : Shard T) (answer : Result (Option ℕ) Cause) → SetsWeight a k w answer b → AreAtHome n s a.rows → AreAtHome n s b.rows

@@ -1,3 +1,4 @@
 pub mod LruCaps
 pub mod Homes
 pub mod Units
+pub mod Sheds

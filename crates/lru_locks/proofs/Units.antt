@@ -1,6 +1,6 @@
 -- Shards that are put into a list one after another, each at its place.
-use Rattle.std.proofs.Common.{◌≡◌, ℕ, zero, suc, List, [], ◌∷◌, ◌++◌, length, Some, None, refl, sym, ap, subst, ◌⊎◌, inl, inr, ⊎_elim}
-use Rattle.std.specs.Prelude.{Option, slice_get}
+use Rattle.std.proofs.Common.{◌≡◌, ℕ, zero, suc, List, [], ◌∷◌, ◌++◌, length, Some, None, refl, ap, subst, ◌⊎◌, inl, inr, ⊎_elim}
+use Rattle.std.specs.Prelude.{slice_get}
 use Rattle.lru_shard.specs.Shard.{Shard}
 use Rattle.lru_rules.specs.Shards.{IsOwn, AreOwn}
 

@@ -1,1 +1,2 @@
 pub mod LruCalls
+pub mod Sheds

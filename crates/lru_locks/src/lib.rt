@@ -3,3 +3,4 @@
 
 mod lock;
 pub mod lru;
+mod shed;

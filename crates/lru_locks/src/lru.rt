@@ -5,8 +5,9 @@ ghost use Rattle.lru_rules.specs.Limits.{cap_of};
 ghost use Rattle.lru_rules.specs.Shards.{AreAtHome, IsOwn, AreOwn};
 
 use crate::lock::ShortLock;
+use crate::shed::{Room, shed};
 use crossbeam_utils::CachePadded;
-use lru_rules::counters::shift;
+use lru_rules::counters::{growth, shift};
 use lru_rules::eviction::{EvictError, Readings, drawn_shards, longer_of, place_after};
 use lru_rules::totals::{Totals, Units};
 use lru_shard::unit::{Cause, LruUnit, Refused};
@@ -120,6 +121,7 @@ impl<T: Drop, const N: usize> Locked<T, N> {
     ghost use Rattle.lru_shard.specs.Shard.{shard};
     ghost use Rattle.lru_shard.specs.Unit.{InsertsTail, Updates, accessed};
     ghost use Rattle.lru_rules.specs.ShardCalls.{AdmitsRaised, SetsRaised, IncrementsTo, UpdatesFrom};
+    ghost use Rattle.lru_locks.specs.Sheds.{Sheds, AdmitsAndSheds, EvictsBesides, VisitsLight};
 
     // A weight of 0 counts as 1.
     #[tactic(auto, using(crate::proofs::LruCaps::admit_light))]
@@ -131,6 +133,49 @@ impl<T: Drop, const N: usize> Locked<T, N> {
         let answer = self.unit.admit(key, data, weight.max(1));
         let _weight = self.unit.used_weight();
         answer
+    }
+
+    // Admits, then evicts last rows while the shard is past its room, but not the row just put, and calls a closure with each. It
+    // answers what they were together.
+    #[tactic(auto, using(crate::proofs::LruCaps::admit_light))]
+    fn admit_and_evict<F: FnMut((T, usize))>(
+        &mut self,
+        key: u64,
+        data: T,
+        weight: usize,
+        room: Room,
+        visit: &mut F,
+    ) -> Result<Totals, Refused<T>>
+        requires home { key % N ≡ self.old.number }
+        requires callable { F.IsAlwaysCallable visit.old }
+        ensures again { F.IsAlwaysCallable visit.new }
+        ensures row { AdmitsAndSheds (λ p x q. F.step p x tt q) visit.old self.old.unit key «data» weight room.weight room.len result self.new.unit visit.new }
+        ensures light { OnOk result (max weight 1 ≤ cap_of N) }
+        ensures visited { VisitsLight (λ p x q. F.step p x tt q) visit.old (cap_of N) visit.new }
+    {
+        self.admit(key, data, weight)?;
+        Ok(self.shed(room, visit))
+    }
+
+    fn shed<F: FnMut((T, usize))>(&mut self, room: Room, visit: &mut F) -> Totals
+        requires { F.IsAlwaysCallable visit.old }
+        ensures again { F.IsAlwaysCallable visit.new }
+        ensures rows { Sheds (λ p x q. F.step p x tt q) visit.old self.old.unit room.weight room.len self.new.unit visit.new }
+        ensures visited { VisitsLight (λ p x q. F.step p x tt q) visit.old (cap_of N) visit.new }
+    {
+        let _weight = self.unit.used_weight();
+        shed(&mut self.unit, room, visit)
+    }
+
+    // Evicts the last row, unless it is that of a key.
+    fn evict_besides(&mut self, key: u64) -> Option<(T, usize)>
+        ensures row { EvictsBesides self.old.unit key result self.new.unit }
+        ensures light { IfSome result (λ pair. pair.1 ≤ cap_of N) }
+    {
+        if self.unit.lru_key()? == key {
+            return None;
+        }
+        self.evict()
     }
 
     fn insert_tail(&mut self, key: u64, data: T, weight: usize) -> Result<bool, Refused<T>>
@@ -251,24 +296,52 @@ fn unit_of<T: Drop, const N: usize>(
     locked.into_unit()
 }
 
-fn zeros(alloc: Global, count: usize) -> Result<Vec<CachePadded<AtomicUsize>>, AllocError>
+fn zeros(alloc: Global, count: usize) -> Result<Vec<CachePadded<ShardCounters>>, AllocError>
     ensures { IfOk result (λ zeros. vec_len zeros ≡ count) }
 {
     let mut zeros = Vec::with_capacity(alloc, count)?;
     for _ in 0..count {
-        zeros.push(CachePadded::new(AtomicUsize::new(0)))?;
+        zeros.push(CachePadded::new(ShardCounters::zero()))?;
     }
     Ok(zeros)
 }
 
+// One step of a counter, under the lock of the shard whose number changed: what it is after the step. Where the number is as
+// before, nothing is written, and the counter is as it was read.
+fn stepped(counter: &AtomicUsize, before: usize, after: usize, read: usize) -> usize {
+    if before == after {
+        return read;
+    }
+    let more = growth(before, after);
+    counter.fetch_add(more, Ordering::SeqCst).wrapping_add(more)
+}
+
+// What is counted of one shard.
+#[derive(Drop)]
+struct ShardCounters {
+    // how many rows it has
+    len: AtomicUsize,
+    // what was evicted from it so far
+    evicted_weight: AtomicUsize,
+    evicted_len: AtomicUsize,
+}
+
+impl ShardCounters {
+    fn zero() -> Self {
+        ShardCounters {
+            len: AtomicUsize::new(0),
+            evicted_weight: AtomicUsize::new(0),
+            evicted_len: AtomicUsize::new(0),
+        }
+    }
+}
+
 // What is counted over all shards. Calls write it, and so it has cache lines of its own: those of the shards' places,
-// which each call reads, stay as they are.
+// which each call reads, stay as they are. An eviction that makes the room for one row is no change of it.
 #[derive(Drop)]
 struct Counters {
     weight: AtomicUsize,
     len: AtomicUsize,
-    evicted_weight: AtomicUsize,
-    evicted_len: AtomicUsize,
 }
 
 impl Counters {
@@ -276,8 +349,6 @@ impl Counters {
         Counters {
             weight: AtomicUsize::new(0),
             len: AtomicUsize::new(0),
-            evicted_weight: AtomicUsize::new(0),
-            evicted_len: AtomicUsize::new(0),
         }
     }
 }
@@ -293,14 +364,14 @@ impl Counters {
 pub struct Lru<T, const N: usize> {
     // no two shards share a cache line, so that a thread at one doesn't slow a thread at another
     units: Vec<CachePadded<ShortLock<Locked<T, N>>>>,
-    // how many rows each unit has
-    lens: Vec<CachePadded<AtomicUsize>>,
+    // what is counted of each unit
+    counts: Vec<CachePadded<ShardCounters>>,
     counters: CachePadded<Counters>,
     weight_limit: AtomicUsize,
     watermark: Option<usize>,
     ghost some: { 0 < N },
     ghost has_units: { vec_len units ≡ N },
-    ghost has_lens: { vec_len lens ≡ N },
+    ghost has_counts: { vec_len counts ≡ N },
 }
 
 impl<T, const N: usize> Lru<T, N> {
@@ -332,7 +403,7 @@ impl<T, const N: usize> Lru<T, N> {
     {
         Ok(Lru {
             units: empty_units(alloc, capacity)?,
-            lens: zeros(alloc, N)?,
+            counts: zeros(alloc, N)?,
             counters: CachePadded::new(Counters::zero()),
             weight_limit: AtomicUsize::new(weight_limit),
             watermark,
@@ -361,7 +432,7 @@ impl<T, const N: usize> Lru<T, N> {
     pub fn shard_len(&self, shard: usize) -> usize
         requires { shard < N }
     {
-        self.lens[shard].load(Ordering::SeqCst)
+        self.counts[shard].len.load(Ordering::SeqCst)
     }
 
     /// The weight above which the `Lru` is over.
@@ -376,12 +447,20 @@ impl<T, const N: usize> Lru<T, N> {
 
     /// The sum of the weights of all rows evicted so far, modulo 2^64.
     pub fn evicted_weight(&self) -> usize {
-        self.counters.evicted_weight.load(Ordering::SeqCst)
+        let mut sum = 0usize;
+        for counts in &self.counts {
+            sum = sum.wrapping_add(counts.evicted_weight.load(Ordering::SeqCst));
+        }
+        sum
     }
 
     /// The number of all rows evicted so far, modulo 2^64.
     pub fn evicted_len(&self) -> usize {
-        self.counters.evicted_len.load(Ordering::SeqCst)
+        let mut sum = 0usize;
+        for counts in &self.counts {
+            sum = sum.wrapping_add(counts.evicted_len.load(Ordering::SeqCst));
+        }
+        sum
     }
 
     /// The sum of the weights of the rows of a shard.
@@ -496,7 +575,18 @@ impl<T, const N: usize> Lru<T, N> {
     {
         shift(&self.counters.weight, before.weight, after.weight);
         shift(&self.counters.len, before.len, after.len);
-        shift(&self.lens[shard], before.len, after.len);
+        shift(&self.counts[shard].len, before.len, after.len);
+    }
+
+    // Counts rows that were evicted from a shard.
+    fn note_evicted(&self, shard: usize, evicted: Totals)
+        requires { shard < N }
+    {
+        let counts = &self.counts[shard];
+        counts
+            .evicted_weight
+            .fetch_add(evicted.weight, Ordering::SeqCst);
+        counts.evicted_len.fetch_add(evicted.len, Ordering::SeqCst);
     }
 
     // The longer of two drawn shards, a first and b second, by the lengths as read; a where they are as
@@ -513,6 +603,7 @@ impl<T, const N: usize> Lru<T, N> {
 
 impl<T: Drop, const N: usize> Lru<T, N> {
     ghost use Rattle.lru_locks.specs.LruCalls.{HandsBack, MayAnswer};
+    ghost use Rattle.lru_locks.specs.Sheds.{VisitsLight};
 
     /// As `LruCore::admit`: puts a row first in the shard of its key, and answers that shard.
     pub fn admit(
@@ -661,10 +752,126 @@ impl<T: Drop, const N: usize> Lru<T, N> {
         let before = unit.totals();
         let (data, weight) = unit.evict()?;
         self.note(shard, before, unit.totals());
-        let counters = &self.counters;
-        counters.evicted_weight.fetch_add(weight, Ordering::SeqCst);
-        counters.evicted_len.fetch_add(1, Ordering::SeqCst);
+        self.note_evicted(shard, Totals { weight, len: 1 });
         Some((data, weight))
+    }
+
+    // Evicts the last row of a shard, unless it is that of a key.
+    fn evict_besides(&self, rt: &impl Wait, shard: usize, key: u64) -> Option<(T, usize)>
+        requires { shard < N }
+        ensures { IfSome result (λ pair. pair.1 ≤ cap_of N) }
+    {
+        let mut unit = self.units[shard].write(rt);
+        let before = unit.totals();
+        let (data, weight) = unit.evict_besides(key)?;
+        self.note(shard, before, unit.totals());
+        self.note_evicted(shard, Totals { weight, len: 1 });
+        Some((data, weight))
+    }
+
+    // Evicts the last row of the first shard, from a key's own on and round the circle, whose last row is not that key's;
+    // where there is none, that of the key's own.
+    fn evict_sparing(&self, rt: &impl Wait, own: usize, key: u64) -> Option<(T, usize)>
+        requires { own < N }
+        ensures { IfSome result (λ pair. pair.1 ≤ cap_of N) }
+    {
+        for steps in 0..N {
+            let shard = place_after(own, steps, N);
+            if let Some(pair) = self.evict_besides(rt, shard, key) {
+                return Some(pair);
+            }
+        }
+        self.evict_from(rt, own)
+    }
+
+    // Admits, and evicts from the same shard, under one lock, what is too much by what all hold. It answers what all hold after it:
+    // the counters tell of each change how much there was just then, so that of two that take the last room one sees it taken.
+    fn admit_here<F: FnMut((T, usize))>(
+        &self,
+        rt: &impl Wait,
+        key: u64,
+        data: T,
+        weight: usize,
+        visit: &mut F,
+    ) -> Result<Readings, Refused<T>>
+        requires { F.IsAlwaysCallable visit.old }
+        ensures again { F.IsAlwaysCallable visit.new }
+        ensures light { OnOk result (max weight 1 ≤ cap_of N) }
+        ensures held { IfErr result (λ refused. refused.held ≡ «data») }
+        ensures visited { VisitsLight (λ p x q. F.step p x tt q) visit.old (cap_of N) visit.new }
+    {
+        let shard = self.shard_of(key);
+        let mut unit = self.unit_at(rt, shard);
+        let before = unit.totals();
+        let mut all = self.readings();
+        let room = Room::beside_others(&all, before);
+        let evicted = unit.admit_and_evict(key, data, weight, room, visit)?;
+        let after = unit.totals();
+        let counters = &self.counters;
+        all.weight = stepped(&counters.weight, before.weight, after.weight, all.weight);
+        all.len = stepped(&counters.len, before.len, after.len, all.len);
+        shift(&self.counts[shard].len, before.len, after.len);
+        if evicted.len > 0 {
+            self.note_evicted(shard, evicted);
+        }
+        Ok(all)
+    }
+
+    // Evicts what is too much of what all hold, and spares the row of a key as long as there is another.
+    fn evict_rest<F: FnMut((T, usize))>(
+        &self,
+        rt: &impl Wait,
+        key: u64,
+        all: Readings,
+        visit: &mut F,
+    )
+        requires { F.IsAlwaysCallable visit.old }
+        ensures { VisitsLight (λ p x q. F.step p x tt q) visit.old (cap_of N) visit.new }
+    {
+        let own = self.shard_of(key);
+        let mut left = all;
+        for _ in 0..all.len {
+            if !left.is_past(self.weight(), self.len()) {
+                return;
+            }
+            let Some(pair) = self.evict_sparing(rt, own, key) else {
+                return;
+            };
+            left.evicted(pair.1);
+            visit(pair);
+        }
+    }
+
+    /// As `LruCore::admit_and_evict`: puts a row first in the shard of its key, evicts what is too much, and calls a closure
+    /// with the data and the weight of each evicted row, in order. It answers the shard.
+    ///
+    /// Under the lock of the key's shard it admits, and evicts last rows of that shard, but not the row just put, while all
+    /// shards are over by what it read there; `visit` is called under that lock. Where they are over after it, it goes on from
+    /// that shard round the circle, a lock for each row, as long as the values at the end of its first step, less what it evicted
+    /// since, and the values now are both past a limit. So by one caller it ends within the limits, and of callers at once
+    /// none that took the last room evicts less than what it took too much.
+    ///
+    /// Nothing is drawn, and evictions take no memory. A refusal, for Length, Weight or Memory as a shard refuses, hands the
+    /// data back, evicts nothing and changes nothing.
+    pub fn admit_and_evict<F: FnMut((T, usize))>(
+        &self,
+        rt: &impl Wait,
+        key: u64,
+        data: T,
+        weight: usize,
+        mut visit: F,
+    ) -> Result<usize, Refused<T>>
+        requires { F.IsAlwaysCallable visit }
+        ensures shard { IfOk result (λ s. s ≡ key % N) }
+        ensures light { OnOk result (max weight 1 ≤ cap_of N) }
+        ensures held { IfErr result (λ refused. refused.held ≡ «data») }
+        ensures visited { (last : F) × VisitsLight (λ p x q. F.step p x tt q) visit (cap_of N) last }
+    {
+        let all = self.admit_here(rt, key, data, weight, &mut visit)?;
+        if all.is_past(all.weight, all.len) {
+            self.evict_rest(rt, key, all, &mut visit);
+        }
+        Ok(self.shard_of(key))
     }
 
     // Evicts the last row of the first shard that is not empty, from this one on and round the circle.

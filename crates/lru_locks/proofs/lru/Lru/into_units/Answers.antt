@@ -1,4 +1,4 @@
-use Rattle.std.proofs.Common.{◌≡◌, [], ◌∷◌, ◌++◌, length, vec_len, rules, arith, length-append}
+use Rattle.std.proofs.Common.{◌≡◌, [], ◌∷◌, length, vec_len, rules, arith, length-append}
 use Rattle.lru_locks.proofs.Units.{own_more}
 use Rattle.lru_locks.proofs.lru.Lru.into_units.Goals as goal
 
