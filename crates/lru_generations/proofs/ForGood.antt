@@ -1,6 +1,5 @@
 -- What a loss of power leaves of a checkpoint whose names were synced.
-use Rattle.std.proofs.Common.{◌≡◌, ◌⊎◌, ◌==◌, ◌||◌, inl, inr, ⊎_elim, ℕ, ◌<◌, ◌^◌, List, ◌++◌, length, codes, false, refl, sym, ◌∙◌, ap, subst, arith}
-use Rattle.std.specs.FinMap.{get}
+use Rattle.std.proofs.Common.{◌≡◌, ◌==◌, ◌||◌, ℕ, ◌<◌, ◌^◌, List, ◌++◌, length, codes, false, refl, sym, ◌∙◌, ap, subst, arith}
 use Rattle.std.proofs.lemmas.List.Folds.{list_any-append}
 use Rattle.lru_folder.specs.Files.{Files, Same}
 use Rattle.lru_folder.specs.Folder.{Passes}
@@ -11,8 +10,6 @@ use Rattle.lru_folder.proofs.LossLemmas.{loses_on}
 use Rattle.lru_folder.proofs.Moments.{goes_on}
 use Rattle.lru_folder.proofs.NamesLemmas.{has_slash-shard_text}
 use Rattle.lru_synced_folder.specs.Names.{HasNames, IsIn}
-use Rattle.lru_manifests.specs.declared.manifest.Manifest.{Manifest}
-use Rattle.lru_manifests.specs.Manifests.{IsManifest}
 use Rattle.lru_manifests.specs.Names.{frame_path, manifest_path}
 use Rattle.lru_checkpoints.specs.Checkpoints.{Shards, manifest_of, AreFirm, HasCheckpoint, IsOldOrNew, SavesCheckpoint}
 use Rattle.lru_checkpoints.proofs.Saved.{get-below}
