@@ -4,6 +4,7 @@ use Rattle.lru_folder.specs.Files.{Files}
 use Rattle.lru_folder.specs.Losses.{IsFromStart}
 use Rattle.lru_folder.specs.Meaning.{Meaning}
 use Rattle.lru_folder.proofs.FilesLemmas.{alike}
+use Rattle.lru_folder.proofs.LossLemmas.{then_loses}
 use Rattle.lru_folder.proofs.Moments.{then_run}
 use Rattle.lru_manifests.specs.declared.manifest.Manifest.{Manifest}
 use Rattle.lru_manifests.specs.Manifests.{IsManifest}
@@ -14,7 +15,7 @@ use Rattle.lru_whole_files.specs.Replacing.{IsOldOrReplaced, Replaces}
 use Rattle.lru_checkpoints.specs.Checkpoints.{Shards, manifest_of, IsPartOf, HasCheckpoint, HasFrames, IsOldOrNew, SavesCheckpoint}
 use Rattle.lru_checkpoints.proofs.Crashed.{one_manifest}
 use Rattle.lru_checkpoints.proofs.Saved.{get-below, leaves_more, loses_more}
-use Rattle.lru_generations.specs.Before.{before_path, IsBeforeFile, KeepsBefore, HasBefore, IsForGood, IsOldOrNext, IsSavedAfter, SavesAfter}
+use Rattle.lru_generations.specs.Before.{before_path, IsBeforeFile, KeepsBefore, HasBefore, IsForGood, IsOldOrNext, IsSavedAfter, SavesAfter, SavesNext}
 use Rattle.lru_generations.proofs.BeforeNames.{before_apart, no_frame}
 
 -- what is replaced is all that is touched
@@ -124,7 +125,8 @@ module _ {K V : Type 0} (key_bytes : K → List ℕ) (IsKey : K → Type 0) (dat
           (λ new. inr (new.0, record { numbers = h.numbers; manifest = new.1 (manifest_of generation rows) is; fits = h.fits; frames = still }))
           saved.checkpoint
 
-    -- where the next one is there, so is the old one, as the one before
+  -- where the next one is there, so is the old one, as the one before
+  module _ (generation : ℕ) (rows shards : Shards K V) where
     pub old_before : (m : Files) → IsOldOrNext key_bytes IsKey data_bytes IsData dir file_name generation rows shards m → Has (suc generation) shards m
         → HasBefore key_bytes IsKey data_bytes IsData dir file_name generation rows m
     old_before m (inr both) new = both.1
@@ -132,34 +134,68 @@ module _ {K V : Type 0} (key_bytes : K → List ℕ) (IsKey : K → Type 0) (dat
         let same = one_manifest (manifest_of generation rows) (manifest_of (suc generation) shards) old.numbers new.numbers (sym old.manifest ∙ new.manifest) in
         absurd (omega (arith, ap (λ (n : Manifest). n.generation) same))
 
-    -- The newest checkpoint is looked for, and the next one is saved.
-    module _ {F : Type 0} (meaning : Meaning F) (newest : Option Manifest) (is : newest ≡ Some (manifest_of generation rows)) (start one new : F) (looked : TouchesNothing meaning start one)
-        (saves : SavesAfter key_bytes IsKey data_bytes IsData dir file_name meaning newest (suc generation) shards one new) where
-      pub at_stop : meaning.files one ≡ meaning.files start → Has generation rows (meaning.files start) → (m : Files) → meaning.stopped_since new (meaning.clock start) m
-          → IsOldOrNext key_bytes IsKey data_bytes IsData dir file_name generation rows shards m
-      at_stop files h m s = ⊎_elim
-          (λ early. inl (old_same generation rows (meaning.files start) m (looked.any_moment.each m early) h))
-          (λ saved. saved_so newest (meaning.files one) m saved (subst (λ (f : Files). Has generation rows f) (sym files) h) is)
-          (saves.any_moment.before (meaning.clock start) m looked.any_moment.later s)
+  -- The newest checkpoint is looked for, and the next one is saved.
+  module _ (shards : Shards K V) {F : Type 0} (meaning : Meaning F) (start one : F) (looked : TouchesNothing meaning start one) where
+    abbrev Next : Files → Files → Type 0
+    Next was m = (generation : ℕ) (rows : Shards K V) → Has generation rows was → Has generation rows (meaning.files start)
+        → IsOldOrNext key_bytes IsKey data_bytes IsData dir file_name generation rows shards m
 
-      since_one : IsForGood key_bytes IsKey data_bytes IsData dir file_name meaning generation rows start → (m : Files)
-          → IsFromStart meaning (IsSavedAfter key_bytes IsKey data_bytes IsData dir file_name newest (suc generation) shards) one m
-          → IsOldOrNext key_bytes IsKey data_bytes IsData dir file_name generation rows shards m
-      since_one good m from =
-          let was = looked.any_loss.now from.0 from.1.0 in
-          saved_so newest from.0 m from.1.1 (old_same generation rows was.0 from.0 was.1.1 (good was.0 was.1.0)) is
+    abbrev NextNow : Files → Type 0
+    NextNow m = (generation : ℕ) (rows : Shards K V) → Has generation rows (meaning.files start) → IsOldOrNext key_bytes IsKey data_bytes IsData dir file_name generation rows shards m
 
-      pub at_loss : IsForGood key_bytes IsKey data_bytes IsData dir file_name meaning generation rows start → (m : Files) → meaning.lost_since new (meaning.clock start) m
-          → IsOldOrNext key_bytes IsKey data_bytes IsData dir file_name generation rows shards m
-      at_loss good m s = ⊎_elim
-          (λ early. let from = looked.any_loss.each m early in inl (old_same generation rows from.0 m from.1.1 (good from.0 from.1.0)))
-          (since_one good m)
-          (saves.any_loss.before (meaning.clock start) m looked.any_loss.later s)
+    still_old : (was m : Files) → IsSameBut (λ q. ⊥) was m → Next was m
+    still_old was m same generation rows h stands = inl (old_same generation rows was m same h)
 
-      pub at_end : IsForGood key_bytes IsKey data_bytes IsData dir file_name meaning generation rows start
-          → IsForGood key_bytes IsKey data_bytes IsData dir file_name meaning (suc generation) shards new → (m : Files) → meaning.lost_since new (meaning.clock new) m
-          → HasBefore key_bytes IsKey data_bytes IsData dir file_name generation rows m
-      at_end good next m s = old_before m (since_one good m (saves.any_loss.now m s)) (next m s)
+    still_now : (m : Files) → IsSameBut (λ q. ⊥) (meaning.files start) m → NextNow m
+    still_now m same generation rows h = inl (old_same generation rows (meaning.files start) m same h)
+
+    pub looked_next : SavesNext key_bytes IsKey data_bytes IsData dir file_name meaning shards start one
+    looked_next = record {
+      any_moment = leaves_more meaning (IsSameBut (λ q. ⊥) (meaning.files start)) NextNow still_now start one looked.any_moment;
+      any_loss = loses_more meaning (IsSameBut (λ q. ⊥)) Next still_old start one looked.any_loss;
+    }
+
+    module _ (same : meaning.files one ≡ meaning.files start) (new : F) where
+      -- of what was saved after that manifest
+      module _ (newest : Option Manifest) (number : ℕ) (numbers : IsManifest (manifest_of number shards))
+          (saves : SavesAfter key_bytes IsKey data_bytes IsData dir file_name meaning newest number shards one new)
+          (known : (generation : ℕ) (rows : Shards K V) → Has generation rows (meaning.files start) → (newest ≡ Some (manifest_of generation rows)) × (number ≡ suc generation)) where
+        abbrev After : Files → Files → Type 0
+        After = IsSavedAfter key_bytes IsKey data_bytes IsData dir file_name newest number shards
+
+        so : (was m : Files) → After was m → Next was m
+        so was m saved generation rows h stands =
+            let is = known generation rows stands in
+            saved_so generation rows shards (subst (λ n. IsManifest (manifest_of n shards)) is.1 numbers) newest was m
+            (subst (λ n. IsSavedAfter key_bytes IsKey data_bytes IsData dir file_name newest n shards was m) is.1 saved) h is.0
+
+        pub saves_next : SavesNext key_bytes IsKey data_bytes IsData dir file_name meaning shards start new
+        saves_next = record {
+          any_moment = then_run meaning (IsSameBut (λ q. ⊥) (meaning.files start)) (After (meaning.files one)) NextNow start one new looked.any_moment saves.any_moment still_now
+              (λ m saved generation rows h. so (meaning.files one) m saved generation rows (subst (λ (f : Files). Has generation rows f) (sym same) h) h);
+          any_loss = then_loses meaning (IsSameBut (λ q. ⊥)) After Next start one new looked.any_loss saves.any_loss still_old
+              (λ was then m alike saved generation rows h stands. so then m saved generation rows (old_same generation rows was then alike h) stands);
+        }
+
+      -- of a whole save
+      pub next_later : SavesNext key_bytes IsKey data_bytes IsData dir file_name meaning shards one new → SavesNext key_bytes IsKey data_bytes IsData dir file_name meaning shards start new
+      next_later saves = record {
+        any_moment = then_run meaning (IsSameBut (λ q. ⊥) (meaning.files start)) (λ m. (generation : ℕ) (rows : Shards K V) → Has generation rows (meaning.files one)
+            → IsOldOrNext key_bytes IsKey data_bytes IsData dir file_name generation rows shards m) NextNow start one new looked.any_moment saves.any_moment still_now
+            (λ m saved generation rows h. saved generation rows (subst (λ (f : Files). Has generation rows f) (sym same) h));
+        any_loss = then_loses meaning (IsSameBut (λ q. ⊥)) (λ was m. (generation : ℕ) (rows : Shards K V) → Has generation rows was → Has generation rows (meaning.files one)
+            → IsOldOrNext key_bytes IsKey data_bytes IsData dir file_name generation rows shards m) Next start one new looked.any_loss saves.any_loss still_old
+            (λ was then m alike saved generation rows h stands. saved generation rows (old_same generation rows was then alike h) (subst (λ (f : Files). Has generation rows f) (sym same) stands));
+      }
+
+  -- each loss leaves the old one as the one before, once each leaves the next one
+  pub at_end : {F : Type 0} (meaning : Meaning F) (generation number : ℕ) (rows shards : Shards K V) (start new : F) → number ≡ suc generation
+      → SavesNext key_bytes IsKey data_bytes IsData dir file_name meaning shards start new → Has generation rows (meaning.files start)
+      → IsForGood key_bytes IsKey data_bytes IsData dir file_name meaning generation rows start → IsForGood key_bytes IsKey data_bytes IsData dir file_name meaning number shards new
+      → (m : Files) → meaning.lost_since new (meaning.clock new) m → HasBefore key_bytes IsKey data_bytes IsData dir file_name generation rows m
+  at_end meaning generation number rows shards start new is saves h good next m s =
+      let from = saves.any_loss.now m s in
+      old_before generation rows shards m (from.1.1 generation rows (good from.0 from.1.0) h) (subst (λ n. Has n shards m) is (next m s))
 
 -- the number after the newest manifest's
 pub next_is : {K V : Type 0} (newest : Option Manifest) (generation number : ℕ) (rows : Shards K V) → newest ≡ Some (manifest_of generation rows)

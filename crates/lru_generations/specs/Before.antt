@@ -53,3 +53,13 @@ module _ {K V : Type 0} (key_bytes : K → List ℕ) (IsKey : K → Type 0) (dat
   pub record SavesAfter {F : Type 0} (meaning : Meaning F) (newest : Option Manifest) (generation : ℕ) (shards : Shards K V) (old new : F) : Type 0 where
     pub any_moment : LeavesOnly meaning (IsSavedAfter newest generation shards (meaning.files old)) old new
     pub any_loss : LosesOnly meaning (IsSavedAfter newest generation shards) old new
+
+  -- A save of the next checkpoint: at every moment a checkpoint that stood whole is there, or the next one is, and it is the
+  -- one before.
+  pub record SavesNext {F : Type 0} (meaning : Meaning F) (shards : Shards K V) (old new : F) : Type 0 where
+    -- so a stop at any moment leaves it,
+    pub any_moment : LeavesOnly meaning (λ m. (generation : ℕ) (rows : Shards K V)
+        → HasCheckpoint key_bytes IsKey data_bytes IsData dir file_name generation rows (meaning.files old) → IsOldOrNext generation rows shards m) old new
+    -- and so does a loss of power, where a loss at the start would have left that checkpoint
+    pub any_loss : LosesOnly meaning (λ was m. (generation : ℕ) (rows : Shards K V) → HasCheckpoint key_bytes IsKey data_bytes IsData dir file_name generation rows was
+        → HasCheckpoint key_bytes IsKey data_bytes IsData dir file_name generation rows (meaning.files old) → IsOldOrNext generation rows shards m) old new

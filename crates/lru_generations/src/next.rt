@@ -8,7 +8,7 @@ ghost use Rattle.lru_manifests.specs.Manifests.{IsManifest};
 ghost use Rattle.lru_manifests.specs.Names.{manifest_path};
 ghost use Rattle.lru_checkpoints.specs.Checkpoints.{Shards, HasCheckpoint};
 ghost use Rattle.lru_checkpoints.specs.Generations.{IsNext, HasNoNext};
-ghost use Rattle.lru_generations.specs.Before.{before_text, HasBefore, IsForGood, IsOldOrNext, SavesAfter};
+ghost use Rattle.lru_generations.specs.Before.{before_text, HasBefore, IsForGood, SavesAfter, SavesNext};
 ghost use Rattle.lru_generations.specs.Reasons.{IsUnsaved};
 
 use crate::before::keep_before;
@@ -86,17 +86,9 @@ pub fn save_next<F: SyncedFolder, K: Stored, V: Stored>(
     requires shards { suc (length shards.now) < 2 ^ 64 }
     requires name { has_slash file_name.now ≡ false }
 
-    // A stop at any moment leaves the old checkpoint or the next one, whole.
-    ensures stop { F.meaning.keeps folder.old → (generation : ℕ) (rows : Shards K V)
-        → HasCheckpoint K.bytes_of K.is_value V.bytes_of V.is_value dir.now file_name.now generation rows (F.meaning.files folder.old)
-        → (m : Files) → F.meaning.stopped_since folder.new (F.meaning.clock folder.old) m
-        → IsOldOrNext K.bytes_of K.is_value V.bytes_of V.is_value dir.now file_name.now generation rows shards.now m }
-
-    // So does a loss of power, where each loss before the save left the old one.
-    ensures loss { F.meaning.keeps folder.old → (generation : ℕ) (rows : Shards K V)
-        → IsForGood K.bytes_of K.is_value V.bytes_of V.is_value dir.now file_name.now F.meaning generation rows folder.old
-        → (m : Files) → F.meaning.lost_since folder.new (F.meaning.clock folder.old) m
-        → IsOldOrNext K.bytes_of K.is_value V.bytes_of V.is_value dir.now file_name.now generation rows shards.now m }
+    // A stop, and a loss of power, at any moment leaves the old checkpoint or the next one, whole.
+    ensures saves { F.meaning.keeps folder.old → SavesNext K.bytes_of K.is_value V.bytes_of V.is_value
+        dir.now file_name.now F.meaning shards.now folder.old folder.new }
 
     // After an Ok each loss leaves the new one,
     ensures next { F.meaning.keeps folder.old → IfOk result (IsNext dir.now file_name.now (F.meaning.files folder.old)) }
