@@ -27,7 +27,7 @@ on_ok (Ok done) P Q then p = then p
 on_ok (Err error) P Q then p = p
 
 -- what a stop may leave, told with less
-leaves_more : {F : Type 0} (meaning : Meaning F) (P Q : Files → Type 0) → ((m : Files) → P m → Q m) → (old new : F) → LeavesOnly meaning P old new → LeavesOnly meaning Q old new
+pub leaves_more : {F : Type 0} (meaning : Meaning F) (P Q : Files → Type 0) → ((m : Files) → P m → Q m) → (old new : F) → LeavesOnly meaning P old new → LeavesOnly meaning Q old new
 leaves_more meaning P Q more old new h = record {
   later = h.later;
   each = λ m s. more m (h.each m s);
@@ -40,7 +40,7 @@ module _ {F : Type 0} (meaning : Meaning F) (P Q : Files → Files → Type 0) (
   from_more : (m : Files) → IsFromStart meaning P old m → IsFromStart meaning Q old m
   from_more m h = (h.0, (h.1.0, more h.0 m h.1.1))
 
-  loses_more : LosesOnly meaning P old new → LosesOnly meaning Q old new
+  pub loses_more : LosesOnly meaning P old new → LosesOnly meaning Q old new
   loses_more h = record {
     later = h.later;
     each = λ m s. from_more m (h.each m s);

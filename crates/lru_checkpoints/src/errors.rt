@@ -1,5 +1,6 @@
 //! Why a checkpoint was not saved or not loaded.
-ghost use Rattle.std.specs.Prelude.{◌≡◌};
+ghost use Rattle.std.specs.Prelude.{◌≡◌, ◌↔◌, IsTrue};
+ghost use Rattle.lru_checkpoints.specs.Loads.{IsFault};
 ghost use Rattle.lru_checkpoints.specs.declared.errors.CheckpointError.TheVariants.{Memory};
 
 use lru_frames::errors::Part;
@@ -63,6 +64,23 @@ pub enum CheckpointError {
     },
     /// No generation is left after that of the manifest.
     LastGeneration,
+}
+
+impl CheckpointError {
+    /// Whether memory or the device failed, so that no file is blamed. Of a load, the other errors tell of files that are
+    /// not there, damaged or of another checkpoint: a second try finds the same.
+    pub fn is_fault(&self) -> bool
+        ensures { IsTrue result ↔ IsFault self.now }
+    {
+        match self {
+            CheckpointError::Memory => true,
+            CheckpointError::Folder { .. } => true,
+            CheckpointError::Missing { .. } => false,
+            CheckpointError::Damaged { .. } => false,
+            CheckpointError::Other { .. } => false,
+            CheckpointError::LastGeneration => false,
+        }
+    }
 }
 
 impl Display for CheckpointError {

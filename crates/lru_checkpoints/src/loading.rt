@@ -139,8 +139,11 @@ fn load_frame<F: Folder, K: Stored, V: Stored>(
     Ok(rows)
 }
 
-// The rows of each shard, from shard 0 on.
-fn load_frames<F: Folder, K: Stored, V: Stored>(
+/// The rows of each shard of the checkpoint that this manifest names, from shard 0 on, each read from a whole frame of this
+/// generation; or an error and no rows. At every moment all files are as they were.
+///
+/// The errors are those of `load_checkpoint`, and name a shard.
+pub fn load_frames<F: Folder, K: Stored, V: Stored>(
     alloc: Global,
     folder: &mut F,
     dir: &str,

@@ -1,6 +1,7 @@
 //! A checkpoint saved.
 ghost use Rattle.std.specs.Prelude.{◌≡◌, ◌↔◌, ◌<◌, ◌^◌, ℕ, suc, List, length, IfErr, OnOk, slice_get, Some, Vec};
 ghost use Rattle.std.specs.declared.alloc.Global.{Global};
+ghost use Rattle.lru_folder.specs.Losses.{firmed};
 ghost use Rattle.lru_frames.specs.declared.row.Row.{Row};
 ghost use Rattle.lru_frames.specs.Frame.{frame_of, Fits};
 ghost use Rattle.lru_manifests.specs.Manifests.{IsManifest, part_header, manifest_bytes};
@@ -59,8 +60,11 @@ fn save_frame<F: Folder, K: Stored, V: Stored>(
     }
 }
 
-// Writes the frame of each shard to its file.
-fn save_frames<F: Folder, K: Stored, V: Stored>(
+/// Writes the frame of each shard to its file, and syncs it. At every moment no path but those of these frames changes.
+///
+/// It is the first half of `save_generation`, for those who sync the folder's names before the manifest is replaced. Its
+/// errors are the same.
+pub fn save_frames<F: Folder, K: Stored, V: Stored>(
     alloc: Global,
     folder: &mut F,
     dir: &str,
@@ -87,8 +91,13 @@ fn save_frames<F: Folder, K: Stored, V: Stored>(
     Ok(())
 }
 
-// Replaces the manifest.
-fn save_manifest<F: Folder>(
+/// Replaces the manifest by this one: the second half of `save_generation`. A stop or a loss of power at any moment leaves
+/// the manifest as it was, or this one, and with this one each file that was synced before.
+///
+/// `Memory`: no memory was found for a name or for bytes. `Folder`: a call failed on the file that a manifest is first
+/// written to. After both the manifest is as it was, unless the call that failed is its renaming, which may have been done.
+/// The other errors are never told.
+pub fn save_manifest<F: Folder>(
     alloc: Global,
     folder: &mut F,
     dir: &str,
@@ -102,6 +111,8 @@ fn save_manifest<F: Folder>(
     ensures fits { OnOk result (IsManifest manifest.now) }
     ensures replaces { F.meaning.keeps folder.old → Replaces F.meaning
         (manifest_temp_path dir.now file_name.now) (manifest_path dir.now file_name.now) (manifest_bytes manifest.now) folder.old folder.new }
+    ensures firm { F.meaning.keeps folder.old → OnOk result ((q : List ℕ) → F.meaning.loose folder.new q
+        → firmed (manifest_temp_path dir.now file_name.now) (firmed (manifest_path dir.now file_name.now) (F.meaning.loose folder.old)) q) }
     ensures reason { F.meaning.keeps folder.old → IfErr result (HasSaveReason F.meaning dir.now file_name.now manifest.now.generation folder.old folder.new) }
     ensures faults { F.meaning.keeps folder.old → OnOk result (F.meaning.faults folder.new ≡ F.meaning.faults folder.old) }
     ensures places { F.meaning.keeps folder.old → F.meaning.folders folder.new ≡ F.meaning.folders folder.old }

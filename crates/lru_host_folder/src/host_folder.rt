@@ -8,6 +8,7 @@ use log::{Log, warn};
 use lru_folder::fault::FolderFault;
 use lru_folder::folder::Folder;
 use lru_folder::listed::Listed;
+use lru_synced_folder::synced_folder::SyncedFolder;
 use std::alloc::{AllocError, Allocator, Global};
 use std::fs::{DirEntry, Metadata, OpenFile, OpenOptions};
 use std::io::{ErrorKind, Read, Write};
@@ -25,7 +26,8 @@ use std::{fs, io};
 /// From `create` until it has its name, or the next call that closes it, a file is locked: another such folder, in this
 /// process or not, neither creates nor removes it, and answers `Io`. `rename` syncs the folder of the new name, and answers
 /// `Io` where that fails, though the name is given. `make` syncs each folder that it makes into the one above it; one that
-/// is there it leaves as it is, also where a stop came between its making and its sync. What is a link or a pipe is not opened. `create` of a path that is there
+/// is there it leaves as it is, also where a stop came between its making and its sync. `sync_dir` opens the folder and syncs
+/// it: that the disk keeps the names then is the system's promise. What is a link or a pipe is not opened. `create` of a path that is there
 /// removes it first, so a stop between leaves no file there, where a folder's meaning leaves the old one or the empty one;
 /// saves create temp files alone.
 ///
@@ -369,5 +371,15 @@ where
     fn remove(&mut self, path: &str) -> Result<(), FolderFault> {
         shut(&mut self.file);
         answer(&self.rt, "remove", path, self.remove_unclaimed(path))
+    }
+}
+
+impl<R: Files + Log + AllocGlobal + Clone + Drop> SyncedFolder for HostFolder<R>
+where
+    R::File: Claim,
+{
+    fn sync_dir(&mut self, dir: &str) -> Result<(), FolderFault> {
+        let name = if dir.is_empty() { "." } else { dir };
+        answer(&self.rt, "sync", name, sync_folder(&self.rt, name))
     }
 }

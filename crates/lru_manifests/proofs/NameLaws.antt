@@ -50,18 +50,18 @@ one_frame_path dir file_name generation other shard another p q r s same =
     (decimal_injective generation other p q sides.0, decimal_injective shard another r s sides.1)
 
 -- behind any front a frame's name ends in a digit
-ends_in_digit : (dir file_name : List ℕ) (generation shard : ℕ) → shard < 2 ^ 64 → last_or_zero (frame_path dir file_name generation shard) < 58
+pub ends_in_digit : (dir file_name : List ℕ) (generation shard : ℕ) → shard < 2 ^ 64 → last_or_zero (frame_path dir file_name generation shard) < 58
 ends_in_digit dir file_name generation shard small =
     subst (λ l. last_or_zero l < 58) (sym (path_text-front dir (shard_text (shard_text file_name generation) shard)))
     (last-shard (path_text dir []) (shard_text file_name generation) shard small)
 
-last-manifest : (dir file_name : List ℕ) → last_or_zero (manifest_path dir file_name) ≡ 116
+pub last-manifest : (dir file_name : List ℕ) → last_or_zero (manifest_path dir file_name) ≡ 116
 last-manifest dir file_name =
     ap last_or_zero (path_text-front dir (file_name ++ codes ".manifest") ∙ sym (append_assoc (path_text dir []) file_name (codes ".manifest"))
     ∙ sym (append_assoc (path_text dir [] ++ file_name) (codes ".manifes") (codes "t")))
     ∙ last-push ((path_text dir [] ++ file_name) ++ codes ".manifes") 116
 
-last-manifest_temp : (dir file_name : List ℕ) → last_or_zero (manifest_temp_path dir file_name) ≡ 112
+pub last-manifest_temp : (dir file_name : List ℕ) → last_or_zero (manifest_temp_path dir file_name) ≡ 112
 last-manifest_temp dir file_name =
     ap last_or_zero (path_text-front dir (file_name ++ codes ".manifest.tmp") ∙ sym (append_assoc (path_text dir []) file_name (codes ".manifest.tmp"))
     ∙ sym (append_assoc (path_text dir [] ++ file_name) (codes ".manifest") (codes ".tmp")))

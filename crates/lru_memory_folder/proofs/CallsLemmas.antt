@@ -5,7 +5,7 @@ use Rattle.std.proofs.lemmas.List.{take_all}
 use Rattle.lru_folder.specs.Files.{Files, appended}
 use Rattle.lru_memory_folder.specs.declared.calls.End.{End}
 use Rattle.lru_memory_folder.specs.declared.calls.End.TheVariants.{Done, NotFound, Failed}
-use Rattle.lru_memory_folder.specs.Calls.{Deed, Creates, Writes, Renames, Removes, Syncs, Looks, Noted, whole, begun, ended, effect, PartOf, after, StoppedSince}
+use Rattle.lru_memory_folder.specs.Calls.{Deed, Creates, Writes, Renames, Removes, Syncs, SyncsNames, Looks, Noted, whole, begun, ended, effect, PartOf, after, StoppedSince}
 
 pub after-push : (cs : List Noted) (c : Noted) (start : Files) → after (cs ++ c ∷ []) start ≡ effect c (after cs start)
 after-push [] c start = refl
@@ -17,6 +17,7 @@ whole_part (Writes path piece) m = inr (length piece, ap (λ (l : List ℕ). app
 whole_part (Renames from to) m = inr refl
 whole_part (Removes path) m = inr refl
 whole_part (Syncs path) m = refl
+whole_part (SyncsNames dir) m = refl
 whole_part Looks m = refl
 
 -- nothing is a part
@@ -26,6 +27,7 @@ no_part (Writes path piece) m = inl refl
 no_part (Renames from to) m = inl refl
 no_part (Removes path) m = inl refl
 no_part (Syncs path) m = refl
+no_part (SyncsNames dir) m = refl
 no_part Looks m = refl
 
 begun_part : (deed : Deed) (part : ℕ) (m : Files) → PartOf deed m (begun deed part m)
@@ -34,6 +36,7 @@ begun_part (Writes path piece) part m = inr (part, refl)
 begun_part (Renames from to) part m = inl refl
 begun_part (Removes path) part m = inl refl
 begun_part (Syncs path) part m = refl
+begun_part (SyncsNames dir) part m = refl
 begun_part Looks part m = refl
 
 -- a call leaves a part of itself

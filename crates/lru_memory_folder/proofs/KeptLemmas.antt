@@ -11,7 +11,7 @@ use Rattle.lru_folder.specs.Files.{Files}
 use Rattle.lru_folder.specs.Losses.{Loss, at_opening}
 use Rattle.lru_memory_folder.specs.declared.calls.End.{End}
 use Rattle.lru_memory_folder.specs.declared.calls.End.TheVariants.{Done, NotFound, Failed}
-use Rattle.lru_memory_folder.specs.Calls.{Deed, Creates, Writes, Renames, Removes, Syncs, Looks, Noted}
+use Rattle.lru_memory_folder.specs.Calls.{Deed, Creates, Writes, Renames, Removes, Syncs, SyncsNames, Looks, Noted}
 use Rattle.lru_memory_folder.specs.History.{History, with_call}
 use Rattle.lru_memory_folder.specs.Kept.{IsMarked, changes_names, is_synced, within, kept}
 use Rattle.lru_memory_folder.specs.Losing.{maps_after, loss_after, loss_left}
@@ -129,6 +129,7 @@ still_done (Writes path piece) loss m none h = inl h
 still_done (Renames from to) loss m none h = inl h
 still_done (Removes path) loss m none h = inl h
 still_done (Syncs path) loss m none h = absurd (let f : ⊥ = cc in f)
+still_done (SyncsNames dir) loss m none h = absurd (let f : ⊥ = cc in f)
 still_done Looks loss m none h = inl h
 
 still_lost : (deed : Deed) (end : End) (loss : Loss) (m : Files) → is_synced (record { deed = deed; end = end }) ≡ false → loss.maps m → maps_after deed end loss m

@@ -6,7 +6,7 @@ use Rattle.lru_folder.specs.Losses.{IsSpread, Loss, loosened, firmed, handed_on}
 use Rattle.lru_folder.proofs.LossLemmas.{spread-more}
 use Rattle.lru_memory_folder.specs.declared.calls.End.{End}
 use Rattle.lru_memory_folder.specs.declared.calls.End.TheVariants.{Done, NotFound, Failed}
-use Rattle.lru_memory_folder.specs.Calls.{Deed, Creates, Writes, Renames, Removes, Syncs, Looks, Noted}
+use Rattle.lru_memory_folder.specs.Calls.{Deed, Creates, Writes, Renames, Removes, Syncs, SyncsNames, Looks, Noted}
 use Rattle.lru_memory_folder.specs.Losing.{step_of, loose_moved, loose_after, maps_after, loss_after, loss_left, LostSince}
 use Rattle.lru_memory_folder.specs.LosingLaws.{CountsOwn, own_after}
 
@@ -30,6 +30,7 @@ split_done (Writes path piece) loss own m h = h
 split_done (Renames from to) loss own m h = h
 split_done (Removes path) loss own m h = h
 split_done (Syncs path) loss own m h = inl (own m (spread-more (firmed path loss.loose) loss.loose loss.files m (λ q l. l.1) h))
+split_done (SyncsNames dir) loss own m h = inl h.0
 split_done Looks loss own m h = h
 
 -- a call adds its step
@@ -48,6 +49,7 @@ loosens_done (Writes path piece) loss q h = h
 loosens_done (Renames from to) loss q h = moved_loosens from to (get loss.files from) loss.loose q h
 loosens_done (Removes path) loss q h = h.1
 loosens_done (Syncs path) loss q h = h.1
+loosens_done (SyncsNames dir) loss q h = h
 loosens_done Looks loss q h = h
 
 loosens_failed : (deed : Deed) (loss : Loss) (q : List ℕ) → loose_after deed NotFound loss.files loss.loose q → (step_of deed).loose loss q
@@ -56,6 +58,7 @@ loosens_failed (Writes path piece) loss q h = h
 loosens_failed (Renames from to) loss q h = inl h
 loosens_failed (Removes path) loss q h = h
 loosens_failed (Syncs path) loss q h = h
+loosens_failed (SyncsNames dir) loss q h = h
 loosens_failed Looks loss q h = h
 
 pub loosens : (deed : Deed) (end : End) (loss : Loss) (q : List ℕ) → loose_after deed end loss.files loss.loose q → (step_of deed).loose loss q
@@ -90,6 +93,7 @@ step-carry (Writes path piece) files other loose maps more m is up (inr h) = inr
 step-carry (Renames from to) files other loose maps more m is up h = subst (λ f. IsSpread (handed_on from to loose) (renamed from to f) m) is h
 step-carry (Removes path) files other loose maps more m is up h = subst (λ f. IsSpread (firmed path loose) (removed path f) m) is h
 step-carry (Syncs path) files other loose maps more m is up h = h
+step-carry (SyncsNames dir) files other loose maps more m is up h = h
 step-carry Looks files other loose maps more m is up h = h
 
 -- and do not change which paths it makes loose
@@ -100,6 +104,7 @@ step-loose (Writes path piece) files other loose maps more q h = h
 step-loose (Renames from to) files other loose maps more q h = h
 step-loose (Removes path) files other loose maps more q h = h
 step-loose (Syncs path) files other loose maps more q h = h
+step-loose (SyncsNames dir) files other loose maps more q h = h
 step-loose Looks files other loose maps more q h = h
 
 -- a loose path may stay so
@@ -109,4 +114,5 @@ still_loose (Writes path piece) loss q h = inr h
 still_loose (Renames from to) loss q h = inl h
 still_loose (Removes path) loss q h = h
 still_loose (Syncs path) loss q h = h
+still_loose (SyncsNames dir) loss q h = h
 still_loose Looks loss q h = h

@@ -4,10 +4,11 @@ use Rattle.std.specs.Prelude.{OnOk}
 use Rattle.std.specs.FinMap.{from_entries}
 use Rattle.lru_folder.specs.declared.fault.FolderFault.{FolderFault}
 use Rattle.lru_folder.specs.Files.{Files}
+use Rattle.lru_synced_folder.specs.Names.{AreSynced, HasNames}
 use Rattle.lru_folder.specs.Losses.{IsSpread, IsSynced, Loses, at_opening, firmed, handed_on, loss_of}
 use Rattle.lru_memory_folder.specs.declared.calls.End.{End}
 use Rattle.lru_memory_folder.specs.declared.calls.End.TheVariants.{Done}
-use Rattle.lru_memory_folder.specs.Calls.{Deed, Syncs, Noted}
+use Rattle.lru_memory_folder.specs.Calls.{Deed, Syncs, SyncsNames, Noted}
 use Rattle.lru_memory_folder.specs.Losing.{step_of, loose_moved, loose_done, loose_after, maps_after, loss_left, LostSince}
 use Rattle.lru_memory_folder.specs.History.{History, with_call, end_of, Goes}
 use Rattle.lru_memory_folder.specs.Memory.{Memory, files_of, clock_of, lost_since_of, loose_of, loss_now, memory_meaning}
@@ -123,3 +124,20 @@ pub synced : {T : Type 0} (path : Memory → List ℕ) (fate : Option ℕ) (was 
 synced path fate was old new result is goes =
     subst (λ (m : Memory). OnOk result (IsSynced memory_meaning (path m) m new)) is
     (synced_at (path was) was new result (whole_call (Syncs (path was)) true fate was new result goes))
+
+names_at : {T : Type 0} (dir : List ℕ) (old new : Memory) (result : Result T FolderFault) → OnOk result (history new ≡ with_call (history old) (SyncsNames dir) Done)
+    → OnOk result (AreSynced memory_meaning dir old new)
+names_at dir old new (Err e) h = tt
+names_at dir old new (Ok x) h = λ m s.
+    let now = maps_now old new (SyncsNames dir) Done h m s in
+    let start = at_opening (from_entries old.begun) in (
+      LostSince-now old.calls (length old.calls) start m (omega arith) now.0,
+      subst (λ (f : Files). HasNames dir (loose_of old) f m) (left-files old.calls start) now.1,
+    )
+
+-- what a sync of a folder's names has left
+pub names_synced : {T : Type 0} (dir : List ℕ) (found : Bool) (fate : Option ℕ) (was old new : Memory) (result : Result T FolderFault) → was ≡ old
+    → Goes (SyncsNames dir) (end_of fate found) (history was) (history new) result → OnOk result (AreSynced memory_meaning dir old new)
+names_synced dir found fate was old new result is goes =
+    subst (λ (m : Memory). OnOk result (AreSynced memory_meaning dir m new)) is
+    (names_at dir was new result (whole_call (SyncsNames dir) found fate was new result goes))

@@ -7,7 +7,7 @@ use Rattle.lru_folder.specs.Losses.{IsSpread, Loss, loosened, firmed, handed_on}
 use Rattle.lru_folder.proofs.FilesLemmas.{decide, get-insert_same, get-insert_other, get-remove_same, get-remove_other}
 use Rattle.lru_memory_folder.specs.declared.calls.End.{End}
 use Rattle.lru_memory_folder.specs.declared.calls.End.TheVariants.{Done, NotFound, Failed}
-use Rattle.lru_memory_folder.specs.Calls.{Deed, Creates, Writes, Renames, Removes, Syncs, Looks, Noted, ended}
+use Rattle.lru_memory_folder.specs.Calls.{Deed, Creates, Writes, Renames, Removes, Syncs, SyncsNames, Looks, Noted, ended}
 use Rattle.lru_memory_folder.specs.Kept.{IsMarked}
 use Rattle.lru_memory_folder.specs.Losing.{loose_moved, loose_after, loss_after, loss_left}
 use Rattle.lru_memory_folder.specs.MarksInside.{put_some, marked, lost_after}
@@ -129,6 +129,7 @@ spread_done (Writes path piece) byte loose was lost h =
 spread_done (Renames from to) byte loose was lost h = rename_spread loose from to was lost h
 spread_done (Removes path) byte loose was lost h = remove_spread loose path was lost h
 spread_done (Syncs path) byte loose was lost h = restore_spread (firmed path loose) loose path was lost h (λ q ne l. (ne, l))
+spread_done (SyncsNames dir) byte loose was lost h = h
 spread_done Looks byte loose was lost h = h
 
 spread_none : (deed : Deed) (byte : ℕ) (loose : List ℕ → Type 0) (was lost : Files) → IsSpread loose was lost
@@ -138,6 +139,7 @@ spread_none (Writes path piece) byte loose was lost h = mark_spread loose path b
 spread_none (Renames from to) byte loose was lost h = h
 spread_none (Removes path) byte loose was lost h = h
 spread_none (Syncs path) byte loose was lost h = h
+spread_none (SyncsNames dir) byte loose was lost h = h
 spread_none Looks byte loose was lost h = h
 
 spread_failed : (deed : Deed) (part byte : ℕ) (loose : List ℕ → Type 0) (was lost : Files) → IsSpread loose was lost
@@ -149,6 +151,7 @@ spread_failed (Writes path piece) part byte loose was lost h =
 spread_failed (Renames from to) part byte loose was lost h = h
 spread_failed (Removes path) part byte loose was lost h = h
 spread_failed (Syncs path) part byte loose was lost h = h
+spread_failed (SyncsNames dir) part byte loose was lost h = h
 spread_failed Looks part byte loose was lost h = h
 
 -- the marked map stays in the spread
@@ -217,6 +220,7 @@ module _ (byte : ℕ) (loose : List ℕ → Type 0) (was lost : Files) (s : IsSp
   marked_done (Renames from to) = rename_marked loose from to byte was lost s old
   marked_done (Removes path) = λ q bytes l here. old q bytes l.1 (sym (get-remove_other lost path q l.0) ∙ here)
   marked_done (Syncs path) = restore_marked loose path byte (get was path) lost old
+  marked_done (SyncsNames dir) = old
   marked_done Looks = old
 
   marked_none : (deed : Deed) (q bytes : List ℕ) → loose_after deed NotFound was loose q → get (lost_after deed NotFound byte was lost) q ≡ Some bytes → bytes ≡ byte ∷ []
@@ -225,6 +229,7 @@ module _ (byte : ℕ) (loose : List ℕ → Type 0) (was lost : Files) (s : IsSp
   marked_none (Renames from to) = old
   marked_none (Removes path) = old
   marked_none (Syncs path) = old
+  marked_none (SyncsNames dir) = old
   marked_none Looks = old
 
   marked_failed : (part : ℕ) (deed : Deed) (q bytes : List ℕ) → loose_after deed (Failed part) was loose q
@@ -235,6 +240,7 @@ module _ (byte : ℕ) (loose : List ℕ → Type 0) (was lost : Files) (s : IsSp
   marked_failed part (Renames from to) = old
   marked_failed part (Removes path) = old
   marked_failed part (Syncs path) = old
+  marked_failed part (SyncsNames dir) = old
   marked_failed part Looks = old
 
   marked_after : (deed : Deed) (end : End) (q bytes : List ℕ) → loose_after deed end was loose q → get (lost_after deed end byte (ended deed end was) lost) q ≡ Some bytes → bytes ≡ byte ∷ []

@@ -4,13 +4,14 @@ use Rattle.lru_folder.specs.Files.{Files, created, appended, renamed, removed, A
 use Rattle.lru_memory_folder.specs.declared.calls.End.{End}
 use Rattle.lru_memory_folder.specs.declared.calls.End.TheVariants.{Done, NotFound, Failed}
 
--- what a call is to do to the files; most calls only look, and a sync only makes them safe
+-- what a call is to do to the files; most calls only look, and a sync only makes them or their names safe
 pub data Deed : Type 0 where
   Creates : (path : List ℕ) → Deed
   Writes : (path : List ℕ) → (piece : List ℕ) → Deed
   Renames : (from : List ℕ) → (to : List ℕ) → Deed
   Removes : (path : List ℕ) → Deed
   Syncs : (path : List ℕ) → Deed
+  SyncsNames : (dir : List ℕ) → Deed
   Looks : Deed
 
 -- the whole of a call
@@ -20,6 +21,7 @@ whole (Writes path piece) m = appended path piece m
 whole (Renames from to) m = renamed from to m
 whole (Removes path) m = removed path m
 whole (Syncs path) m = m
+whole (SyncsNames dir) m = m
 whole Looks m = m
 
 -- what is left of a call that failed, after so many bytes of a piece
@@ -29,6 +31,7 @@ begun (Writes path piece) part m = appended path (take part piece) m
 begun (Renames from to) part m = m
 begun (Removes path) part m = m
 begun (Syncs path) part m = m
+begun (SyncsNames dir) part m = m
 begun Looks part m = m
 
 abbrev pub ended : Deed → End → Files → Files
@@ -51,6 +54,7 @@ PartOf (Writes path piece) = SomeFront path piece
 PartOf (Renames from to) = AllOrNone (renamed from to)
 PartOf (Removes path) = AllOrNone (removed path)
 PartOf (Syncs path) = Same
+PartOf (SyncsNames dir) = Same
 PartOf Looks = Same
 
 -- the files after these calls, the first of them first

@@ -6,7 +6,7 @@ use Rattle.lru_folder.specs.Files.{Files}
 use Rattle.lru_folder.specs.Losses.{IsSpread, Loss}
 use Rattle.lru_memory_folder.specs.declared.calls.End.{End}
 use Rattle.lru_memory_folder.specs.declared.calls.End.TheVariants.{Done, NotFound, Failed}
-use Rattle.lru_memory_folder.specs.Calls.{Deed, Creates, Writes, Renames, Removes, Syncs, Looks, Noted}
+use Rattle.lru_memory_folder.specs.Calls.{Deed, Creates, Writes, Renames, Removes, Syncs, SyncsNames, Looks, Noted}
 
 abbrev pub is_done : End → Bool
 is_done Done = true
@@ -19,6 +19,7 @@ of_names (Writes path piece) = false
 of_names (Renames from to) = true
 of_names (Removes path) = true
 of_names (Syncs path) = false
+of_names (SyncsNames dir) = false
 of_names Looks = false
 
 abbrev pub of_sync : Deed → Bool
@@ -27,9 +28,10 @@ of_sync (Writes path piece) = false
 of_sync (Renames from to) = false
 of_sync (Removes path) = false
 of_sync (Syncs path) = true
+of_sync (SyncsNames dir) = true
 of_sync Looks = false
 
--- a name was given or taken away, or a file was synced: a call that failed is neither
+-- a name was given or taken away, or a file or the names of a folder were synced: a call that failed is neither
 abbrev pub changes_names : Noted → Bool
 changes_names c = is_done c.end && of_names c.deed
 

@@ -3,9 +3,10 @@ use Rattle.std.specs.Prelude.{◌⊎◌, ℕ, zero, suc, List, [], ◌∷◌, Op
 use Rattle.std.specs.FinMap.{get}
 use Rattle.lru_folder.specs.Files.{Files}
 use Rattle.lru_folder.specs.Losses.{IsSpread, Loss, LossStep, creating, writing, renaming, removing, looking, loosened, firmed, handed_on}
+use Rattle.lru_synced_folder.specs.Names.{HasNames}
 use Rattle.lru_memory_folder.specs.declared.calls.End.{End}
 use Rattle.lru_memory_folder.specs.declared.calls.End.TheVariants.{Done, NotFound, Failed}
-use Rattle.lru_memory_folder.specs.Calls.{Deed, Creates, Writes, Renames, Removes, Syncs, Looks, Noted, effect}
+use Rattle.lru_memory_folder.specs.Calls.{Deed, Creates, Writes, Renames, Removes, Syncs, SyncsNames, Looks, Noted, effect}
 
 -- what a call adds, also where it fails
 abbrev pub step_of : Deed → LossStep
@@ -14,6 +15,7 @@ step_of (Writes path piece) = writing path piece
 step_of (Renames from to) = renaming from to
 step_of (Removes path) = removing path
 step_of (Syncs path) = looking
+step_of (SyncsNames dir) = looking
 step_of Looks = looking
 
 -- a rename of a path that is not there changes nothing
@@ -28,6 +30,7 @@ loose_done (Writes path piece) files loose = loosened path loose
 loose_done (Renames from to) files loose = loose_moved (get files from) from to loose
 loose_done (Removes path) files loose = firmed path loose
 loose_done (Syncs path) files loose = firmed path loose
+loose_done (SyncsNames dir) files loose = loose
 loose_done Looks files loose = loose
 
 abbrev pub loose_failed : Deed → (List ℕ → Type 0) → List ℕ → Type 0
@@ -36,6 +39,7 @@ loose_failed (Writes path piece) loose = loosened path loose
 loose_failed (Renames from to) loose = loose
 loose_failed (Removes path) loose = loose
 loose_failed (Syncs path) loose = loose
+loose_failed (SyncsNames dir) loose = loose
 loose_failed Looks loose = loose
 
 abbrev pub loose_after : Deed → End → Files → (List ℕ → Type 0) → List ℕ → Type 0
@@ -43,8 +47,8 @@ loose_after deed Done files loose = loose_done deed files loose
 loose_after deed NotFound files loose = loose_failed deed loose
 loose_after deed (Failed part) files loose = loose_failed deed loose
 
--- The maps that a loss may leave after a call: those before it and what it adds, but after the whole of a sync the spread
--- of the map alone.
+-- The maps that a loss may leave after a call: those before it and what it adds; but after the whole of a sync the spread
+-- of the map alone, and after that of a folder's names, of those before it, the ones with these names.
 abbrev pub maps_failed : Deed → Loss → Files → Type 0
 maps_failed deed loss m = loss.maps m ⊎ (step_of deed).maps loss m
 
@@ -54,6 +58,7 @@ maps_done (Writes path piece) loss = maps_failed (Writes path piece) loss
 maps_done (Renames from to) loss = maps_failed (Renames from to) loss
 maps_done (Removes path) loss = maps_failed (Removes path) loss
 maps_done (Syncs path) loss = IsSpread (firmed path loss.loose) loss.files
+maps_done (SyncsNames dir) loss = λ m. loss.maps m × HasNames dir loss.loose loss.files m
 maps_done Looks loss = maps_failed Looks loss
 
 abbrev pub maps_after : Deed → End → Loss → Files → Type 0

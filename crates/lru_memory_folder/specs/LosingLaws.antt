@@ -7,7 +7,7 @@ use Rattle.lru_folder.proofs.FilesLemmas.{decide, alike}
 use Rattle.lru_folder.proofs.LossLemmas.{put_back, get-put_back_same, get-put_back_other, spread-back, spread-appended}
 use Rattle.lru_memory_folder.specs.declared.calls.End.{End}
 use Rattle.lru_memory_folder.specs.declared.calls.End.TheVariants.{Done, NotFound, Failed}
-use Rattle.lru_memory_folder.specs.Calls.{Deed, Creates, Writes, Renames, Removes, Syncs, Looks, Noted, after}
+use Rattle.lru_memory_folder.specs.Calls.{Deed, Creates, Writes, Renames, Removes, Syncs, SyncsNames, Looks, Noted, after}
 use Rattle.lru_memory_folder.specs.Losing.{loose_moved, loss_after, loss_left, LostSince}
 
 -- at its opening a folder loses nothing
@@ -48,6 +48,7 @@ own_done (Writes path piece) loss own m h = inr (inr h)
 own_done (Renames from to) loss own m h = own_moved from to (get loss.files from) loss own m h
 own_done (Removes path) loss own m h = inr h
 own_done (Syncs path) loss own m h = h
+own_done (SyncsNames dir) loss own m h = (own m h, λ q here. (h.there q, h.others q))
 own_done Looks loss own m h = inl (own m h)
 
 own_none : (deed : Deed) (loss : Loss) → CountsOwn loss → CountsOwn (loss_after (record { deed = deed; end = NotFound }) loss)
@@ -56,6 +57,7 @@ own_none (Writes path piece) loss own m h = inr (inl (overwritten path loss own 
 own_none (Renames from to) loss own m h = inl (own m h)
 own_none (Removes path) loss own m h = inl (own m h)
 own_none (Syncs path) loss own m h = inl (own m h)
+own_none (SyncsNames dir) loss own m h = inl (own m h)
 own_none Looks loss own m h = inl (own m h)
 
 own_failed : (deed : Deed) (part : ℕ) (loss : Loss) → CountsOwn loss → CountsOwn (loss_after (record { deed = deed; end = Failed part }) loss)
@@ -64,6 +66,7 @@ own_failed (Writes path piece) part loss own m h = inr (inr (spread-appended pat
 own_failed (Renames from to) part loss own m h = inl (own m h)
 own_failed (Removes path) part loss own m h = inl (own m h)
 own_failed (Syncs path) part loss own m h = inl (own m h)
+own_failed (SyncsNames dir) part loss own m h = inl (own m h)
 own_failed Looks part loss own m h = inl (own m h)
 
 pub own_after : (deed : Deed) (end : End) (loss : Loss) → CountsOwn loss → CountsOwn (loss_after (record { deed = deed; end = end }) loss)

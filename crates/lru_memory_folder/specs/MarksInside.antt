@@ -4,7 +4,7 @@ use Rattle.std.specs.FinMap.{get, insert}
 use Rattle.lru_folder.specs.Files.{Files, removed, renamed}
 use Rattle.lru_memory_folder.specs.declared.calls.End.{End}
 use Rattle.lru_memory_folder.specs.declared.calls.End.TheVariants.{Done, NotFound, Failed}
-use Rattle.lru_memory_folder.specs.Calls.{Deed, Creates, Writes, Renames, Removes, Syncs, Looks}
+use Rattle.lru_memory_folder.specs.Calls.{Deed, Creates, Writes, Renames, Removes, Syncs, SyncsNames, Looks}
 
 -- these bytes at a path, if there are any
 abbrev pub put_some : List ℕ → Option (List ℕ) → Files → Files
@@ -22,6 +22,7 @@ lost_done (Writes path piece) byte held lost = marked path byte held lost
 lost_done (Renames from to) byte held lost = renamed from to lost
 lost_done (Removes path) byte held lost = removed path lost
 lost_done (Syncs path) byte held lost = put_some path (get held path) lost
+lost_done (SyncsNames dir) byte held lost = lost
 lost_done Looks byte held lost = lost
 
 abbrev pub lost_failed : Deed → ℕ → Files → Files → Files
@@ -30,6 +31,7 @@ lost_failed (Writes path piece) byte held lost = marked path byte held lost
 lost_failed (Renames from to) byte held lost = lost
 lost_failed (Removes path) byte held lost = lost
 lost_failed (Syncs path) byte held lost = lost
+lost_failed (SyncsNames dir) byte held lost = lost
 lost_failed Looks byte held lost = lost
 
 abbrev pub lost_after : Deed → End → ℕ → Files → Files → Files

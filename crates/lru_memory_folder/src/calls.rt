@@ -11,6 +11,8 @@ pub(crate) enum Call {
     Remove(String),
     /// Of the open file's path: a call that makes its bytes safe from a loss of power, and each name given before.
     Sync(String),
+    /// Of a folder: a call that makes the names in it safe from a loss of power.
+    SyncDir(String),
     /// A call that changes no file.
     Look,
 }

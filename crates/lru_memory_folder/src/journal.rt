@@ -189,6 +189,7 @@ fn apply_whole(alloc: Global, held: &mut Held, call: &Call) -> Result<(), AllocE
             Ok(())
         }
         Call::Sync(_) => Ok(()),
+        Call::SyncDir(_) => Ok(()),
         Call::Look => Ok(()),
     }
 }
@@ -204,6 +205,7 @@ fn apply_front(alloc: Global, held: &mut Held, call: &Call, part: usize) -> Resu
         Call::Rename(_, _) => Ok(()),
         Call::Remove(_) => Ok(()),
         Call::Sync(_) => Ok(()),
+        Call::SyncDir(_) => Ok(()),
         Call::Look => Ok(()),
     }
 }

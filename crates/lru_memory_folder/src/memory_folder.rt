@@ -10,6 +10,7 @@ ghost use Rattle.lru_folder.specs.Listings.{name_of};
 ghost use Rattle.lru_memory_folder.specs.Kept.{IsMarked};
 ghost use Rattle.lru_memory_folder.specs.Memory.{files_of, folders_of, clock_of, faults_of, stopped_since_of, lost_since_of, loose_of, loss_kept, memory_meaning};
 ghost use Rattle.lru_folder.specs.Places.{folder_of, is_there, can_list, listing, MakesAll, MakesSome};
+ghost use Rattle.lru_synced_folder.specs.Names.{AreSynced};
 ghost use Rattle.lru_memory_folder.specs.Plans.{front_of, nothing, GoesAsPlanned};
 
 use crate::calls::Plan;
@@ -20,6 +21,7 @@ use lru_folder::fault::FolderFault;
 use lru_folder::folder::Folder;
 use lru_folder::folder_call::FolderCall;
 use lru_folder::listed::Listed;
+use lru_synced_folder::synced_folder::SyncedFolder;
 use std::alloc::{AllocError, Global};
 use std::marker::Model;
 
@@ -94,8 +96,8 @@ impl MemoryFolder {
     }
 
     /// The folder as a loss of power may leave it: the files after the first `names` name changes (by `create`, `rename` and
-    /// `remove`) that were done since the last `sync` that answered Ok or since the folder began, after all where there are
-    /// fewer; and in each of those paths that was loose at some moment from there to the next name change, the one byte in
+    /// `remove`) that were done since the last `sync` or `sync_dir` that answered Ok or since the folder began, after all where
+    /// there are fewer; and in each of those paths that was loose at some moment from there to the next name change, the one byte in
     /// place of its bytes. A `create` that was done is such a change, and what it makes loose comes after it; one that failed
     /// is none, and the path that it had begun is loose. The folder keeps its folders and begins anew, and no call is made to
     /// fail.
@@ -318,5 +320,23 @@ impl Folder for MemoryFolder {
         self.last = FolderCall::Remove;
         let fate = next_fate(&mut self.plan);
         self.store.remove(path, fate)
+    }
+}
+
+impl SyncedFolder for MemoryFolder {
+    fn sync_dir(&mut self, dir: &str) -> Result<(), FolderFault>
+        ensures mode { self.new.opened ≡ self.old.opened }
+        ensures done { OnOk result (AreSynced memory_meaning dir.now self.old self.new) }
+        ensures places { folders_of self.new ≡ folders_of self.old }
+        ensures time { Passes memory_meaning Same self.old self.new }
+        ensures loss { Loses memory_meaning looking self.old self.new }
+        ensures last { self.new.last ≡ FolderCall.Sync }
+        ensures cause { HasCause (faults_of self.old) (faults_of self.new) result }
+        ensures found { IsErrOf result FolderFault.NotFound → ¬ IsTrue (is_there (folders_of self.old) dir.now) }
+        ensures planned { GoesAsPlanned nothing self.old self.new result }
+    {
+        self.last = FolderCall::Sync;
+        let fate = next_fate(&mut self.plan);
+        self.store.sync_dir(dir, fate)
     }
 }

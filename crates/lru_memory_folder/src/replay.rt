@@ -64,6 +64,7 @@ fn lose_whole(
             Ok(())
         }
         Call::Sync(path) => restore(alloc, lost, held, path.as_str()),
+        Call::SyncDir(_) => Ok(()),
         Call::Look => Ok(()),
     }
 }
@@ -84,6 +85,7 @@ fn lose_part(
         Call::Rename(_, _) => Ok(()),
         Call::Remove(_) => Ok(()),
         Call::Sync(_) => Ok(()),
+        Call::SyncDir(_) => Ok(()),
         Call::Look => Ok(()),
     }
 }
@@ -105,11 +107,14 @@ fn lose(
     }
 }
 
-/// Whether the call was the whole of a sync.
+/// Whether the call was the whole of a sync, of a file or of a folder's names.
 fn is_sync(ended: &Ended) -> bool
     ensures { result ≡ is_synced (noted_of ended.now) }
 {
-    matches!((&ended.call, ended.end), (Call::Sync(_), End::Done))
+    matches!(
+        (&ended.call, ended.end),
+        (Call::Sync(_) | Call::SyncDir(_), End::Done)
+    )
 }
 
 /// Whether the call was the whole of a change of names.

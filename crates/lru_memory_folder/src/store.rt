@@ -6,7 +6,7 @@ ghost use Rattle.lru_folder.specs.Folder.{IsReading, IsWriting, written_path};
 ghost use Rattle.lru_folder.specs.Folder as mode;
 ghost use Rattle.lru_folder.specs.Listings.{name_of};
 ghost use Rattle.lru_folder.specs.Places.{can_list, folder_of, is_there, listing, MakesAll, MakesSome};
-ghost use Rattle.lru_memory_folder.specs.Calls.{Creates, Writes, Renames, Removes, Syncs, Looks};
+ghost use Rattle.lru_memory_folder.specs.Calls.{Creates, Writes, Renames, Removes, Syncs, SyncsNames, Looks};
 ghost use Rattle.lru_memory_folder.specs.History.{end_of, files_left, Goes};
 ghost use Rattle.lru_memory_folder.specs.HeldInside.{files_in};
 ghost use Rattle.lru_memory_folder.specs.MadeInside.{folders_in, texts_of};
@@ -162,6 +162,16 @@ impl Store {
         };
         let call = Call::Sync(String::from_str(self.alloc, path.as_str())?);
         self.journal.conclude(self.alloc, call, fate, true)
+    }
+
+    pub(crate) fn sync_dir(&mut self, dir: &str, fate: Option<usize>) -> Result<(), FolderFault>
+        ensures mode { self.new.file ≡ self.old.file }
+        ensures goes { Goes (SyncsNames dir.now) (end_of fate (is_there (folders_in self.old.made.items) dir.now)) self.old.journal self.new.journal result }
+        ensures made { self.new.made ≡ self.old.made }
+    {
+        let call = Call::SyncDir(String::from_str(self.alloc, dir)?);
+        let found = is_there(&self.made, dir.as_bytes());
+        self.journal.conclude(self.alloc, call, fate, found)
     }
 
     pub(crate) fn rename(

@@ -3,7 +3,7 @@ use Rattle.std.proofs.Common.{◌≡◌, ◌≢◌, inl, inr, ⊎_elim, ℕ, Lis
 use Rattle.std.specs.FinMap.{get, remove}
 use Rattle.lru_folder.specs.Files.{Files, AllOrNone, renamed}
 use Rattle.lru_folder.specs.Folder.{Passes}
-use Rattle.lru_folder.specs.Losses.{IsFromStart, IsSpread, Loses, renaming, handed_on}
+use Rattle.lru_folder.specs.Losses.{IsFromStart, IsSpread, Loses, renaming, firmed, handed_on}
 use Rattle.lru_folder.specs.Meaning.{Meaning}
 use Rattle.lru_folder.proofs.FilesLemmas.{decide, get-insert_same, get-insert_other, get-remove_other, renamed-here}
 use Rattle.lru_folder.proofs.LossLemmas.{put_back, get-put_back_same, get-put_back_other, spread-back, loses_on}
@@ -63,6 +63,14 @@ module _ {F : Type 0} (meaning : Meaning F) (temp path bytes : List ℕ) (apart 
     handed : (q : List ℕ) → handed_on temp path (meaning.loose mid) q → (q ≢ path) × meaning.loose mid q
     handed q (inl h) = absurd ((written.firm temp h.1).0 refl)
     handed q (inr h) = (h.1.0, h.1.1)
+
+    -- the paths that are loose then
+    pub stays_firm : ((q : List ℕ) → meaning.loose new q → handed_on temp path (meaning.loose mid) q) → (q : List ℕ) → meaning.loose new q
+        → firmed temp (firmed path (meaning.loose start)) q
+    stays_firm settled q l =
+        let still = handed q (settled q l) in
+        let before = written.firm q still.1 in
+        (before.0, (still.0, before.1))
 
     -- as it was at the path
     abbrev unnamed : Files

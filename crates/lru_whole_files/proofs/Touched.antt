@@ -1,11 +1,11 @@
 -- How calls that change some paths alone go on.
 use Rattle.std.proofs.Common.{◌≡◌, ◌≢◌, ◌⊎◌, inl, inr, ⊎_elim, ℕ, List, [], ◌++◌, take, Some, unwrap_or, refl, sym, ◌∙◌, ap, subst}
 use Rattle.std.specs.FinMap.{get}
-use Rattle.lru_folder.specs.Files.{Files, AllOrNone, SomeFront, Same, bytes_at, created, appended}
+use Rattle.lru_folder.specs.Files.{Files, AllOrNone, SomeFront, Same, bytes_at, created, appended, removed}
 use Rattle.lru_folder.specs.Folder.{Opened, Writing, written_path, Passes}
-use Rattle.lru_folder.specs.Losses.{IsFromStart, IsOverwritten, IsSpread, IsSynced, Loses, creating, writing, looking, loosened, firmed}
+use Rattle.lru_folder.specs.Losses.{IsFromStart, IsOverwritten, IsSpread, IsSynced, Loses, creating, writing, removing, looking, loosened, firmed}
 use Rattle.lru_folder.specs.Meaning.{Meaning}
-use Rattle.lru_folder.proofs.FilesLemmas.{get-insert_same, get-insert_other}
+use Rattle.lru_folder.proofs.FilesLemmas.{get-insert_same, get-insert_other, get-remove_other}
 use Rattle.lru_folder.proofs.LossLemmas.{put_back, get-put_back_other, spread-back, spread-more, loss_started, loses_on, then_loses}
 use Rattle.lru_folder.proofs.Moments.{started, goes_on, then_run}
 use Rattle.lru_whole_files.specs.Touching.{IsSameBut, TouchesOnly, IsWritten}
@@ -122,6 +122,19 @@ module _ {F : Type 0} (meaning : Meaning F) where
                 (λ q ne. get-insert_other (meaning.files mid) path (bytes_at (meaning.files mid) path ++ piece) q ne) f) s);
             loosens = loosens_on loss.loosens;
           }
+
+      removed_part : (m : Files) → AllOrNone (removed path) (meaning.files mid) m → IsSameBut At (meaning.files start) m
+      removed_part m (inl e) = subst (IsSameBut At (meaning.files start)) (sym e) so_far.any_moment.now
+      removed_part m (inr e) = there_alone [] m (λ q ne. ap (λ (f : Files). get f q) e ∙ get-remove_other (meaning.files mid) path q ne)
+
+      pub touches_removed : Passes meaning (AllOrNone (removed path)) mid new → Loses meaning (removing path) mid new → Touched new
+      touches_removed time loss = record {
+        any_moment = goes_on meaning (IsSameBut At (meaning.files start)) (AllOrNone (removed path)) start mid new so_far.any_moment time removed_part;
+        any_loss = loses_on meaning (IsSameBut At) (removing path) start mid new time.later so_far.any_loss loss
+            (λ f s. from_changed (removed path (meaning.files mid)) (λ q ne. get-remove_other (meaning.files mid) path q ne) f
+            (spread-more (firmed path (meaning.loose mid)) (loosened path (meaning.loose mid)) (removed path (meaning.files mid)) f (λ q l. inr l.1) s));
+        loosens = λ q l. so_far.loosens q (loss.loosens q l);
+      }
 
     -- what stands in the file at last
     pub whole : (bytes : List ℕ) (one two four : F) (mode : Opened) → meaning.files one ≡ created path (meaning.files start) → mode ≡ Writing path

@@ -1,7 +1,8 @@
-//! Whole files of a folder: written and synced, and read to their end.
+//! Whole files of a folder: written and synced, read to their end, and removed.
 #![tactic(auto)]
 
 pub mod errors;
 pub mod reading;
+pub mod removing;
 pub mod replacing;
 pub mod writing;

@@ -1,5 +1,6 @@
 //! A file replaced by another one, at once or not at all.
-ghost use Rattle.std.specs.Prelude.{◌≡◌, ◌≢◌, ◌↔◌, IfErr, OnOk, IsTrue};
+ghost use Rattle.std.specs.Prelude.{◌≡◌, ◌≢◌, ◌↔◌, ℕ, List, IfErr, OnOk, IsTrue};
+ghost use Rattle.lru_folder.specs.Losses.{firmed};
 ghost use Rattle.lru_folder.specs.Places.{folder_of, is_there};
 ghost use Rattle.lru_whole_files.specs.Touching.{HasReason};
 ghost use Rattle.lru_whole_files.specs.Replacing.{IsReplaced, Replaces};
@@ -25,6 +26,9 @@ pub fn replace_file<F: Folder>(
     ensures done { F.meaning.keeps folder.old → OnOk result (IsReplaced temp.now path.now bytes.now
         (F.meaning.files folder.old) (F.meaning.loose folder.old) (F.meaning.files folder.old) (F.meaning.files folder.new)) }
     ensures replaces { F.meaning.keeps folder.old → Replaces F.meaning temp.now path.now bytes.now folder.old folder.new }
+
+    // A file that was replaced is not loose.
+    ensures firm { F.meaning.keeps folder.old → OnOk result ((q : List ℕ) → F.meaning.loose folder.new q → firmed temp.now (firmed path.now (F.meaning.loose folder.old)) q) }
 
     // An error names the call that failed, and it has its reason.
     ensures named { F.meaning.keeps folder.old → IfErr result (λ fault. F.meaning.last_call folder.new ≡ fault.call) }

@@ -3,7 +3,7 @@ use Rattle.lru_folder.specs.Files.{Files}
 use Rattle.lru_folder.specs.Losses.{IsSpread}
 use Rattle.lru_folder.specs.Meaning.{Meaning}
 use Rattle.lru_whole_files.specs.Replacing.{IsReplaced}
-use Rattle.lru_whole_files.proofs.Replaced.{not_yet, is_replaced, replaced}
+use Rattle.lru_whole_files.proofs.Replaced.{not_yet, is_replaced, replaced, stays_firm}
 use Rattle.lru_whole_files.proofs.replacing.replace_file.Goals as goal
 
 pub returns-in-Err-clause-replaces : goal.returns-in-Err-clause-replaces
@@ -54,3 +54,11 @@ returns-clause-replaces g c k =
     = λ f h. g.met.F.Folder.counts_lost mid (F.meaning.clock mid) f k-1 (omega arith) h in
     replaced m c.args.temp.now c.args.path.now c.args.bytes.now c.requires c.args.folder.now mid c.rename.new.self (c.write_file.ensures.touches k) (c.in_default.ensures.written k)
     law (c.rename.ensures.time k-1) (c.rename.ensures.loss k-1)
+
+pub returns-clause-firm : goal.returns-clause-firm
+returns-clause-firm g c k =
+    let m : Meaning _ = g.F.Folder.meaning in
+    let mid = c.write_file.new.folder in
+    let k-1 = c.write_file.ensures.kept.0 k in
+    stays_firm m c.args.temp.now c.args.path.now c.args.bytes.now c.requires c.args.folder.now mid c.rename.new.self (c.write_file.ensures.touches k) (c.in_default.ensures.written k)
+    (c.in_default-rename.ensures.settled k-1)

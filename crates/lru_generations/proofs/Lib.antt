@@ -1,0 +1,4 @@
+pub mod Reasoned
+pub mod ForGood
+pub mod BeforeNames
+pub mod SavedNext

@@ -1,0 +1,33 @@
+//! The names of a checkpoint's files, synced.
+ghost use Rattle.std.specs.Prelude.{◌≡◌, ◌↔◌, IfErr, OnOk};
+ghost use Rattle.lru_folder.specs.Files.{Same};
+ghost use Rattle.lru_folder.specs.Folder.{Passes};
+ghost use Rattle.lru_folder.specs.Losses.{Loses, looking};
+ghost use Rattle.lru_synced_folder.specs.Names.{AreSynced};
+ghost use Rattle.lru_generations.specs.Reasons.{IsUnsynced};
+
+use lru_checkpoints::errors::{CheckpointError, CheckpointFile};
+use lru_folder::folder_call::FolderCall;
+use lru_synced_folder::synced_folder::SyncedFolder;
+use lru_whole_files::errors::CallFault;
+
+// Syncs the names in the folder. A fault is told of the manifest, whose name counts.
+pub(crate) fn sync_names<F: SyncedFolder>(folder: &mut F, dir: &str) -> Result<(), CheckpointError>
+    ensures synced { F.meaning.keeps folder.old → OnOk result (AreSynced F.meaning dir.now folder.old folder.new) }
+    ensures time { F.meaning.keeps folder.old → Passes F.meaning Same folder.old folder.new }
+    ensures loss { F.meaning.keeps folder.old → Loses F.meaning looking folder.old folder.new }
+    ensures reason { F.meaning.keeps folder.old → IfErr result (IsUnsynced F.meaning dir.now folder.old folder.new) }
+    ensures faults { F.meaning.keeps folder.old → OnOk result (F.meaning.faults folder.new ≡ F.meaning.faults folder.old) }
+    ensures places { F.meaning.keeps folder.old → F.meaning.folders folder.new ≡ F.meaning.folders folder.old }
+    ensures kept { F.meaning.keeps folder.old ↔ F.meaning.keeps folder.new }
+{
+    match folder.sync_dir(dir) {
+        Ok(()) => Ok(()),
+        Err(source) => {
+            let call = FolderCall::Sync;
+            let fault = CallFault { call, source };
+            let file = CheckpointFile::Manifest;
+            Err(CheckpointError::Folder { file, fault })
+        }
+    }
+}

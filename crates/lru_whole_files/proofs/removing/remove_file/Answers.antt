@@ -1,0 +1,52 @@
+use Rattle.std.proofs.Common.{◌≡◌, ap, arith, rules, Err}
+use Rattle.lru_folder.specs.Files.{Files}
+use Rattle.lru_folder.specs.Losses.{IsSpread}
+use Rattle.lru_folder.specs.Meaning.{Meaning}
+use Rattle.lru_whole_files.proofs.Touched.{touches_started, touches_removed}
+use Rattle.lru_whole_files.proofs.Removed.{removed_none}
+use Rattle.lru_whole_files.proofs.removing.remove_file.Goals as goal
+
+pub returns-in-Ok-clause-touches : goal.returns-in-Ok-clause-touches
+returns-in-Ok-clause-touches g c k =
+    let F = g.F.Folder in
+    let m : Meaning _ = F.meaning in
+    let path = c.args.path.now in
+    let start = c.args.folder.now in
+    let law : (f : Files) → IsSpread (F.meaning.loose start) (F.meaning.files start) f → F.meaning.lost_since start (F.meaning.clock start) f
+    = λ f h. g.met.F.Folder.counts_lost start (F.meaning.clock start) f k (omega arith) h in
+    touches_removed m path start start c.remove.new.self law (touches_started m (λ q. q ≡ path) start (λ f s. g.met.F.Folder.only_now start f k s)) (c.remove.ensures.time k) (c.remove.ensures.loss k)
+
+pub returns-in-Err-NotFound-clause-done : goal.returns-in-Err-NotFound-clause-done
+returns-in-Err-NotFound-clause-done g c k =
+    let F = g.F.Folder in
+    removed_none c.args.path.now (F.meaning.files c.args.folder.now) (F.meaning.files c.remove.new.self) (c.in-Err-NotFound.ensures.found k (ap Err c.in-Err-NotFound.field-0-is)) (c.remove.ensures.time k).leaves
+
+pub returns-in-Err-NotFound-clause-touches : goal.returns-in-Err-NotFound-clause-touches
+returns-in-Err-NotFound-clause-touches g c k =
+    let F = g.F.Folder in
+    let m : Meaning _ = F.meaning in
+    let path = c.args.path.now in
+    let start = c.args.folder.now in
+    let law : (f : Files) → IsSpread (F.meaning.loose start) (F.meaning.files start) f → F.meaning.lost_since start (F.meaning.clock start) f
+    = λ f h. g.met.F.Folder.counts_lost start (F.meaning.clock start) f k (omega arith) h in
+    touches_removed m path start start c.remove.new.self law (touches_started m (λ q. q ≡ path) start (λ f s. g.met.F.Folder.only_now start f k s)) (c.remove.ensures.time k) (c.remove.ensures.loss k)
+
+pub returns-in-Err-clause-touches : goal.returns-in-Err-clause-touches
+returns-in-Err-clause-touches g c k =
+    let F = g.F.Folder in
+    let m : Meaning _ = F.meaning in
+    let path = c.args.path.now in
+    let start = c.args.folder.now in
+    let law : (f : Files) → IsSpread (F.meaning.loose start) (F.meaning.files start) f → F.meaning.lost_since start (F.meaning.clock start) f
+    = λ f h. g.met.F.Folder.counts_lost start (F.meaning.clock start) f k (omega arith) h in
+    touches_removed m path start start c.remove.new.self law (touches_started m (λ q. q ≡ path) start (λ f s. g.met.F.Folder.only_now start f k s)) (c.remove.ensures.time k) (c.remove.ensures.loss k)
+
+pub returns-in-Err-clause-reason : goal.returns-in-Err-clause-reason
+returns-in-Err-clause-reason g c k =
+    let cause = c.in-Err.ensures.cause k in
+    record {
+      later = cause.later;
+      failed = λ io. cause.failed (ap Err io);
+      told = λ rose. let io = cause.told rose in cc;
+      not_found = search rules;
+    }
