@@ -57,6 +57,10 @@ module _ {K T : Type 0} where
   abbrev pub promoted : List (Placed K T) → ℕ → List (Placed K T)
   promoted rows p = option_map_or (λ r. r ∷ without rows p) (row_at rows p) rows
 
+  -- the row at a place goes last
+  abbrev pub demoted : List (Placed K T) → ℕ → List (Placed K T)
+  demoted rows p = option_map_or (λ r. without rows p ++ r ∷ []) (row_at rows p) rows
+
   -- the row at a place has another weight, or other data
   abbrev pub with_weight : List (Placed K T) → ℕ → ℕ → List (Placed K T)
   with_weight rows p w = map (λ r. if r.place == p then placed r.place r.key r.value w else r) rows
@@ -71,6 +75,10 @@ module _ {K T : Type 0} where
   -- what an iterator shows of a row
   abbrev pub pair_of : Placed K T → T × ℕ
   pair_of r = (r.value, r.weight)
+
+  -- what one shows that shows the keys too
+  abbrev pub entry_of : Placed K T → K × T × ℕ
+  entry_of r = (r.key, r.value, r.weight)
 
   -- what is known of a row that was taken out
   abbrev pub taken : Placed K T → Taken K T
@@ -121,6 +129,10 @@ module _ {K T : Type 0} where
 -- what an item of an iterator over rows shows
 abbrev pub shown : {T : Type 0} → Bor T × ℕ → T × ℕ
 shown item = (item.0.now, item.1)
+
+-- the same where it shows the key too
+abbrev pub shown_entry : {K T : Type 0} → Bor K × Bor T × ℕ → K × T × ℕ
+shown_entry item = (item.0.now, item.1.now, item.2)
 
 -- a closure that was lent the data, and given the weight, may give this answer and leave this data. `post` is the closure's own relation
 pub record Updates {T R : Type 0} (post : MutBor T → ℕ → R → MutBor T → Type 0) (old : T) (weight : ℕ) (answer : R) (new : T) : Type 0 where
