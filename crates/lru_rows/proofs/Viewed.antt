@@ -5,7 +5,7 @@ use Rattle.std.specs.Option.{option_map}
 use Rattle.std.specs.Cmp.{IsEquivalence}
 use Rattle.std.proofs.lemmas.Option.{slice_get-map}
 use Rattle.lru_index.specs.Index.{Index, Finds as index_Finds}
-use Rattle.lru_list.specs.Linked.{Linked, item_of, indices_of, times, tail_of, IsNumbered, IsLive, promoted as list_promoted, demoted as list_demoted}
+use Rattle.lru_list.specs.Linked.{Linked, item_of, indices_of, times, head_of, tail_of, IsNumbered, IsLive, promoted as list_promoted, demoted as list_demoted}
 use Rattle.std.proofs.lemmas.Bool.{false≢true}
 use Rattle.lru_list.proofs.Chains.{times_here}
 use Rattle.lru_list.proofs.LinkedLaws.{live_range, stands_in}
@@ -110,4 +110,15 @@ module _ {K S T : Type 0} (eq : K → K → Bool) (hash : S → K → ℕ) (orde
   pub last_fits : (p : ℕ) → Some p ≡ tail_of order → p < 4294967296
   last_fits p is =
       let there : 1 ≤ times p (indices_of order.live) = get_stands (indices_of order.live) (length order.live - 1) p (sym is) in
+      omega (arith, kept.wide, kept.few, (stands_in order kept.numbered p (omega (arith, there))).1)
+
+  -- the first place
+  pub first_live : (p : ℕ) → Some p ≡ head_of order → IsLive order p
+  first_live p is =
+      let there = key_of_place eq hash order index weights values kept p (get_stands (indices_of order.live) 0 p (sym is)) in
+      is_some_of (item_of order.live p) there.0 there.1
+
+  pub first_fits : (p : ℕ) → Some p ≡ head_of order → p < 4294967296
+  first_fits p is =
+      let there : 1 ≤ times p (indices_of order.live) = get_stands (indices_of order.live) 0 p (sym is) in
       omega (arith, kept.wide, kept.few, (stands_in order kept.numbered p (omega (arith, there))).1)

@@ -110,6 +110,11 @@ module _ {K T : Type 0} where
   PopsLast old None new = (old.rows ≡ []) × (new ≡ old)
   PopsLast old (Some t) new = (r : Placed K T) × (front : List (Placed K T)) × (old.rows ≡ front ++ r ∷ []) × (t ≡ taken r) × (new ≡ recency front (old.free + 1))
 
+  -- the same for the first row
+  abbrev pub PopsFirst : Recency K T → Option (Taken K T) → Recency K T → Type 0
+  PopsFirst old None new = (old.rows ≡ []) × (new ≡ old)
+  PopsFirst old (Some t) new = (r : Placed K T) × (rest : List (Placed K T)) × (old.rows ≡ r ∷ rest) × (t ≡ taken r) × (new ≡ recency rest (old.free + 1))
+
   -- why no place can be made for a row more: there are as many rows as can be, or, where no place is free, memory is refused
   abbrev pub LacksPlace : Recency K T → NoPlace → Type 0
   LacksPlace old Memory = (length old.rows < most_rows) × (old.free ≡ 0)

@@ -2,7 +2,7 @@
 ghost use Rattle.std.specs.Prelude.{◌≡◌, ℕ, ◌+◌, ◌<◌, ◌≤◌, ◌∷◌, ◌++◌, [], length, map, take, Some, None, IfOk, if◌then◌else◌};
 ghost use Rattle.std.specs.List.{list_any};
 ghost use Rattle.std.specs.Option.{option_map, option_copied};
-ghost use Rattle.lru_rows.specs.Rows.{most_rows, recency, pair_of, entry_of, placed, row_at, row_of, IsAt, promoted, demoted, with_weight, with_value, last_row, Finds, IsRecency, Removes, PopsLast, Pushes, MakesVacancy, UpdatesAt};
+ghost use Rattle.lru_rows.specs.Rows.{most_rows, recency, pair_of, entry_of, placed, row_at, row_of, IsAt, promoted, demoted, with_weight, with_value, last_row, Finds, IsRecency, Removes, PopsLast, PopsFirst, Pushes, MakesVacancy, UpdatesAt};
 
 use crate::columns::Columns;
 use crate::iter::{RowsEntries, RowsIter};
@@ -389,6 +389,20 @@ impl<K: Hash + Default + Drop, T: Drop, S: BuildHasher> Rows<K, T, S> {
         let at = self.order.list.tail()?;
         let last = self.order.key_at(at as u32);
         let _place = self.columns.index.remove(&self.order, last);
+        let (value, weight) = self.columns.take(at);
+        let key = self.order.list.remove(at);
+        Some(Taken { key, value, weight })
+    }
+
+    /// Takes the row out that was used last. Its place is free then.
+    #[inline(always)]
+    pub fn pop_first(&mut self) -> Option<Taken<K, T>>
+        ensures pops { PopsFirst self.old result self.new }
+        ensures valid { IsRecency K.eq self.old.rows }
+    {
+        let at = self.order.list.head()?;
+        let first = self.order.key_at(at as u32);
+        let _place = self.columns.index.remove(&self.order, first);
         let (value, weight) = self.columns.take(at);
         let key = self.order.list.remove(at);
         Some(Taken { key, value, weight })
