@@ -9,7 +9,7 @@ use Rattle.lru_list.specs.Linked.{Linked, item_of, indices_of, times, head_of, t
 use Rattle.std.proofs.lemmas.Bool.{false≢true}
 use Rattle.lru_list.proofs.Chains.{times_here}
 use Rattle.lru_list.proofs.LinkedLaws.{live_range, stands_in}
-use Rattle.lru_rows.specs.Rows.{Placed, placed, Recency, recency, row_at, IsAt, Finds, IsRecency, last_row, promoted, demoted, with_weight, with_value}
+use Rattle.lru_rows.specs.Rows.{Placed, placed, Recency, recency, row_at, IsAt, Finds, IsRecency, last_row, first_row, promoted, demoted, with_weight, with_value}
 use Rattle.lru_rows.specs.Representation.Columns.{value_at, rows_in, IsKept}
 use Rattle.lru_rows.proofs.Listed.{some_of, stands_behind, places-rows}
 use Rattle.lru_rows.proofs.Kept.{key_of_place, is_some_of, Stands, stands, held_all, recency_holds, finds_row, length_is}
@@ -122,3 +122,9 @@ module _ {K S T : Type 0} (eq : K → K → Bool) (hash : S → K → ℕ) (orde
   first_fits p is =
       let there : 1 ≤ times p (indices_of order.live) = get_stands (indices_of order.live) 0 p (sym is) in
       omega (arith, kept.wide, kept.few, (stands_in order kept.numbered p (omega (arith, there))).1)
+
+  pub first_place : (o : Option ℕ) → o ≡ head_of order → o ≡ option_map (λ (x : Placed K T). x.place) (first_row r.rows)
+  first_place o is =
+      is ∙ ap (λ ps. slice_get ps 0) (sym (places-rows weights values order.live (held_all eq hash order index weights values kept)))
+      ∙ slice_get-map (λ (x : Placed K T). x.place) (rows_in weights values order.live) 0
+      ∙ ap (λ rs. option_map (λ (x : Placed K T). x.place) (first_row rs)) rows_are

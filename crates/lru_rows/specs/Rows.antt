@@ -72,6 +72,10 @@ module _ {K T : Type 0} where
   abbrev pub last_row : List (Placed K T) → Option (Placed K T)
   last_row rows = slice_get rows (length rows - 1)
 
+  -- the row that was used last, if there is one
+  abbrev pub first_row : List (Placed K T) → Option (Placed K T)
+  first_row rows = slice_get rows 0
+
   -- what an iterator shows of a row
   abbrev pub pair_of : Placed K T → T × ℕ
   pair_of r = (r.value, r.weight)

@@ -2,7 +2,7 @@
 ghost use Rattle.std.specs.Prelude.{◌≡◌, ℕ, ◌+◌, ◌<◌, ◌≤◌, ◌∷◌, ◌++◌, [], length, map, take, Some, None, IfOk, if◌then◌else◌};
 ghost use Rattle.std.specs.List.{list_any};
 ghost use Rattle.std.specs.Option.{option_map, option_copied};
-ghost use Rattle.lru_rows.specs.Rows.{most_rows, recency, pair_of, entry_of, placed, row_at, row_of, IsAt, promoted, demoted, with_weight, with_value, last_row, Finds, IsRecency, Removes, PopsLast, PopsFirst, Pushes, MakesVacancy, UpdatesAt};
+ghost use Rattle.lru_rows.specs.Rows.{most_rows, recency, pair_of, entry_of, placed, row_at, row_of, IsAt, promoted, demoted, with_weight, with_value, last_row, first_row, Finds, IsRecency, Removes, PopsLast, PopsFirst, Pushes, MakesVacancy, UpdatesAt};
 
 use crate::columns::Columns;
 use crate::iter::{RowsEntries, RowsIter};
@@ -164,6 +164,16 @@ impl<K: Hash, T, S: BuildHasher> Rows<K, T, S> {
         ensures valid { IsRecency K.eq self.now.rows }
     {
         let place = self.order.list.tail()?;
+        Some(place as u32)
+    }
+
+    /// The place of the row that was used last.
+    #[inline(always)]
+    pub fn first(&self) -> Option<Place>
+        ensures place { result ≡ option_map (λ r. r.place) (first_row self.now.rows) }
+        ensures valid { IsRecency K.eq self.now.rows }
+    {
+        let place = self.order.list.head()?;
         Some(place as u32)
     }
 
