@@ -5,7 +5,7 @@ use Rattle.std.specs.Option.{option_map}
 use Rattle.std.proofs.lemmas.Bool.{cond_both, cases_eq, eq-eqb, ne_eqb, eqb-true, eqb-false, not-true, not-false, false≢true}
 use Rattle.std.proofs.lemmas.Option.{slice_get-get_or}
 use Rattle.std.proofs.lemmas.List.Sums.{sum_by-cons, sum_by-append}
-use Rattle.lru_rows.specs.Rows.{Placed, placed, last_row, with_value, row_at, row_of, without as rows_without}
+use Rattle.lru_rows.specs.Rows.{Placed, placed, last_row, first_row, with_weight, with_value, row_at, row_of, without as rows_without}
 use Rattle.lru_cache.specs.declared.cache.Entry.{Entry}
 use Rattle.lru_cache.specs.Cache.{entry_of, without, weight_of}
 use Rattle.lru_cache.specs.Representation.{entry_in, entries_in, weight_in}
@@ -40,13 +40,13 @@ module _ {K V : Type 0} where
   by_place p r rs P here other =
       cond_both (not (eqb r.place p)) (r ∷ rows_without rs p) (rows_without rs p) P (λ e. other (eqb-false _ _ (not-true _ e))) (λ e. here (eqb-true _ _ (not-false _ e)))
 
-  abbrev places : ℕ → List (Placed K V) → ℕ
+  abbrev pub places : ℕ → List (Placed K V) → ℕ
   places p rows = count_by (λ r. r.place == p) rows
 
-  places_here : (r : Placed K V) (rs : List (Placed K V)) (p : ℕ) → r.place ≡ p → places p (r ∷ rs) ≡ 1 + places p rs
+  pub places_here : (r : Placed K V) (rs : List (Placed K V)) (p : ℕ) → r.place ≡ p → places p (r ∷ rs) ≡ 1 + places p rs
   places_here r rs p e = sum_by-cons (λ (x : Placed K V). cond (eqb x.place p) 1 0) r rs ∙ ap (λ b. cond b 1 0 + places p rs) (eq-eqb r.place p e)
 
-  places_other : (r : Placed K V) (rs : List (Placed K V)) (p : ℕ) → r.place ≢ p → places p (r ∷ rs) ≡ places p rs
+  pub places_other : (r : Placed K V) (rs : List (Placed K V)) (p : ℕ) → r.place ≢ p → places p (r ∷ rs) ≡ places p rs
   places_other r rs p ne =
       let h : places p (r ∷ rs) ≡ 0 + places p rs = sum_by-cons (λ (x : Placed K V). cond (eqb x.place p) 1 0) r rs ∙ ap (λ b. cond b 1 0 + places p rs) (ne_eqb r.place p ne) in
       omega (arith, h)
@@ -109,6 +109,30 @@ module _ {K V : Type 0} where
 
   pub with_value-first : (p : ℕ) (d : V) (r : Placed K V) (rs : List (Placed K V)) → r.place ≡ p → with_value (r ∷ rs) p d ≡ placed r.place r.key d r.weight ∷ with_value rs p d
   with_value-first p d r rs e = ap (λ b. cond b (placed r.place r.key d r.weight) r ∷ with_value rs p d) (eq-eqb r.place p e)
+
+  -- the same of a weight
+  pub with_weight-absent : (p w : ℕ) (rows : List (Placed K V)) → places p rows ≡ 0 → with_weight rows p w ≡ rows
+  with_weight-absent p w [] none = refl
+  with_weight-absent p w (r ∷ rs) none =
+      elim (cases_eq r.place p) [
+        | inl e ↦ absurd (omega (arith, none, places_here r rs p e))
+        | inr ne ↦
+            ap (λ b. cond b (placed r.place r.key r.value w) r ∷ with_weight rs p w) (ne_eqb r.place p ne)
+            ∙ ap (λ xs. r ∷ xs) (with_weight-absent p w rs (sym (places_other r rs p ne) ∙ none))
+      ]
+
+  pub with_weight-first : (p w : ℕ) (r : Placed K V) (rs : List (Placed K V)) → r.place ≡ p → places p rs ≡ 0 → with_weight (r ∷ rs) p w ≡ placed r.place r.key r.value w ∷ rs
+  with_weight-first p w r rs e none =
+      ap (λ b. cond b (placed r.place r.key r.value w) r ∷ with_weight rs p w) (eq-eqb r.place p e)
+      ∙ ap (λ xs. placed r.place r.key r.value w ∷ xs) (with_weight-absent p w rs none)
+
+  pub places-append : (p : ℕ) (xs ys : List (Placed K V)) → places p (xs ++ ys) ≡ places p xs + places p ys
+  places-append p xs ys = sum_by-append (λ (x : Placed K V). cond (eqb x.place p) 1 0) xs ys
+
+  -- ---- the row that stands first
+  pub first_told : (rows : List (Placed K V)) (p : ℕ) → Some p ≡ option_map (λ (x : Placed K V). x.place) (first_row rows) → (x : Placed K V) × ((xs : List (Placed K V)) × ((rows ≡ x ∷ xs) × (x.place ≡ p)))
+  first_told [] p told = absurd (false≢true (sym (ap is_some told)))
+  first_told (x ∷ xs) p told = (x, (xs, (refl, some_of x.place p (sym told))))
 
   -- ---- the row that stands last
   last_there : (front : List (Placed K V)) (x : Placed K V) → 1 ≤ places x.place (front ++ x ∷ [])

@@ -4,3 +4,6 @@ pub mod Shrunk
 pub mod Placing
 pub mod Putting
 pub mod Retained
+pub mod Drained
+pub mod Settled
+pub mod Reweighed

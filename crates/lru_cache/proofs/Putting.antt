@@ -32,7 +32,7 @@ module _ {K V : Type 0} (eq : K → K → Bool) where
       (λ is. omega (arith, ap (λ b. length (cond (not b) (e ∷ without eq es key) (without eq es key))) is, shorter es key))
       (λ is. omega (arith, ap (λ b. length (cond (not b) (e ∷ without eq es key) (without eq es key))) is, shorter es key))
 
-  one_less : (es : List (Entry K V)) (key : K) → is_some (entry_of eq es key) ≡ true → length (without eq es key) + 1 ≤ length es
+  pub one_less : (es : List (Entry K V)) (key : K) → is_some (entry_of eq es key) ≡ true → length (without eq es key) + 1 ≤ length es
   one_less [] key some = absurd (false≢true some)
   one_less (e ∷ es) key some =
       by_bool (eq e.key key)

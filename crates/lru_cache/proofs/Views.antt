@@ -4,12 +4,12 @@ use Rattle.std.specs.Prelude.{Option, Bool, is_some, max, count_by, ◌==◌}
 use Rattle.std.specs.Option.{option_map, option_map_or}
 use Rattle.std.proofs.lemmas.List.{map-append, length-append}
 use Rattle.lru_rows.specs.declared.rows.Taken.{Taken}
-use Rattle.lru_rows.specs.Rows.{last_row, placed, with_value, Updates, UpdatesAt, Placed, Recency, recency, row_at, row_of, IsAt, Finds, IsRecency, promoted, Removes as RowsRemoves, PopsLast as RowsPopsLast, without as rows_without}
+use Rattle.lru_rows.specs.Rows.{last_row, placed, with_value, Updates, UpdatesAt, Placed, Recency, recency, row_at, row_of, IsAt, Finds, IsRecency, promoted, Removes as RowsRemoves, PopsLast as RowsPopsLast, PopsFirst as RowsPopsFirst, demoted as rows_demoted, entry_of as rows_entry_of, without as rows_without}
 use Rattle.lru_cache.specs.declared.cache.Entry.{Entry}
 use Rattle.std.specs.Borrow.{MutBor}
-use Rattle.lru_cache.specs.Cache.{IsLast, UpdatesEntry, Cached, entry, entry_of, without, used, weight_of, with_entries, IsCache, PopsLast}
+use Rattle.lru_cache.specs.Cache.{IsLast, UpdatesEntry, Cached, entry, entry_of, without, used, demoted, parts_of, weight_of, with_entries, IsCache, PopsLast, PopsFirst}
 use Rattle.lru_cache.specs.Representation.{entry_in, entries_in, weight_in, cached_in, IsKept}
-use Rattle.lru_cache.proofs.Entries.{last_told, row_last, some_of, with_value-without, with_value-first, row_first, row_place, row_there, weight-entries, length-entries, weight-cons, weight-append, weight-without, length-without, entry-row, keyed-entries, entries-without, absent_without}
+use Rattle.lru_cache.proofs.Entries.{last_told, none_told, row_last, some_of, with_value-without, with_value-first, row_first, row_place, row_there, weight-entries, length-entries, weight-cons, weight-append, weight-without, length-without, entry-row, keyed-entries, entries-without, absent_without}
 
 -- the greater of two, where that is known
 max_left : (a b : ℕ) → b ≤ a → max a b ≡ a
@@ -18,6 +18,10 @@ max_left a b le = omega (arith, le)
 keys_in : {K V : Type 0} (rows : List (Placed K V)) → map (λ (x : Placed K V). x.key) rows ≡ map (λ (e : Entry K V). e.key) (entries_in rows)
 keys_in [] = refl
 keys_in (r ∷ rs) = ap (λ ks. r.key ∷ ks) (keys_in rs)
+
+parts_in : {K V : Type 0} (rows : List (Placed K V)) → map rows_entry_of rows ≡ map parts_of (entries_in rows)
+parts_in [] = refl
+parts_in (r ∷ rs) = ap (λ ps. (r.key, r.value, r.weight) ∷ ps) (parts_in rs)
 
 module _ {K V : Type 0} (eq : K → K → Bool) (r : Recency K V) (used_is most_weight most_entries : ℕ) (kept : IsKept r used_is most_weight most_entries) (c : Cached K V)
     (view : cached_in r most_weight most_entries ≡ c) where
@@ -36,6 +40,9 @@ module _ {K V : Type 0} (eq : K → K → Bool) (r : Recency K V) (used_is most_
 
   pub keys_are : map (λ (x : Placed K V). x.key) r.rows ≡ map (λ (e : Entry K V). e.key) c.entries
   keys_are = keys_in r.rows ∙ ap (map (λ (e : Entry K V). e.key)) entries_are
+
+  pub parts_are : map rows_entry_of r.rows ≡ map parts_of c.entries
+  parts_are = parts_in r.rows ∙ ap (map parts_of) entries_are
 
   pub valid_cache : IsRecency eq r.rows → IsCache eq c
   valid_cache valid = subst (IsCache eq) view (record {
@@ -111,6 +118,11 @@ module _ {K V : Type 0} (eq : K → K → Bool) (r : Recency K V) (used_is most_
         sym same_entries
         ∙ ap (with_entries c) (sym (ap (λ o. option_map_or (λ e. e ∷ without eq c.entries key) o c.entries) (found_entry ∙ ap (option_map entry_in) none)))
 
+    pub undemoted : Finds eq r.rows key None → c ≡ with_entries c (demoted eq c.entries key)
+    undemoted none =
+        sym same_entries
+        ∙ ap (with_entries c) (sym (ap (λ o. option_map_or (λ e. without eq c.entries key ++ e ∷ []) o c.entries) (found_entry ∙ ap (option_map entry_in) none)))
+
     pub nothing_gone : row_of eq r.rows key ≡ None → c ≡ with_entries c (without eq c.entries key)
     nothing_gone none =
         sym same_entries ∙ ap (with_entries c) (sym (ap (λ es. without eq es key) (sym entries_are) ∙ absent_without eq key r.rows none ∙ entries_are))
@@ -152,6 +164,25 @@ module _ {K V : Type 0} (eq : K → K → Bool) (r : Recency K V) (used_is most_
             ∙ ap (with_entries c)
             (ap (λ es. entry_in finds.0 ∷ es) others
             ∙ sym (ap (λ o. option_map_or (λ e. e ∷ without eq c.entries key) o c.entries) (found_entry ∙ ap (option_map entry_in) finds.1)))
+
+        -- or last
+        last : rows_demoted r.rows p ≡ rows_without r.rows p ++ finds.0 ∷ []
+        last = ap (λ o. option_map_or (λ x. rows_without r.rows p ++ x ∷ []) o r.rows) finds.2
+
+        pub kept_demoted : (r' : Recency K V) → r' ≡ recency (rows_demoted r.rows p) r.free → IsKept r' used_is most_weight most_entries
+        kept_demoted r' is = subst (λ x. IsKept x used_is most_weight most_entries) (sym (is ∙ ap (λ rs. recency rs r.free) last)) (record {
+          used_is = omega (arith, kept.used_is, as_heavy, weight-append (rows_without r.rows p) (finds.0 ∷ []), weight-cons finds.0 []);
+          light = kept.light;
+          few = omega (arith, kept.few, as_long, length-append (rows_without r.rows p) (finds.0 ∷ []));
+        })
+
+        pub view_demoted : (r' : Recency K V) → r' ≡ recency (rows_demoted r.rows p) r.free → cached_in r' most_weight most_entries ≡ with_entries c (demoted eq c.entries key)
+        view_demoted r' is =
+            ap (λ x. cached_in x most_weight most_entries) (is ∙ ap (λ rs. recency rs r.free) last)
+            ∙ with_rows (rows_without r.rows p ++ finds.0 ∷ []) r.free (omega (arith, as_long, length-append (rows_without r.rows p) (finds.0 ∷ [])))
+            ∙ ap (with_entries c)
+            (map-append entry_in (rows_without r.rows p) (finds.0 ∷ []) ∙ ap (λ es. es ++ entry_in finds.0 ∷ []) others
+            ∙ sym (ap (λ o. option_map_or (λ e. without eq c.entries key ++ e ∷ []) o c.entries) (found_entry ∙ ap (option_map entry_in) finds.1)))
 
         pub at_first : (r' : Recency K V) → r' ≡ recency (promoted r.rows p) r.free → IsAt r'.rows p
         at_first r' is =
@@ -256,6 +287,20 @@ module _ {K V : Type 0} (eq : K → K → Bool) (r : Recency K V) (used_is most_
         ap (λ x. cached_in x most_weight most_entries) pops.4 ∙ with_rows pops.1 (r.free + 1) (omega (arith, last_long)),
       ),
     )
+
+  -- or the first
+  pub view_popped_first : (t : Taken K V) (r' : Recency K V) → RowsPopsFirst r (Some t) r' → PopsFirst c (Some (entry t.key t.value t.weight)) (cached_in r' most_weight most_entries)
+  view_popped_first t r' pops = (
+    entries_in pops.1,
+    (
+      sym entries_are ∙ ap entries_in pops.2 ∙ ap (λ e. e ∷ entries_in pops.1) (sym (ap (λ (x : Taken K V). entry x.key x.value x.weight) pops.3)),
+      ap (λ x. cached_in x most_weight most_entries) pops.4 ∙ with_rows pops.1 (r.free + 1) (omega (arith, ap length pops.2)),
+    ),
+  )
+
+  -- where there is no last place there are no entries
+  pub last_missing : None ≡ option_map (λ (x : Placed K V). x.place) (last_row r.rows) → IsLast c.entries None
+  last_missing told = sym entries_are ∙ ap entries_in (none_told r.rows told)
 
   pub view_unpopped : RowsPopsLast r None r → PopsLast c None c
   view_unpopped pops = (sym entries_are ∙ ap entries_in pops.0, refl)

@@ -54,6 +54,15 @@ module _ {K V : Type 0} where
   PopsLast old None new = (old.entries ≡ []) × (new ≡ old)
   PopsLast old (Some e) new = (front : List (Entry K V)) × ((old.entries ≡ front ++ e ∷ []) × (new ≡ with_entries old front))
 
+  -- the same for the first
+  abbrev pub PopsFirst : Cached K V → Option (Entry K V) → Cached K V → Type 0
+  PopsFirst old None new = (old.entries ≡ []) × (new ≡ old)
+  PopsFirst old (Some e) new = (rest : List (Entry K V)) × ((old.entries ≡ e ∷ rest) × (new ≡ with_entries old rest))
+
+  -- what an iterator shows of an entry
+  abbrev pub parts_of : Entry K V → K × V × ℕ
+  parts_of e = (e.key, e.value, e.weight)
+
   -- these entries stay and those go, so that what stays fits: no more go than have to
   pub record Leaves (w n : ℕ) (es front gone : List (Entry K V)) : Type 0 where
     pub parts : es ≡ front ++ gone
@@ -97,6 +106,24 @@ module _ {K V : Type 0} where
   abbrev pub Clears : {F : Type 0} → (F → Entry K V → F → Type 0) → F → Cached K V → Cached K V → Type 0
   Clears Step visit old new = IsShown Step visit old.entries × (new ≡ with_entries old [])
 
+  -- the same where the first goes first
+  abbrev pub Drains : {F : Type 0} → (F → Entry K V → F → Type 0) → F → Cached K V → Cached K V → Type 0
+  Drains {F} Step visit old new = ((left : F) × FoldsTo Step visit old.entries left) × (new ≡ with_entries old [])
+
+  -- the first entry has another weight, and the shortest end of the others goes that has to
+  abbrev pub Settles : {F : Type 0} → (F → Entry K V → F → Type 0) → F → Cached K V → ℕ → Cached K V → Type 0
+  Settles Step visit old w new =
+      (e : Entry K V) × ((rest : List (Entry K V)) × ((old.entries ≡ e ∷ rest) × ((front : List (Entry K V)) × ((gone : List (Entry K V))
+      × (Leaves (old.most_weight - w) (old.most_entries - 1) rest front gone × (IsShown Step visit gone × (new ≡ with_entries old (entry e.key e.value w ∷ front))))))))
+
+  -- a closure that was shown a key and a value may answer this weight. `post` is the closure's own relation
+  pub record Weighs (post : Bor K → Bor V → ℕ → Type 0) (k : K) (v : V) (w : ℕ) : Type 0 where
+    pub key : Bor K
+    pub value : Bor V
+    pub shows_key : key.now ≡ k
+    pub shows_value : value.now ≡ v
+    pub called : post key value w
+
   -- the entry that stands last, if there is one
   abbrev pub IsLast : List (Entry K V) → Option (Entry K V) → Type 0
   IsLast es None = es ≡ []
@@ -135,6 +162,10 @@ module _ {K V : Type 0} where
     abbrev pub used : List (Entry K V) → K → List (Entry K V)
     used es key = option_map_or (λ e. e ∷ without es key) (entry_of es key) es
 
+    -- a key's entry goes last, if it has one
+    abbrev pub demoted : List (Entry K V) → K → List (Entry K V)
+    demoted es key = option_map_or (λ e. without es key ++ e ∷ []) (entry_of es key) es
+
     -- what holds of every cache: no key has two entries, and it is over no limit
     pub record IsCache (c : Cached K V) : Type 0 where
       pub keys : (k : K) → count_by (λ e. eq e.key k) c.entries ≤ 1
@@ -167,3 +198,19 @@ module _ {K V : Type 0} where
     UsesOrPuts Makes Step visit old key (Ok false) new = (made : V × ℕ) × (Makes (Ok made) × Puts Step visit old key made.0 made.1 (Ok None) new)
     UsesOrPuts Makes Step visit old key (Err (Unmade k e)) new = (entry_of old.entries key ≡ None) × (Makes (Err e) × ((k ≡ key) × (new ≡ old)))
     UsesOrPuts Makes Step visit old key (Err (EntryRefused r)) new = (entry_of old.entries key ≡ None) × ((made : V × ℕ) × (Makes (Ok made) × Puts Step visit old key made.0 made.1 (Err r) new))
+
+    -- an entry is put whose weight a closure answers
+    abbrev pub PutsWeighed : {F : Type 0} → (Bor K → Bor V → ℕ → Type 0) → (F → Entry K V → F → Type 0) → F → Cached K V → K → V → Result (Option (Entry K V)) (Refused K V) → Cached K V → Type 0
+    PutsWeighed post Step visit old k v result new = (w : ℕ) × (Weighs post k v w × Puts Step visit old k v w result new)
+
+    -- a key's entry goes first, and its value is lent to a closure, which may change it and answers the weight from then on. The shortest end of the others goes that has to.
+    -- An entry that is too heavy by itself then goes alone, and is handed back. Where the key has none, nothing is called
+    abbrev pub Reweighs : {F : Type 0} → (MutBor V → ℕ → ℕ → MutBor V → Type 0) → (F → Entry K V → F → Type 0) → F → Cached K V → K → Result Bool (Entry K V) → Cached K V → Type 0
+    Reweighs post Step visit old key (Ok false) new = (entry_of old.entries key ≡ None) × (new ≡ old)
+    Reweighs post Step visit old key (Ok true) new =
+        (e : Entry K V) × ((entry_of old.entries key ≡ Some e) × ((v : V) × ((w : ℕ) × (Updates post e.value e.weight w v × ((w ≤ old.most_weight)
+        × ((front : List (Entry K V)) × ((gone : List (Entry K V)) × (Leaves (old.most_weight - w) (old.most_entries - 1) (without old.entries key) front gone
+        × (IsShown Step visit gone × (new ≡ with_entries old (entry e.key v w ∷ front)))))))))))
+    Reweighs post Step visit old key (Err back) new =
+        (e : Entry K V) × ((entry_of old.entries key ≡ Some e) × ((back.key ≡ e.key) × (Updates post e.value e.weight back.weight back.value
+        × ((old.most_weight < back.weight) × (new ≡ with_entries old (without old.entries key))))))

@@ -73,3 +73,16 @@ module _ {K V : Type 0} where
     pub count_is : count ≡ length kept
     pub used_is : used ≡ weight_in now.rows
     pub free_is : length now.rows + now.free ≡ length old.rows + old.free
+
+  -- all rows went, the first first, and each was shown
+  pub record DrainsRows {F : Type 0} (Step : F → Entry K V → F → Type 0) (visit : F) (old new : Recency K V) : Type 0 where
+    pub last : F
+    pub shown : FoldsTo Step visit (entries_in old.rows) last
+    pub left : new ≡ recency [] (old.free + length old.rows)
+
+  -- so far the first rows went, and each was shown
+  pub record Draining {F : Type 0} (Step : F → Entry K V → F → Type 0) (visit last : F) (old now : Recency K V) : Type 0 where
+    pub front : List (Placed K V)
+    pub parts : old.rows ≡ front ++ now.rows
+    pub free_is : now.free ≡ old.free + length front
+    pub shown : FoldsTo Step visit (entries_in front) last

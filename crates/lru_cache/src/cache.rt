@@ -1,12 +1,15 @@
 //! A cache of one owner.
-ghost use Rattle.std.specs.Prelude.{◌≡◌, ◌<◌, ◌≤◌, None, length, map, is_some, nat_eq, IfOk};
+ghost use Rattle.std.specs.Prelude.{◌≡◌, ◌+◌, ◌<◌, ◌≤◌, None, length, map, is_some, nat_eq, IfOk};
 ghost use Rattle.std.specs.Option.{option_map, option_copied};
-ghost use Rattle.lru_cache.specs.Cache.{empty, weight_of, entry_of, without, used, with_entries, Puts, PutsFirst, HasPlace, MakesPlace, PopsLast, IsLast, entry, Limits, Clears, Retains, UpdatesEntry, UsesOrPuts, IsCache};
+ghost use Rattle.lru_rows.specs.Rows.{most_rows};
+ghost use Rattle.lru_cache.specs.Cache.{empty, weight_of, entry_of, without, used, demoted, parts_of, with_entries, Puts, PutsWeighed, PutsFirst, HasPlace, MakesPlace, PopsLast, PopsFirst, IsLast, entry, Limits, Clears, Drains, Retains, UpdatesEntry, Reweighs, Settles, UsesOrPuts, IsCache};
 
+use crate::draining::drain;
 use crate::keeping::retain;
 use crate::shrinking::{fits, shrink};
 use lru_index::hashing::SeededHashes;
 use lru_list::linked_list::LinkedListIter;
+use lru_rows::iter::RowsEntries;
 use lru_rows::rows::{NoPlace, Rows};
 use std::alloc::{AllocError, Global};
 use std::hash::{BuildHasher, Hash};
@@ -196,9 +199,6 @@ impl<K: Hash, V, S: BuildHasher> Cache<K, V, S> {
     pub fn peek_last(&self) -> Option<(&K, &V, usize)>
         ensures { IsLast self.now.entries (option_map (λ s. entry s.0.now s.1.now s.2) result) }
     {
-        if self.rows.len() == 0 {
-            return None;
-        }
         let place = self.rows.last()?;
         let (key, value) = (self.rows.key_at(place), self.rows.value_at(place));
         Some((key, value, self.rows.weight_at(place)))
@@ -209,6 +209,26 @@ impl<K: Hash, V, S: BuildHasher> Cache<K, V, S> {
         ensures { result ≡ map (λ e. e.key) self.now.entries }
     {
         self.rows.keys()
+    }
+
+    /// The key, the value and the weight of each entry, most recent first. None is used by that.
+    pub fn iter(&self) -> RowsEntries<'_, K, V>
+        ensures { result ≡ map parts_of self.now.entries }
+    {
+        self.rows.entries()
+    }
+
+    /// Puts a key's entry last, so that it is the next to go. It answers whether there is one.
+    pub fn demote(&mut self, key: &K) -> bool
+        ensures answer { result ≡ is_some (entry_of K.eq self.old.entries key.now) }
+        ensures entries { self.new ≡ with_entries self.old (demoted K.eq self.old.entries key.now) }
+        ensures valid { IsCache K.eq self.old }
+    {
+        let Some(place) = self.rows.find(key) else {
+            return false;
+        };
+        self.rows.demote(place);
+        true
     }
 
     /// Uses a key: its entry goes first. It answers whether there is one.
@@ -272,6 +292,88 @@ impl<K: Hash + Default + Drop, V: Drop, S: BuildHasher> Cache<K, V, S> {
         Ok(was)
     }
 
+    /// Puts an entry whose weight `weigh` tells by its key and its value, as `put` does.
+    ///
+    /// # Errors
+    ///
+    /// As for `put`.
+    pub fn put_weighed<W, F>(
+        &mut self,
+        key: K,
+        value: V,
+        weigh: W,
+        visit: F,
+    ) -> Result<Option<Entry<K, V>>, Refused<K, V>>
+    where
+        W: FnOnce(&K, &V) -> usize + Drop,
+        F: FnMut(Entry<K, V>) + Drop,
+        requires weigh { W.IsAlwaysCallable weigh }
+        requires visit { F.IsAlwaysCallable visit }
+        ensures { PutsWeighed K.eq (W.post weigh) (λ p x q. F.step p x tt q) visit self.old key value result self.new }
+    {
+        let weight = weigh(&key, &value);
+        self.put(key, value, weight, visit)
+    }
+
+    /// Uses a key, lends its value to `change` with its weight, and gives it the weight that `change` answers. Then the
+    /// entries that were used longest ago go, as many as have to for the others to be within the limits, and each is
+    /// handed to `visit`. It answers whether the key has an entry. Where it has none, nothing is called.
+    ///
+    /// # Errors
+    ///
+    /// The entry is too heavy by itself then. It goes, and is handed back as it is then; no other goes.
+    pub fn reweigh<U, F>(&mut self, key: &K, change: U, visit: F) -> Result<bool, Entry<K, V>>
+    where
+        U: FnOnce(&mut V, usize) -> usize + Drop,
+        F: FnMut(Entry<K, V>) + Drop,
+        requires change { U.IsAlwaysCallable change }
+        requires visit { F.IsAlwaysCallable visit }
+        ensures { Reweighs K.eq (U.post change) (λ p x q. F.step p x tt q) visit self.old key.now result self.new }
+    {
+        let Some(place) = self.rows.find(key) else {
+            return Ok(false);
+        };
+        self.rows.promote(place);
+        let weight = self.rows.update(place, change);
+        if weight > self.most_weight {
+            let Some(entry) = self.pop_first() else {
+                unreachable!()
+            };
+            return Err(Entry {
+                key: entry.key,
+                value: entry.value,
+                weight,
+            });
+        }
+        self.settle(weight, visit);
+        Ok(true)
+    }
+
+    // Gives the first entry another weight, and lets go of those that have to go for it.
+    fn settle<F: FnMut(Entry<K, V>) + Drop>(&mut self, weight: usize, visit: F)
+        requires visit { F.IsAlwaysCallable visit }
+        requires light { weight ≤ self.old.most_weight }
+        requires some { 0 < length self.old.entries }
+        ensures { Settles (λ p x q. F.step p x tt q) visit self.old weight self.new }
+    {
+        let Some(place) = self.rows.first() else {
+            unreachable!()
+        };
+        let others = self.weight - self.rows.weight_at(place);
+        let most_weight = self.most_weight - weight;
+        // It does not count among the others.
+        self.rows.set_weight(place, 0);
+        let left = shrink(
+            &mut self.rows,
+            others,
+            most_weight,
+            self.most_entries,
+            visit,
+        );
+        self.rows.set_weight(place, weight);
+        self.weight = left + weight;
+    }
+
     /// Uses a key, and answers true; or puts an entry of it that `make` makes, value and weight, as `put` does, and answers
     /// false. `make` is called only where the key has no entry.
     ///
@@ -310,7 +412,8 @@ impl<K: Hash + Default + Drop, V: Drop, S: BuildHasher> Cache<K, V, S> {
     ///
     /// There is no memory for that many, or there can't be as many entries.
     pub fn reserve(&mut self, additional: usize) -> Result<(), AllocError>
-        ensures { self.new ≡ self.old }
+        ensures same { self.new ≡ self.old }
+        ensures room { IfOk result (λ _. length self.new.entries + additional ≤ most_rows) }
     {
         self.rows.reserve(additional)
     }
@@ -390,6 +493,16 @@ impl<K: Hash + Default + Drop, V: Drop, S: BuildHasher> Cache<K, V, S> {
         self.weight = shrink(&mut self.rows, self.weight, 0, 0, visit);
     }
 
+    /// Lets all entries go, the one that was used last first, and hands each to `visit`. The limits stay, and so do the
+    /// places, as for `clear`.
+    pub fn drain<F: FnMut(Entry<K, V>) + Drop>(&mut self, visit: F)
+        requires { F.IsAlwaysCallable visit }
+        ensures { Drains (λ p x q. F.step p x tt q) visit self.old self.new }
+    {
+        drain(&mut self.rows, visit);
+        self.weight = 0;
+    }
+
     /// Asks `keep` of each entry, the one that was used longest ago first, by its key, its value and its weight, and lets
     /// those go for which it answers false. The others stay, in their order.
     pub fn retain<F: FnMut(&K, &V, usize) -> bool + Drop>(&mut self, keep: F)
@@ -419,6 +532,19 @@ impl<K: Hash + Default + Drop, V: Drop, S: BuildHasher> Cache<K, V, S> {
         ensures { PopsLast self.old result self.new }
     {
         let row = self.rows.pop_last()?;
+        self.weight -= row.weight;
+        Some(Entry {
+            key: row.key,
+            value: row.value,
+            weight: row.weight,
+        })
+    }
+
+    /// Takes the entry out that was used last.
+    pub fn pop_first(&mut self) -> Option<Entry<K, V>>
+        ensures { PopsFirst self.old result self.new }
+    {
+        let row = self.rows.pop_first()?;
         self.weight -= row.weight;
         Some(Entry {
             key: row.key,

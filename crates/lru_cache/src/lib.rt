@@ -2,5 +2,6 @@
 #![tactic(auto)]
 
 pub mod cache;
+mod draining;
 mod keeping;
 mod shrinking;

@@ -123,6 +123,95 @@ fn entries_are_retained(rt: HostRuntime) -> Result<(), Fail> {
     Ok(())
 }
 
+// Entries that go last, and from the first on.
+#[rattlefmt::skip]
+static FROM_THE_FIRST: [Step<u64, u64>; 13] = [
+    (Call::PopFirst, "none", "0 0:"),
+    (Call::Drain, "gone:", "0 0:"),
+    (Call::PutWeighed(1, 10, 2), "new, gone:", "1 2: 1=10 2,"),
+    (Call::Demote(1), "true", "1 2: 1=10 2,"),
+    (Call::Put(2, 20, 3), "new, gone:", "2 5: 2=20 3, 1=10 2,"),
+    (Call::Put(3, 30, 1), "new, gone:", "3 6: 3=30 1, 2=20 3, 1=10 2,"),
+    (Call::Demote(3), "true", "3 6: 2=20 3, 1=10 2, 3=30 1,"),
+    (Call::Demote(1), "true", "3 6: 2=20 3, 3=30 1, 1=10 2,"),
+    (Call::Demote(9), "false", "3 6: 2=20 3, 3=30 1, 1=10 2,"),
+    // 1 went last, and so goes first
+    (Call::PutWeighed(4, 40, 5), "new, gone: 1=10 2,", "3 9: 4=40 5, 2=20 3, 3=30 1,"),
+    (Call::PopFirst, "took 4=40 5,", "2 4: 2=20 3, 3=30 1,"),
+    (Call::PutWeighed(2, 21, 11), "TooHeavy: 2=21", "2 4: 2=20 3, 3=30 1,"),
+    (Call::Drain, "gone: 2=20 3, 3=30 1,", "0 0:"),
+];
+
+#[test]
+fn entries_go_from_the_first_on(rt: HostRuntime) -> Result<(), Fail> {
+    let mut cache = Cache::new(rt.alloc(), 10, 5)?;
+    assert_eq!(rt; fault(rt.alloc(), &mut cache, &FROM_THE_FIRST)?, None);
+    assert_eq!(rt; (cache.most_weight(), cache.most_entries()), (10, 5));
+    Ok(())
+}
+
+// Entries that are reweighed, where 10 is the most.
+#[rattlefmt::skip]
+static REWEIGHED: [Step<u64, u64>; 12] = [
+    (Call::Reweigh(1, 10, 1), "none", "0 0:"),
+    (Call::Put(1, 10, 2), "new, gone:", "1 2: 1=10 2,"),
+    (Call::Put(2, 20, 3), "new, gone:", "2 5: 2=20 3, 1=10 2,"),
+    (Call::Put(3, 30, 4), "new, gone:", "3 9: 3=30 4, 2=20 3, 1=10 2,"),
+    // 3, 4 and 3 are 10
+    (Call::Reweigh(1, 11, 3), "gone:", "3 10: 1=11 3, 3=30 4, 2=20 3,"),
+    // 5 is left for the others: of 7 and 3 the first that fits is 3
+    (Call::Reweigh(2, 21, 5), "gone: 3=30 4,", "2 8: 2=21 5, 1=11 3,"),
+    (Call::Reweigh(1, 12, 11), "too heavy: 1=12 11,", "1 5: 2=21 5,"),
+    (Call::Reweigh(2, 22, 10), "gone:", "1 10: 2=22 10,"),
+    (Call::Reweigh(2, 23, 0), "gone:", "1 0: 2=23 0,"),
+    (Call::Put(4, 40, 10), "new, gone:", "2 10: 4=40 10, 2=23 0,"),
+    (Call::Reweigh(2, 24, 1), "gone: 4=40 10,", "1 1: 2=24 1,"),
+    (Call::Reweigh(2, 25, usize::MAX), "too heavy: 2=25 18446744073709551615,", "0 0:"),
+];
+
+#[test]
+fn entries_are_reweighed(rt: HostRuntime) -> Result<(), Fail> {
+    let mut cache = Cache::new(rt.alloc(), 10, 5)?;
+    assert_eq!(rt; fault(rt.alloc(), &mut cache, &REWEIGHED)?, None);
+    Ok(())
+}
+
+// A key, its value and its weight.
+type Parts = Option<(u64, u64, usize)>;
+
+fn parts(shown: Option<(&u64, &u64, usize)>) -> Parts {
+    let (key, value, weight) = shown?;
+    Some((*key, *value, weight))
+}
+
+// The first, the last, the last of the others and none; and how many are left after the first two.
+fn both_ends(cache: &Cache<u64, u64>) -> ([Parts; 4], usize) {
+    let mut entries = cache.iter();
+    let first = parts(entries.next());
+    let last = parts(entries.next_back());
+    let left = entries.len();
+    let middle = parts(entries.next_back());
+    let none = parts(entries.next());
+    ([first, last, middle, none], left)
+}
+
+#[test]
+fn entries_are_shown_from_both_ends(rt: HostRuntime) -> Result<(), Fail> {
+    let mut cache = Cache::new(rt.alloc(), 10, 5)?;
+    let puts = [(1u64, 10u64, 2usize), (2, 20, 3), (3, 30, 1)];
+    for (key, value, weight) in puts {
+        assert!(rt; cache.put(key, value, weight, |_gone| {}).is_ok());
+    }
+    assert_eq!(rt;
+        both_ends(&cache),
+        (
+            [Some((3, 30, 1)), Some((1, 10, 2)), Some((2, 20, 3)), None],
+            1
+        )
+    );
+    Ok(())
+}
+
 // Where there may be no entry.
 #[rattlefmt::skip]
 static NO_ENTRIES: [Step<u64, u64>; 2] = [
@@ -179,7 +268,7 @@ impl Hash for Alike {
 }
 
 #[rattlefmt::skip]
-static ALIKE: [Step<Alike, u64>; 8] = [
+static ALIKE: [Step<Alike, u64>; 15] = [
     (Call::Put(Alike(1), 10, 1), "new, gone:", "1 1: Alike(1)=10 1,"),
     (Call::Put(Alike(2), 20, 1), "new, gone:", "2 2: Alike(2)=20 1, Alike(1)=10 1,"),
     (Call::Look(Alike(1)), "true Some(10) Some(1)", "2 2: Alike(2)=20 1, Alike(1)=10 1,"),
@@ -188,6 +277,13 @@ static ALIKE: [Step<Alike, u64>; 8] = [
     (Call::Put(Alike(3), 30, 1), "new, gone: Alike(2)=20 1,", "2 2: Alike(3)=30 1, Alike(1)=11 1,"),
     (Call::Remove(Alike(1)), "took Alike(1)=11 1,", "1 1: Alike(3)=30 1,"),
     (Call::Look(Alike(1)), "false None None", "1 1: Alike(3)=30 1,"),
+    (Call::PutWeighed(Alike(4), 40, 2), "new, gone:", "2 3: Alike(4)=40 2, Alike(3)=30 1,"),
+    (Call::Demote(Alike(4)), "true", "2 3: Alike(3)=30 1, Alike(4)=40 2,"),
+    (Call::Demote(Alike(1)), "false", "2 3: Alike(3)=30 1, Alike(4)=40 2,"),
+    (Call::Reweigh(Alike(4), 41, 3), "gone:", "2 4: Alike(4)=41 3, Alike(3)=30 1,"),
+    (Call::Reweigh(Alike(1), 10, 3), "none", "2 4: Alike(4)=41 3, Alike(3)=30 1,"),
+    (Call::PopFirst, "took Alike(4)=41 3,", "1 1: Alike(3)=30 1,"),
+    (Call::Drain, "gone: Alike(3)=30 1,", "0 0:"),
 ];
 
 #[test]

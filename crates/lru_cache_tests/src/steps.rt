@@ -1,5 +1,5 @@
 //! A list of calls, done one by one: the text of each answer, and of the cache after it.
-use lru_cache::cache::{Cache, Entry};
+use lru_cache::cache::{Cache, Entry, Refused};
 use std::alloc::{AllocError, Global};
 use std::fmt::Debug;
 use std::hash::Hash;
@@ -27,6 +27,16 @@ pub enum Call<K, V> {
     PeekLast,
     /// Answers whether there is room for as many more.
     Reserve(usize),
+    /// Answers whether the key has an entry.
+    Demote(K),
+    /// Answers the entry.
+    PopFirst,
+    /// Answers what went.
+    Drain,
+    /// Puts an entry of a weight that a closure answers. Answers as `Put`.
+    PutWeighed(K, V, usize),
+    /// Gives the key's entry another value and another weight. Answers what went, or the entry that was too heavy.
+    Reweigh(K, V, usize),
     /// Keeps what weighs at most this. Answers the weights that were shown.
     Retain(usize),
 }
@@ -69,11 +79,44 @@ pub fn put<K: Hash + Debug + Default + Drop, V: Debug + Drop>(
         }
     });
     told?;
+    put_answer(alloc, &answer, &gone)
+}
+
+// The same where a closure answers the weight.
+fn put_weighed<K: Hash + Debug + Default + Drop, V: Debug + Drop>(
+    alloc: Global,
+    cache: &mut Cache<K, V>,
+    key: K,
+    value: V,
+    weight: usize,
+) -> Result<String, AllocError> {
+    let mut gone = String::new(alloc);
+    let mut told = Ok(());
+    let answer = cache.put_weighed(
+        key,
+        value,
+        |_key, _value| weight,
+        |entry| {
+            if told.is_ok() {
+                told = tell(&mut gone, &entry);
+            }
+        },
+    );
+    told?;
+    put_answer(alloc, &answer, &gone)
+}
+
+// The text of what a put answers.
+fn put_answer<K: Debug, V: Debug>(
+    alloc: Global,
+    answer: &Result<Option<Entry<K, V>>, Refused<K, V>>,
+    gone: &str,
+) -> Result<String, AllocError> {
     match answer {
         Ok(None) => format!(in alloc; "new, gone:{gone}"),
         Ok(Some(entry)) => {
             let mut text = String::from_str(alloc, "was")?;
-            tell(&mut text, &entry)?;
+            tell(&mut text, entry)?;
             write!(text, " gone:{gone}")?;
             Ok(text)
         }
@@ -91,6 +134,42 @@ fn update<K: Hash, V: Copy>(cache: &mut Cache<K, V>, key: &K, value: V) -> Optio
         *held = value;
         (was, weight)
     })
+}
+
+// Gives a key's entry another value and another weight, and answers the text of what is shown to its visitor, or of the
+// entry that was too heavy.
+fn reweigh<K: Hash + Debug + Default + Drop, V: Debug + Drop + Copy>(
+    alloc: Global,
+    cache: &mut Cache<K, V>,
+    key: &K,
+    value: V,
+    weight: usize,
+) -> Result<String, AllocError> {
+    let mut gone = String::new(alloc);
+    let mut told = Ok(());
+    let answer = cache.reweigh(
+        key,
+        |held: &mut V, _was| {
+            *held = value;
+            weight
+        },
+        |entry| {
+            if told.is_ok() {
+                told = tell(&mut gone, &entry);
+            }
+        },
+    );
+    told?;
+    match answer {
+        Ok(true) => format!(in alloc; "gone:{gone}"),
+        Ok(false) => format!(in alloc; "none{gone}"),
+        Err(entry) => {
+            let mut text = String::from_str(alloc, "too heavy:")?;
+            tell(&mut text, &entry)?;
+            write!(text, "{gone}")?;
+            Ok(text)
+        }
+    }
 }
 
 // Sets the limits, and answers the text of what is shown to its visitor.
@@ -119,6 +198,22 @@ fn clear<K: Hash + Debug + Default + Drop, V: Debug + Drop>(
     let mut gone = String::from_str(alloc, "gone:")?;
     let mut told = Ok(());
     cache.clear(|entry| {
+        if told.is_ok() {
+            told = tell(&mut gone, &entry);
+        }
+    });
+    told?;
+    Ok(gone)
+}
+
+// The same from the first on.
+fn drain<K: Hash + Debug + Default + Drop, V: Debug + Drop>(
+    alloc: Global,
+    cache: &mut Cache<K, V>,
+) -> Result<String, AllocError> {
+    let mut gone = String::from_str(alloc, "gone:")?;
+    let mut told = Ok(());
+    cache.drain(|entry| {
         if told.is_ok() {
             told = tell(&mut gone, &entry);
         }
@@ -205,6 +300,14 @@ where
             let is_reserved = cache.reserve(additional).is_ok();
             format!(in alloc; "{is_reserved}")
         }
+        Call::Demote(key) => {
+            let is_there = cache.demote(&key);
+            format!(in alloc; "{is_there}")
+        }
+        Call::PopFirst => taken(alloc, &cache.pop_first()),
+        Call::Drain => drain(alloc, cache),
+        Call::PutWeighed(key, value, weight) => put_weighed(alloc, cache, key, value, weight),
+        Call::Reweigh(key, value, weight) => reweigh(alloc, cache, &key, value, weight),
         Call::Retain(most) => retain(alloc, cache, most),
     }
 }

@@ -106,3 +106,42 @@ fn texts_are_found(rt: HostRuntime) -> Result<(), Fail> {
     );
     Ok(())
 }
+
+// A text weighs as many bytes as it has. Whether each call answers and leaves this.
+fn weigh_their_length(alloc: Global, cache: &mut Texts) -> Result<bool, AllocError> {
+    let (a, b) = (Some(text(alloc, "a")?), Some(text(alloc, "b")?));
+    let weigh = |_key: &Option<String>, value: &String| value.len();
+    let is_put = matches!(
+        cache.put_weighed(Some(text(alloc, "a")?), text(alloc, "xyz")?, weigh, |_| {}),
+        Ok(None)
+    ) && matches!(
+        cache.put_weighed(Some(text(alloc, "b")?), text(alloc, "uv")?, weigh, |_| {}),
+        Ok(None)
+    );
+    let is_last = cache.demote(&b)
+        & is_shown(
+            alloc,
+            cache,
+            "2 5: Some(\"a\")=\"xyz\" 3, Some(\"b\")=\"uv\" 2,",
+        )?;
+    let empty = |value: &mut String, _was: usize| {
+        value.clear();
+        value.len()
+    };
+    let is_less = matches!(cache.reweigh(&a, empty, |_| {}), Ok(true))
+        && is_shown(
+            alloc,
+            cache,
+            "2 2: Some(\"a\")=\"\" 0, Some(\"b\")=\"uv\" 2,",
+        )?;
+    let first = taken(alloc, &cache.pop_first())?;
+    Ok(is_put & is_last & is_less & (first.as_str() == "took Some(\"a\")=\"\" 0,"))
+}
+
+#[test]
+fn texts_weigh_their_length(rt: HostRuntime) -> Result<(), Fail> {
+    let mut cache = Cache::new(rt.alloc(), 6, 9)?;
+    assert!(rt; weigh_their_length(rt.alloc(), &mut cache)?);
+    assert_eq!(rt; (cache.len(), cache.weight()), (1, 2));
+    Ok(())
+}

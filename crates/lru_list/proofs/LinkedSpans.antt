@@ -4,7 +4,7 @@ use Rattle.std.specs.Prelude.{slice_get}
 use Rattle.std.proofs.lemmas.List.{take_at, length-append, map-append, length-map}
 use Rattle.lru_list.specs.declared.linked_list.Node.{Node}
 use Rattle.lru_list.specs.Linked.{times}
-use Rattle.lru_list.specs.Representation.Nodes.{pairs, at, nexts, prevs, items, path, order_of, stack_of, rest_of, Chain, IsList, IsSpan}
+use Rattle.lru_list.specs.Representation.Nodes.{pairs, at, nexts, prevs, items, path, order_of, stack_of, rest_of, pairs_of, Chain, IsList, IsSpan}
 use Rattle.lru_list.proofs.Chains.{times-cons, times-append, times_here, length-path, chain_split}
 use Rattle.lru_list.proofs.Splices.{last_split, live_range}
 use Rattle.lru_list.proofs.NodePairs.{pairs-append, pairs_first, indices-pairs}
@@ -59,6 +59,12 @@ module _ {K : Type 0} (ns : List (Node K)) where
   pub first_item : (head n : ℕ) (x : K) → slice_get (items ns) head ≡ Some x → rest_of ns head (suc n) ≡ x ∷ rest_of ns (at (nexts ns) head) n
   first_item head n x e = ap (map (λ (p : ℕ × K). p.1)) (pairs_first (items ns) head x (path (nexts ns) n (at (nexts ns) head)) e)
 
+  pub first_pair : (head n : ℕ) (x : K) → slice_get (items ns) head ≡ Some x → pairs_of ns head (suc n) ≡ (head, x) ∷ pairs_of ns (at (nexts ns) head) n
+  first_pair head n x e = pairs_first (items ns) head x (path (nexts ns) n (at (nexts ns) head)) e
+
+  pub length-pairs_of : (head tail len : ℕ) → IsSpan ns head tail len → length (pairs_of ns head len) ≡ len
+  length-pairs_of head tail len h = sym (length-map (pairs_of ns head len) (λ (p : ℕ × K). p.1)) ∙ length-rest head tail len h
+
   -- ---- a step from the back
   module _ (head tail n : ℕ) (h : IsSpan ns head tail (suc n)) where
     front : List ℕ
@@ -112,6 +118,11 @@ module _ {K : Type 0} (ns : List (Node K)) where
         ∙ map-append value (pairs (items ns) f) (pairs (items ns) (tail ∷ []))
         ∙ ap (λ zs. map value (pairs (items ns) f) ++ map value zs) (pairs_first (items ns) tail x [] e)
         ∙ ap (λ ps. map value (pairs (items ns) ps) ++ x ∷ []) (sym shorter)
+
+    pub last_pair : (x : K) → slice_get (items ns) tail ≡ Some x → pairs_of ns head (suc n) ≡ pairs_of ns head n ++ (tail, x) ∷ []
+    last_pair x e =
+        ap (pairs (items ns)) last_place ∙ pairs-append (items ns) (path (nexts ns) n head) (tail ∷ [])
+        ∙ ap (λ zs. pairs_of ns head n ++ zs) (pairs_first (items ns) tail x [] e)
 
   -- ---- a whole list
   pub whole_span : (top len : ℕ) → IsList ns top len → IsSpan ns (at (nexts ns) 0) (at (prevs ns) 1) len

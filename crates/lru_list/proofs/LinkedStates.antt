@@ -1,17 +1,17 @@
 -- What the calls of a list do to its nodes, as the list is seen.
-use Rattle.std.proofs.Common.{◌≡◌, ◌≢◌, ℕ, ◌+◌, ◌-◌, ◌<◌, ◌≤◌, cond, leb, ltb, ◌&&◌, List, [], ◌∷◌, ◌++◌, length, get_or, set, drop, Some, refl, sym, ap, ◌∙◌, subst, arith, inl, inr}
+use Rattle.std.proofs.Common.{◌≡◌, ◌≢◌, ℕ, ◌+◌, ◌-◌, ◌<◌, ◌≤◌, cond, leb, ltb, ◌&&◌, List, [], ◌∷◌, ◌++◌, length, get_or, set, drop, Some, refl, sym, ap, ◌∙◌, subst, arith, append_assoc, inl, inr}
 use Rattle.std.specs.Prelude.{slice_get, is_some, ◌⊎◌, Err}
 use Rattle.std.specs.Option.{option_map_or}
 use Rattle.std.proofs.lemmas.List.{length-map, length-set, length_push, length-append, append-nil}
 use Rattle.std.proofs.lemmas.Bool.{cases_lt, false≢true}
 use Rattle.std.proofs.lemmas.Option.{slice_get-get_or}
 use Rattle.lru_list.specs.declared.linked_list.Node.{Node}
-use Rattle.lru_list.specs.Linked.{Linked, linked, times, without, indices_of, item_of, IsLive, IsNumbered, made, next_slot, pushed_head, pushed_tail, promoted, Pushes}
+use Rattle.lru_list.specs.Linked.{Linked, linked, times, without, indices_of, item_of, IsLive, IsNumbered, made, next_slot, pushed_head, pushed_tail, promoted, demoted, Pushes}
 use Rattle.lru_list.specs.declared.linked_list.PushError.{PushError}
 use Rattle.lru_list.specs.declared.linked_list.PushError.TheVariants.{Memory, Full}
-use Rattle.lru_list.specs.Representation.Nodes.{pairs, at, nexts, prevs, items, path, order_of, stack_of, linked_of, IsLinked, IsStack, IsList, ReusesSlot, MakesSlot, TakesSlot}
-use Rattle.lru_list.proofs.Chains.{times-cons, times-append, times_here, absent_head, Found, found, length-path, path_along, path_stack, stack_elsewhere, stack_on, stack_cons, stack_none}
-use Rattle.lru_list.proofs.Splices.{Round, round, round_head, round_tail, links_round, next_round, live_range, free_range, at_most_once, taken_out, out_range, put_in, put_in_ranges, round_range, prev_written, grown, round_not_free}
+use Rattle.lru_list.specs.Representation.Nodes.{pairs, at, nexts, prevs, items, path, order_of, stack_of, linked_of, Chain, IsLinked, IsStack, IsList, ReusesSlot, MakesSlot, TakesSlot}
+use Rattle.lru_list.proofs.Chains.{times-cons, times-append, times_here, absent_head, chain_split, Found, found, length-path, path_along, path_stack, stack_elsewhere, stack_on, stack_cons, stack_none}
+use Rattle.lru_list.proofs.Splices.{Round, round, round_head, round_tail, links_round, next_round, live_range, free_range, at_most_once, taken_out, out_range, put_in, put_in_ranges, round_range, prev_written, grown, round_not_free, last_split}
 use Rattle.lru_list.proofs.NodePairs.{pairs-append, pairs_same, pairs_elsewhere, pairs_first, some_at, without_pairs, item_absent, item_found, indices-pairs, slice_get-set_same, slice_get_push, slice_get-append_left}
 
 pub same_linked : {K : Type 0} (a b c d : List (ℕ × K)) → a ≡ b → c ≡ d → linked a c ≡ linked b d
@@ -174,6 +174,15 @@ module _ {K : Type 0} where
         let s = stands ns top len h i live in
         ap (λ zs. without (pairs (items ns) zs) i) s.is ∙ without_pairs (items ns) i s.front s.back s.first vs_none
 
+    -- the pairs, with its last
+    demoted_pairs : pairs (items ns) (((stands ns top len h i live).front ++ (stands ns top len h i live).back) ++ i ∷ []) ≡ (demoted (linked_of ns top len) i).live
+    demoted_pairs =
+        let s = stands ns top len h i live in
+        pairs-append (items ns) (s.front ++ s.back) (i ∷ [])
+        ∙ ap (λ zs. pairs (items ns) (s.front ++ s.back) ++ zs) (pairs_first (items ns) i i_item.0 [] i_item.1)
+        ∙ ap (λ zs. zs ++ (i, i_item.0) ∷ []) (sym live_without)
+        ∙ sym (ap (λ o. option_map_or (λ y. without (linked_of ns top len).live i ++ (i, y) ∷ []) o (linked_of ns top len).live) (live_item i_item.0 i_item.1))
+
     -- its neighbours are joined to each other
     pub record Unlinked (out : List (Node K)) : Type 0 where
       pub nexts_are : nexts out ≡ set (set (nexts ns) (at (prevs ns) i) (at (nexts ns) i)) i 4294967295
@@ -227,6 +236,21 @@ module _ {K : Type 0} where
           let within = put_in_ranges (nexts out) (prevs out) free [] (s.front ++ s.back) i out_linked r in
           omega (arith, within.1, q.0, ap length u.nexts_are, length-set (set (nexts ns) (at (prevs ns) i) (at (nexts ns) i)) i 4294967295, length-set (nexts ns) (at (prevs ns) i) (at (nexts ns) i), length-nexts ns)
 
+      -- and the last link back to one
+      out_linked_last : IsLinked (nexts out) (prevs out) (i ∷ stack_of ns top len) (((stands ns top len h i live).front ++ (stands ns top len h i live).back) ++ [])
+      out_linked_last =
+          let s = stands ns top len h i live in
+          subst (IsLinked (nexts out) (prevs out) (i ∷ stack_of ns top len)) (sym (append-nil (s.front ++ s.back))) out_linked
+
+      pub last_range : at (prevs out) 1 < length ns
+      last_range =
+          let s = stands ns top len h i live in
+          let free = stack_of ns top len in
+          let r = round_tail (s.front ++ s.back) in
+          let q = next_round (nexts out) (prevs out) (s.front ++ s.back) [] r out_linked_last.chain in
+          let within = put_in_ranges (nexts out) (prevs out) free (s.front ++ s.back) [] i out_linked_last r in
+          omega (arith, within.0, q.1, ap length u.nexts_are, length-set (set (nexts ns) (at (prevs ns) i) (at (nexts ns) i)) i 4294967295, length-set (nexts ns) (at (prevs ns) i) (at (nexts ns) i), length-nexts ns)
+
       -- the list after a place went first
       pub promoted_shown : (ns' : List (Node K)) (next : ℕ) → next ≡ at (nexts out) 0 → nexts ns' ≡ set (set (nexts out) 0 i) i next → prevs ns' ≡ set (set (prevs out) i 0) next i → items ns' ≡ items out →
           Shows ns' top len (promoted (linked_of ns top len) i).live (linked_of ns top len).freed
@@ -243,6 +267,20 @@ module _ {K : Type 0} where
           ∙ sym (ap (λ o. option_map_or (λ y. (i, y) ∷ without (linked_of ns top len).live i) o (linked_of ns top len).live) (live_item i_item.0 i_item.1)))
           (ap (λ zs. pairs zs free) u.items_are)
 
+      -- the list after a place went last
+      pub demoted_shown : (ns' : List (Node K)) (prev : ℕ) → prev ≡ at (prevs out) 1 → nexts ns' ≡ set (set (nexts out) prev i) i 1 → prevs ns' ≡ set (set (prevs out) i prev) 1 i → items ns' ≡ items out →
+          Shows ns' top len (demoted (linked_of ns top len) i).live (linked_of ns top len).freed
+      demoted_shown ns' prev p_is ne pe ie =
+          let s = stands ns top len h i live in
+          let free = stack_of ns top len in
+          let r = round_tail (s.front ++ s.back) in
+          let q = next_round (nexts out) (prevs out) (s.front ++ s.back) [] r out_linked_last.chain in
+          let n : length ((s.front ++ s.back) ++ i ∷ []) ≡ len = omega (arith, others_length, ranges.some, length_push (s.front ++ s.back) i) in
+          reshown ns' top len (pairs (items out) ((s.front ++ s.back) ++ i ∷ [])) (pairs (items out) free) (demoted (linked_of ns top len) i).live (linked_of ns top len).freed
+          (put_shown out ns' top free (s.front ++ s.back) [] i r out_linked_last out_stack prev 1 (p_is ∙ q.1) refl ne pe ie len n)
+          (ap (λ zs. pairs zs ((s.front ++ s.back) ++ i ∷ [])) u.items_are ∙ demoted_pairs)
+          (ap (λ zs. pairs zs free) u.items_are)
+
     nothing_before : (before after : List ℕ) → times i before ≡ 0 → at (nexts ns) 0 ≡ i → IsLinked (nexts ns) (prevs ns) (stack_of ns top len) (before ++ i ∷ after) → before ≡ []
     nothing_before [] after none e l = refl
     nothing_before (u ∷ before) after none e l = absurd (absent_head i u before none (sym l.chain.0 ∙ e))
@@ -256,6 +294,26 @@ module _ {K : Type 0} where
         (ap (pairs (items ns)) s.is ∙ ap (λ zs. pairs (items ns) (zs ++ i ∷ s.back)) before ∙ ap (λ zs. pairs (items ns) (i ∷ zs ++ s.back)) (sym before)
         ∙ pairs_first (items ns) i i_item.0 (s.front ++ s.back) i_item.1 ∙ ap (λ zs. (i, i_item.0) ∷ zs) (sym live_without)
         ∙ sym (ap (λ o. option_map_or (λ y. (i, y) ∷ without (linked_of ns top len).live i) o (linked_of ns top len).live) (live_item i_item.0 i_item.1)))
+        refl
+
+    nothing_behind : (before after : List ℕ) → times i after ≡ 0 → at (prevs ns) 1 ≡ i → IsLinked (nexts ns) (prevs ns) (stack_of ns top len) (before ++ i ∷ after) → after ≡ []
+    nothing_behind before [] none e l = refl
+    nothing_behind before (a ∷ after) none e l =
+        let s = last_split a after in
+        let whole : 0 ∷ (before ++ i ∷ a ∷ after) ++ 1 ∷ [] ≡ (0 ∷ before ++ i ∷ s.0) ++ s.1 ∷ 1 ∷ [] =
+        ap (λ zs. 0 ∷ (before ++ i ∷ zs) ++ 1 ∷ []) s.2
+        ∙ ap (λ zs. 0 ∷ zs) (append_assoc before (i ∷ s.0 ++ s.1 ∷ []) (1 ∷ []) ∙ ap (λ zs. before ++ i ∷ zs) (append_assoc s.0 (s.1 ∷ []) (1 ∷ [])) ∙ sym (append_assoc before (i ∷ s.0) (s.1 ∷ 1 ∷ []))) in
+        let two = chain_split (nexts ns) (prevs ns) (0 ∷ before ++ i ∷ s.0) s.1 (1 ∷ []) (subst (Chain (nexts ns) (prevs ns)) whole l.chain) in
+        absurd (absent_head i s.1 [] (omega (arith, none, ap (times i) s.2, times-append i s.0 (s.1 ∷ []))) (sym two.1.1 ∙ e))
+
+    -- a place that is last already
+    pub demoted_last : at (prevs ns) 1 ≡ i → linked_of ns top len ≡ demoted (linked_of ns top len) i
+    demoted_last e =
+        let s = stands ns top len h i live in
+        let behind = nothing_behind s.front s.back vs_none e linked_at in
+        same_linked (linked_of ns top len).live (demoted (linked_of ns top len) i).live (linked_of ns top len).freed (linked_of ns top len).freed
+        (ap (pairs (items ns)) s.is ∙ ap (λ zs. pairs (items ns) (s.front ++ i ∷ zs)) behind
+        ∙ ap (λ zs. pairs (items ns) (zs ++ i ∷ [])) (sym (append-nil s.front) ∙ ap (λ zs. s.front ++ zs) (sym behind)) ∙ demoted_pairs)
         refl
 
   -- ---- a slot taken for an item

@@ -2,6 +2,7 @@
 use Rattle.std.specs.Prelude.{◌≡◌, ℕ, ◌+◌, ◌-◌, ◌<◌, ◌==◌, ◌&&◌, not, List, [], ◌∷◌, ◌++◌, length, drop, map, filter, find, count_by, reverse, slice_get, slice_index_or, Option, Some, None, IsSome, option_map, Result, Ok, Err, refl, nat_le, nat_lt, if◌then◌else◌}
 use Rattle.std.specs.Option.{option_map_or}
 use Rattle.std.specs.Coded.{Coded, code_by, coded×, coded_ℕ, coded_list}
+use Rattle.std.specs.Borrow.{Bor}
 use Rattle.lru_list.specs.declared.linked_list.PushError.{PushError}
 use Rattle.lru_list.specs.declared.linked_list.PushError.TheVariants.{Memory, Full}
 
@@ -26,6 +27,10 @@ most_items = 4294967293
 -- what an index that is given shows
 abbrev pub itself : ℕ → ℕ
 itself i = i
+
+-- what an index with a reference to its item shows
+abbrev pub with_its_item : {K : Type 0} → ℕ × Bor K → ℕ × K
+with_its_item p = (p.0, p.1.now)
 
 -- how often a number stands in a list
 abbrev pub times : ℕ → List ℕ → ℕ
@@ -117,6 +122,10 @@ module _ {K : Type 0} where
   -- an index goes first
   abbrev pub promoted : Linked K → ℕ → Linked K
   promoted l i = linked (option_map_or (λ x. (i, x) ∷ without l.live i) (item_of l.live i) l.live) l.freed
+
+  -- an index goes last
+  abbrev pub demoted : Linked K → ℕ → Linked K
+  demoted l i = linked (option_map_or (λ x. without l.live i ++ (i, x) ∷ []) (item_of l.live i) l.live) l.freed
 
   -- what a push may answer, and leave: `pushed` is the list with the item in it. A full list refuses, and so does want of memory, where no slot is freed
   abbrev pub Pushes : Linked K → Linked K → K → Result ℕ (PushError K) → Linked K → Type 0

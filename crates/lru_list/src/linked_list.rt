@@ -10,7 +10,7 @@ ghost use Rattle.std.specs.Borrow.{sem};
 ghost use Rattle.std.specs.Iterator.{at_most, UpTo};
 ghost use Rattle.std.specs.Iterator.SizeHint.{IsWithinCount};
 ghost use Rattle.std.specs.Map.Iter.{TakesFirst, TakesLast, ShowsInOrder, ShowsInReverse, deref};
-ghost use Rattle.lru_list.specs.Linked.{Linked, linked, no_slot, items_of, indices_of, itself, IsNumbered, IsLive, IsPlace, head_of, tail_of, next_of, prev_of, item_at, pushed_head, pushed_tail, promoted, Pushes, Removes, PopsTail, item_of, number_of};
+ghost use Rattle.lru_list.specs.Linked.{Linked, linked, no_slot, items_of, indices_of, itself, IsNumbered, IsLive, IsPlace, head_of, tail_of, next_of, prev_of, item_at, pushed_head, pushed_tail, promoted, demoted, with_its_item, Pushes, Removes, PopsTail, item_of, number_of};
 ghost use Rattle.lru_list.specs.Representation.Nodes.{nexts, prevs, items, at as link_at, TakesSlot};
 
 use std::alloc::{AllocError, Global};
@@ -439,6 +439,23 @@ impl<K> LinkedList<K> {
         link_between(&mut self.nodes, HEAD, place, next);
     }
 
+    /// Puts an item last.
+    ///
+    /// The index has to be of an item in the list, as for `remove`.
+    pub fn demote(&mut self, index: Index)
+        requires { IsLive self.old index }
+        ensures demotes { self.new ≡ demoted self.old index }
+        ensures numbered { IsNumbered self.new }
+    {
+        if self.nodes[TAIL as usize].prev as usize == index {
+            return;
+        }
+        let place = index as u32;
+        unlink(&mut self.nodes, place);
+        let prev = self.nodes[TAIL as usize].prev;
+        link_between(&mut self.nodes, prev, place, TAIL);
+    }
+
     /// The index behind another: the next item's, 1 behind the last item, and 4294967295 for the tail sentinel and
     /// for a freed slot.
     ///
@@ -500,6 +517,19 @@ impl<K> LinkedList<K> {
             first: nodes[HEAD as usize].next,
             last: nodes[TAIL as usize].prev,
             count: self.len,
+        }
+    }
+
+    /// An iterator over the indices of the items, each with its item, from head to tail.
+    pub fn entries(&self) -> LinkedListEntries<'_, K>
+        ensures rest { result ≡ self.now.live }
+    {
+        let nodes = self.nodes.as_slice();
+        LinkedListEntries {
+            nodes,
+            front: nodes[HEAD as usize].next,
+            back: nodes[TAIL as usize].prev,
+            left: self.len,
         }
     }
 }
@@ -649,3 +679,77 @@ impl<'a, K> ExactSizeIterator for LinkedListIndices<'a, K> {
 }
 
 impl<'a, K> FusedIterator for LinkedListIndices<'a, K> {}
+
+/// An iterator over the indices of a list's items, each with its item, from head to tail.
+#[derive(Drop)]
+pub struct LinkedListEntries<'a, K> {
+    nodes: &'a [Node<K>],
+    front: u32,
+    back: u32,
+    left: u32,
+}
+
+impl<'a, K> Model for LinkedListEntries<'a, K> {
+    ghost use Rattle.std.specs.Prelude.{List, ℕ};
+
+    ghost Value = { List (ℕ × K) };
+
+    ghost use Rattle.lru_list.specs.Representation.Nodes.{pairs_of, IsSpan};
+
+    ghost view = { λ it. pairs_of it.nodes.now it.front it.left };
+
+    ghost invariant = { λ it. IsSpan it.nodes.now it.front it.back it.left };
+}
+
+impl<'a, K> Iterator for LinkedListEntries<'a, K> {
+    type Item = (Index, &'a K);
+
+    ghost next_gives = { TakesFirst with_its_item };
+
+    ghost remaining = { λ rest. at_most (length rest) };
+
+    fn next(&mut self) -> Option<(Index, &'a K)> {
+        if self.left == 0 {
+            return None;
+        }
+        let nodes = self.nodes;
+        let index = self.front;
+        let node = &nodes[index as usize];
+        self.front = node.next;
+        self.left -= 1;
+        Some((index as usize, &node.item))
+    }
+
+    fn size_hint(&self) -> (usize, Option<usize>)
+        ensures lower { IsWithinCount result.0 (at_most (length self.now)) }
+        ensures upper { IfSome result.1 (UpTo (at_most (length self.now))) }
+        ensures exact { result ≡ (length self.now, Some (length self.now)) }
+    {
+        let len = self.len();
+        (len, Some(len))
+    }
+}
+
+impl<'a, K> DoubleEndedIterator for LinkedListEntries<'a, K> {
+    ghost next_back_gives = { TakesLast with_its_item };
+
+    fn next_back(&mut self) -> Option<(Index, &'a K)> {
+        if self.left == 0 {
+            return None;
+        }
+        let nodes = self.nodes;
+        let place = self.back;
+        let node = &nodes[place as usize];
+        self.back = node.prev;
+        self.left -= 1;
+        Some((place as usize, &node.item))
+    }
+}
+
+impl<'a, K> ExactSizeIterator for LinkedListEntries<'a, K> {
+    fn len(&self) -> usize {
+        self.left as usize
+    }
+}
+
+impl<'a, K> FusedIterator for LinkedListEntries<'a, K> {}

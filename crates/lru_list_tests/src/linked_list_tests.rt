@@ -15,6 +15,8 @@ enum Call {
     Remove(Index),
     // Answers whether the index has an item, by the index.
     Promote(Index),
+    // The same.
+    Demote(Index),
     Peek(Index),
     Head,
     Tail,
@@ -83,6 +85,21 @@ static PROMOTES_AND_WALKS: [Step; 24] = [
     (Call::Peek(NO_SLOT), None, &[3, 1, 2, 4]),
 ];
 
+#[rattlefmt::skip]
+static DEMOTES: [Step; 11] = [
+    (Call::PushTail(1), Some(2), &[1]),
+    (Call::Demote(2), Some(2), &[1]),
+    (Call::PushTail(2), Some(3), &[1, 2]),
+    (Call::PushTail(3), Some(4), &[1, 2, 3]),
+    (Call::Demote(2), Some(2), &[2, 3, 1]),
+    (Call::Demote(4), Some(4), &[2, 1, 3]),
+    (Call::Demote(4), Some(4), &[2, 1, 3]),
+    (Call::Prev(1), Some(4), &[2, 1, 3]),
+    (Call::Next(4), Some(1), &[2, 1, 3]),
+    (Call::Demote(9), None, &[2, 1, 3]),
+    (Call::PopTail, Some(3), &[2, 1]),
+];
+
 static MAKES_ROOM_IN_AN_EMPTY_LIST: [Step; 2] = [
     (Call::Reserve(100), Some(100), &[]),
     (Call::Len, Some(0), &[]),
@@ -122,6 +139,14 @@ fn promote_at<K: Default + Drop>(list: &mut LinkedList<K>, index: Index) -> bool
     live
 }
 
+fn demote_at<K: Default + Drop>(list: &mut LinkedList<K>, index: Index) -> bool {
+    let live = list.is_live(index);
+    if live {
+        list.demote(index);
+    }
+    live
+}
+
 fn number_of(index: Option<Index>) -> Option<u64> {
     match index {
         None => None,
@@ -150,6 +175,7 @@ fn answer_of(list: &mut LinkedListU64, call: Call) -> Result<Option<u64>, PushEr
         Call::PopTail => list.pop_tail(),
         Call::Remove(index) => remove_at(list, index),
         Call::Promote(index) if promote_at(list, index) => Some(index as u64),
+        Call::Demote(index) if demote_at(list, index) => Some(index as u64),
         Call::Reserve(count) if list.reserve(count).is_ok() => Some(count as u64),
         _ => look(list, call),
     })
@@ -172,18 +198,19 @@ fn fault(alloc: Global, capacity: usize, steps: &[Step]) -> Result<Option<usize>
     Ok(None)
 }
 
-fn faults(alloc: Global) -> Result<[Option<usize>; 4], Fail> {
+fn faults(alloc: Global) -> Result<[Option<usize>; 5], Fail> {
     Ok([
         fault(alloc, 0, &USES_A_FREED_SLOT_AGAIN)?,
         fault(alloc, 0, &FINDS_NEAR_THE_HEAD)?,
         fault(alloc, 4, &PROMOTES_AND_WALKS)?,
+        fault(alloc, 3, &DEMOTES)?,
         fault(alloc, 0, &MAKES_ROOM_IN_AN_EMPTY_LIST)?,
     ])
 }
 
 #[test]
 fn answers_and_leaves_what_it_should(rt: HostRuntime) -> Result<(), Fail> {
-    assert_eq!(rt; faults(rt.alloc())?, [None; 4]);
+    assert_eq!(rt; faults(rt.alloc())?, [None; 5]);
     Ok(())
 }
 
@@ -260,6 +287,40 @@ fn tells_its_indices_from_both_ends(rt: HostRuntime) -> Result<(), Fail> {
     assert_eq!(rt;
         indices_of_three(rt.alloc())?,
         ([Some(4), Some(3), Some(2), None], 1)
+    );
+    Ok(())
+}
+
+// An index with its item.
+type Entry = Option<(Index, u64)>;
+
+fn entry(shown: Option<(Index, &u64)>) -> Entry {
+    let (index, item) = shown?;
+    Some((index, *item))
+}
+
+// The entries from the front, the back, the back and the front, and how many were left after the first two.
+fn entries_of(list: &LinkedListU64) -> ([Entry; 4], usize) {
+    let mut entries = list.entries();
+    let first = entry(entries.next());
+    let last = entry(entries.next_back());
+    let left = entries.len();
+    let middle = entry(entries.next_back());
+    let none = entry(entries.next());
+    ([first, last, middle, none], left)
+}
+
+fn entries_of_three(alloc: Global) -> Result<([Entry; 4], usize), Fail> {
+    let mut list = LinkedListU64::with_capacity(alloc, 0)?;
+    push_three(&mut list)?;
+    Ok(entries_of(&list))
+}
+
+#[test]
+fn shows_indices_with_their_items(rt: HostRuntime) -> Result<(), Fail> {
+    assert_eq!(rt;
+        entries_of_three(rt.alloc())?,
+        ([Some((4, 9)), Some((3, 8)), Some((2, 7)), None], 1)
     );
     Ok(())
 }

@@ -5,12 +5,13 @@ use Rattle.std.specs.Cmp.{IsEquivalence}
 use Rattle.std.proofs.lemmas.Bool.{false≢true}
 use Rattle.std.proofs.lemmas.List.{map-append, get_or-set_other}
 use Rattle.lru_index.specs.Index.{Index, Indexes, gone_at, room_of, Finds as index_Finds}
-use Rattle.lru_list.specs.Linked.{Linked, item_of, indices_of, times, tail_of, IsNumbered, Removes as list_Removes, without as list_without}
+use Rattle.lru_list.specs.Linked.{Linked, item_of, indices_of, times, head_of, tail_of, IsNumbered, Removes as list_Removes, without as list_without}
 use Rattle.lru_list.proofs.Chains.{times_here, times-append}
+use Rattle.lru_list.proofs.LinkedLaws.{item_of_same}
 use Rattle.lru_rows.specs.declared.rows.Taken.{Taken}
-use Rattle.lru_rows.specs.Rows.{placed, Recency, recency, row_at, row_of, without, taken, Removes, PopsLast}
+use Rattle.lru_rows.specs.Rows.{placed, Recency, recency, row_at, row_of, without, taken, Removes, PopsLast, PopsFirst}
 use Rattle.lru_rows.specs.Representation.Columns.{value_at, rows_in, IsKept}
-use Rattle.lru_rows.proofs.Orders.{item_end}
+use Rattle.lru_rows.proofs.Orders.{item_end, taken_back}
 use Rattle.lru_rows.proofs.Listed.{some_of, rows-append, rows-cons, rows-same}
 use Rattle.lru_rows.proofs.Kept.{Stands, stands_by_key, once_all}
 use Rattle.lru_rows.proofs.Moves.{kept_removed, rows_removed, free_removed, kept_as, without_end, not_there}
@@ -45,6 +46,13 @@ last_key {K = K} eq hash order index weights values kept p k found l =
     ) in
     let key_is : l.key ≡ k = some_of l.key k (sym (item_end l.front p l.key none) ∙ ap (λ ps. item_of ps p) (sym l.whole) ∙ found) in
     l.whole ∙ ap (λ x. l.front ++ (p, x) ∷ []) key_is
+
+-- the first pair, by its place and its key
+pub first_pair : {K : Type 0} (live : List (ℕ × K)) (p : ℕ) (k : K) → Some p ≡ slice_get (indices_of live) 0 → item_of live p ≡ Some k → (rest : List (ℕ × K)) × (live ≡ (p, k) ∷ rest)
+first_pair [] p k is found = absurd (false≢true (ap is_some (sym is)))
+first_pair (q ∷ qs) p k is found =
+    let place_is : q.0 ≡ p = sym (some_of p q.0 is) in
+    (qs, ap (λ i. (i, q.1) ∷ qs) place_is ∙ ap (λ x. (p, x) ∷ qs) (some_of q.1 k (sym (item_of_same q qs p place_is) ∙ found)))
 
 module _ {K S T : Type 0} (eq : K → K → Bool) (hash : S → K → ℕ) (order : Linked K) (index : Index S) (weights : List ℕ) (values : List (Option T)) (kept : IsKept eq hash order index weights values)
     (r : Recency K T) (view : recency (rows_in weights values order.live) (length order.freed) ≡ r) where
@@ -128,6 +136,27 @@ module _ {K S T : Type 0} (eq : K → K → Bool) (hash : S → K → ℕ) (orde
             ∙ ap (rows_in weights values') (without_end front p k none_before)
             ∙ rows-same weights weights values values' front (λ q h. refl) (λ q h. ap (λ vs. value_at vs q) values_is ∙ get_or-set_other values p q None None (not_there p q (indices_of front) none_before h))
 
+    -- of the first
+    pub pops_first_row : (rest : List (ℕ × K)) → order.live ≡ (p, k) ∷ rest → PopsFirst r (Some (record { key = key; value = d; weight = w })) (recency (rows_in weights' values' order'.live) (length order'.freed))
+    pops_first_row rest whole = (
+      placed p k d (get_or weights p 0),
+      rows_in weights values rest,
+      sym (rows_are eq hash order index weights values kept r view) ∙ ap (rows_in weights values) whole ∙ rows-cons weights values (p, k) rest d value_is,
+      out_is,
+      view_out ∙ ap (λ rs. recency rs (r.free + 1)) rest_rows,
+    )
+      where
+        none_behind : times p (indices_of rest) ≡ 0
+        none_behind = omega (arith, once_all eq hash order index weights values kept p, ap (λ ps. times p (indices_of ps)) whole, times_here p (indices_of rest))
+
+        rest_rows : without r.rows p ≡ rows_in weights values rest
+        rest_rows =
+            sym rows_out ∙ ap (λ ws. rows_in ws values' order'.live) same_weights
+            ∙ ap (λ (l : Linked K). rows_in weights values' l.live) removes.1.2
+            ∙ ap (λ ps. rows_in weights values' (list_without ps p)) whole
+            ∙ ap (rows_in weights values') (taken_back rest p k none_behind)
+            ∙ rows-same weights weights values values' rest (λ q h. refl) (λ q h. ap (λ vs. value_at vs q) values_is ∙ get_or-set_other values p q None None (not_there p q (indices_of rest) none_behind h))
+
   pub nothing_found : IsEquivalence eq → (asked : K) → index_Finds eq (item_of order.live) asked None → row_of eq r.rows asked ≡ None
   nothing_found laws asked absent = seen_finds eq hash order index weights values kept r view laws asked None absent
 
@@ -150,6 +179,16 @@ module _ {K S T : Type 0} (eq : K → K → Bool) (hash : S → K → ℕ) (orde
   pops_none is o none =
       subst (λ x. PopsLast r x r) (sym none)
       (sym (rows_are eq hash order index weights values kept r view) ∙ ap (rows_in weights values) (no_tail order.live is), refl)
+
+  -- nor has one with no head
+  no_head : (live : List (ℕ × K)) → None ≡ slice_get (indices_of live) 0 → live ≡ []
+  no_head [] is = refl
+  no_head (q ∷ qs) is = absurd (false≢true (ap is_some is))
+
+  pub pops_first_none : None ≡ head_of order → (o : Option (Taken K T)) → o ≡ None → PopsFirst r o r
+  pops_first_none is o none =
+      subst (λ x. PopsFirst r x r) (sym none)
+      (sym (rows_are eq hash order index weights values kept r view) ∙ ap (rows_in weights values) (no_head order.live is), refl)
 
   -- the index finds the last place of the last key
   pub found_last : IsEquivalence eq → (p : ℕ) (k : K) → item_of order.live p ≡ Some k → (o : Option ℕ) → index_Finds eq (item_of order.live) k o → o ≡ Some p

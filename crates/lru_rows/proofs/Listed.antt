@@ -9,7 +9,7 @@ use Rattle.std.proofs.lemmas.List.Elements.{filter_map-append}
 use Rattle.lru_list.specs.Linked.{item_of, indices_of, times, without as list_without}
 use Rattle.lru_list.proofs.Chains.{times_here, times_other}
 use Rattle.lru_list.proofs.LinkedLaws.{item_of_same, item_of_other}
-use Rattle.lru_rows.specs.Rows.{Placed, placed, row_at, without, promoted, with_weight, with_value}
+use Rattle.lru_rows.specs.Rows.{Placed, placed, row_at, without, promoted, demoted, with_weight, with_value}
 use Rattle.lru_rows.specs.Representation.Columns.{value_at, row_in, rows_in}
 use Rattle.lru_rows.proofs.Orders.{by_place}
 
@@ -137,6 +137,14 @@ module _ {K T : Type 0} where
         rows-cons (i, k) (list_without live i) d value
         ∙ ap (λ rs. placed i k d (get_or weights i 0) ∷ rs) (rows-without live i)
         ∙ ap (λ o. option_map_or (λ r. r ∷ without (rows_in weights values live) i) o (rows_in weights values live)) (sym (row_found live i k d found value held))
+
+    -- and last where that does
+    pub rows-last : (live : List (ℕ × K)) (i : ℕ) (k : K) (d : T) → item_of live i ≡ Some k → value_at values i ≡ Some d → Held live → rows_in weights values (list_without live i ++ (i, k) ∷ []) ≡ demoted (rows_in weights values live) i
+    rows-last live i k d found value held =
+        rows-append (list_without live i) ((i, k) ∷ [])
+        ∙ ap (λ rs. rs ++ rows_in weights values ((i, k) ∷ [])) (rows-without live i)
+        ∙ ap (λ rs. without (rows_in weights values live) i ++ rs) (rows-cons (i, k) [] d value)
+        ∙ ap (λ o. option_map_or (λ r. without (rows_in weights values live) i ++ r ∷ []) o (rows_in weights values live)) (sym (row_found live i k d found value held))
 
   -- columns that agree on the places of an order stand for the same rows
   pub rows-same : (weights weights' : List ℕ) (values values' : List (Option T)) (live : List (ℕ × K)) →

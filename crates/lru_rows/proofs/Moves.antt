@@ -7,13 +7,13 @@ use Rattle.std.proofs.lemmas.List.{get_or-set_same, get_or-set_other, length-set
 use Rattle.lru_index.specs.Index.{Index, Indexes, Inserts, IsEmpty, IsFree, put, gone, gone_at, room_of}
 use Rattle.lru_index.proofs.ForCallers.{of_none, same_keys, is_free}
 use Rattle.lru_index.proofs.Tables.{gone_here, gone_other, put_other}
-use Rattle.lru_list.specs.Linked.{Linked, linked, item_of, indices_of, times, IsNumbered, IsLive, next_slot, promoted as list_promoted, pushed_head, pushed_tail, removed, without as list_without}
+use Rattle.lru_list.specs.Linked.{Linked, linked, item_of, indices_of, times, IsNumbered, IsLive, next_slot, promoted as list_promoted, demoted as list_demoted, pushed_head, pushed_tail, removed, without as list_without}
 use Rattle.lru_list.proofs.Chains.{times_here, times_other, absent_head, absent_tail}
 use Rattle.lru_list.proofs.LinkedLaws.{next_slot_absent, stands_from_item, stands_in}
-use Rattle.lru_rows.specs.Rows.{placed, row_at, row_of, promoted, without, with_weight, with_value}
+use Rattle.lru_rows.specs.Rows.{placed, row_at, row_of, promoted, demoted, without, with_weight, with_value}
 use Rattle.lru_rows.specs.Representation.Columns.{value_at, rows_in, IsKept, Lengthens}
-use Rattle.lru_rows.proofs.Orders.{by_place, item_absent, put_first, put_last, gone_without, promoted_is, same_promoted}
-use Rattle.lru_rows.proofs.Listed.{row_missing, rows-same, rows-first, rows-weight, rows-value, rows-without, rows-cons, rows-append}
+use Rattle.lru_rows.proofs.Orders.{by_place, item_absent, item_end, item_before_end, item_kept, put_first, put_last, gone_without, promoted_is, demoted_is, same_promoted}
+use Rattle.lru_rows.proofs.Listed.{row_missing, rows-same, rows-first, rows-last, rows-weight, rows-value, rows-without, rows-cons, rows-append}
 use Rattle.lru_rows.proofs.Kept.{is_some_of, Stands, held_all, once_all, within, absent_key}
 
 -- what is read of a place that holds data, with any default
@@ -123,6 +123,39 @@ module _ {K S T : Type 0} (eq : K → K → Bool) (hash : S → K → ℕ) (orde
 
       pub free_promoted : length order'.freed ≡ length order.freed
       free_promoted = ap length freed_is
+
+    -- a row goes last
+    module _ (order' : Linked K) (is : order' ≡ list_demoted order i) (numbered : IsNumbered order') where
+      last_live_is : order'.live ≡ list_without order.live i ++ (i, s.key) ∷ []
+      last_live_is = ap (λ (l : Linked K). l.live) is ∙ demoted_is order i s.key s.found
+
+      last_freed_is : order'.freed ≡ order.freed
+      last_freed_is = ap (λ (l : Linked K). l.freed) is
+
+      last_items : (q : ℕ) → item_of order.live q ≡ item_of order'.live q
+      last_items q =
+          elim (cases_eq i q) [
+            | inl e ↦ subst (λ z. item_of order.live z ≡ item_of (list_without order.live i ++ (i, s.key) ∷ []) z) e (s.found ∙ sym (item_end (list_without order.live i) i s.key (without_times order.live i)))
+            | inr ne ↦ sym (item_before_end (list_without order.live i) i s.key q ne ∙ item_kept order.live i q ne)
+          ]
+          ∙ ap (λ ps. item_of ps q) (sym last_live_is)
+
+      pub kept_demoted : IsKept eq hash order' index weights values
+      kept_demoted = record {
+        numbered = numbered;
+        held = λ p live. kept.held p (subst IsSome (sym (last_items p)) live);
+        indexed = same_keys eq hash index (item_of order.live) (item_of order'.live) last_items kept.indexed;
+        wide = omega (arith, kept.wide, ap length last_live_is, length-append (list_without order.live i) ((i, s.key) ∷ []), ap length last_freed_is, without_length order.live i, there_once);
+        weighed = kept.weighed;
+        indexable = kept.indexable;
+        few = kept.few;
+      }
+
+      pub rows_demoted : rows_in weights values order'.live ≡ demoted (rows_in weights values order.live) i
+      rows_demoted = ap (rows_in weights values) last_live_is ∙ rows-last weights values order.live i s.key s.value s.found s.holds (held_all eq hash order index weights values kept)
+
+      pub free_demoted : length order'.freed ≡ length order.freed
+      free_demoted = ap length last_freed_is
 
     -- a row gets another weight
     module _ (w : ℕ) (weights' : List ℕ) (is : weights' ≡ set weights i w) where

@@ -4,7 +4,7 @@ use Rattle.std.specs.Option.{option_map_or}
 use Rattle.std.proofs.lemmas.Bool.{cond_both, cases_eq, eqb-true, eqb-false, not-true, not-false}
 use Rattle.lru_index.specs.Index.{put, gone}
 use Rattle.lru_index.proofs.Tables.{put_here, put_other, gone_here, gone_other}
-use Rattle.lru_list.specs.Linked.{Linked, item_of, indices_of, times, without, promoted}
+use Rattle.lru_list.specs.Linked.{Linked, item_of, indices_of, times, without, promoted, demoted}
 use Rattle.lru_list.proofs.Chains.{absent_head, absent_tail}
 use Rattle.lru_list.proofs.LinkedLaws.{item_of_same, item_of_other}
 
@@ -25,7 +25,7 @@ module _ {K : Type 0} where
   item_end (p ∷ ps) i x none =
       item_of_other p (ps ++ (i, x) ∷ []) i (absent_head i p.0 (indices_of ps) none) ∙ item_end ps i x (absent_tail i p.0 (indices_of ps) none)
 
-  item_before_end : (ps : List (ℕ × K)) (i : ℕ) (x : K) (q : ℕ) → i ≢ q → item_of (ps ++ (i, x) ∷ []) q ≡ item_of ps q
+  pub item_before_end : (ps : List (ℕ × K)) (i : ℕ) (x : K) (q : ℕ) → i ≢ q → item_of (ps ++ (i, x) ∷ []) q ≡ item_of ps q
   item_before_end [] i x q ne = item_of_other (i, x) [] q ne
   item_before_end (p ∷ ps) i x q ne =
       elim (cases_eq p.0 q) [
@@ -83,6 +83,9 @@ module _ {K : Type 0} where
 
   pub same_promoted : (l : Linked K) (i : ℕ) (x : K) → item_of l.live i ≡ Some x → (q : ℕ) → item_of l.live q ≡ item_of (promoted l i).live q
   same_promoted l i x found q = moved l.live i x found q ∙ ap (λ ps. item_of ps q) (sym (promoted_is l i x found))
+
+  pub demoted_is : (l : Linked K) (i : ℕ) (x : K) → item_of l.live i ≡ Some x → (demoted l i).live ≡ without l.live i ++ (i, x) ∷ []
+  demoted_is l i x found = ap (λ o. option_map_or (λ y. without l.live i ++ (i, y) ∷ []) o l.live) found
 
   -- a first pair that is taken back
   pub taken_back : (ps : List (ℕ × K)) (i : ℕ) (x : K) → times i (indices_of ps) ≡ 0 → without ((i, x) ∷ ps) i ≡ ps

@@ -3,14 +3,15 @@ use Rattle.std.proofs.Common.{◌≡◌, ℕ, ◌<◌, ◌≤◌, List, [], ◌�
 use Rattle.std.specs.Prelude.{Option, Bool}
 use Rattle.std.specs.Option.{option_map}
 use Rattle.std.specs.List.{cons_option}
+use Rattle.std.proofs.lemmas.List.{map-append}
 use Rattle.std.proofs.lemmas.List.Elements.{filter_map-append}
 use Rattle.lru_list.specs.Linked.{Linked, indices_of, items_of, times, item_of}
 use Rattle.lru_list.proofs.Chains.{times_here}
 use Rattle.lru_list.proofs.LinkedLaws.{live_range}
 use Rattle.lru_index.specs.Index.{Index}
-use Rattle.lru_rows.specs.Rows.{Placed, pair_of, Recency, recency}
+use Rattle.lru_rows.specs.Rows.{Placed, pair_of, entry_of, Recency, recency}
 use Rattle.lru_rows.specs.Representation.Columns.{value_at, pairs_at, ShowsAll, rows_in, IsKept}
-use Rattle.lru_rows.proofs.Listed.{Held, held_head, held_tail, rows-cons, stands_behind}
+use Rattle.lru_rows.proofs.Listed.{Held, held_head, held_tail, rows-cons, rows-append, stands_behind}
 use Rattle.lru_rows.proofs.Kept.{held_all, key_of_place, is_some_of}
 use Rattle.lru_rows.proofs.Viewed.{rows_are}
 
@@ -32,6 +33,22 @@ module _ {T : Type 0} (weights : List ℕ) (values : List (Option T)) where
   length-pairs (p ∷ ps) h = ap length (pairs-cons p ps h.0.0 h.0.1) ∙ omega (arith, length-pairs ps h.1.1)
 
 module _ {K T : Type 0} (weights : List ℕ) (values : List (Option T)) where
+  pub entries-cons : (p : ℕ × K) (ps : List (ℕ × K)) (d : T) → value_at values p.0 ≡ Some d → map entry_of (rows_in weights values (p ∷ ps)) ≡ (p.1, d, get_or weights p.0 0) ∷ map entry_of (rows_in weights values ps)
+  entries-cons p ps d e = ap (map entry_of) (rows-cons weights values p ps d e)
+
+  pub entries-push : (ps : List (ℕ × K)) (p : ℕ × K) (d : T) → value_at values p.0 ≡ Some d → map entry_of (rows_in weights values (ps ++ p ∷ [])) ≡ map entry_of (rows_in weights values ps) ++ (p.1, d, get_or weights p.0 0) ∷ []
+  entries-push ps p d e =
+      ap (map entry_of) (rows-append weights values ps (p ∷ [])) ∙ map-append entry_of (rows_in weights values ps) (rows_in weights values (p ∷ []))
+      ∙ ap (λ es. map entry_of (rows_in weights values ps) ++ es) (entries-cons p [] d e)
+
+  -- the places of pairs with one more behind them
+  pub places-push : (ps : List (ℕ × K)) (p : ℕ × K) → indices_of (ps ++ p ∷ []) ≡ indices_of ps ++ p.0 ∷ []
+  places-push ps p = map-append (λ (q : ℕ × K). q.0) ps (p ∷ [])
+
+  pub length-entries : (ps : List (ℕ × K)) → ShowsAll weights values (indices_of ps) → length (map entry_of (rows_in weights values ps)) ≡ length ps
+  length-entries [] h = refl
+  length-entries (p ∷ ps) h = ap length (entries-cons p ps h.0.0 h.0.1) ∙ omega (arith, length-entries ps h.1.1)
+
   shows_held : (live : List (ℕ × K)) → Held weights values live → ((p : ℕ) → 1 ≤ times p (indices_of live) → p < length weights) → ShowsAll weights values (indices_of live)
   shows_held [] held within = tt
   shows_held (p ∷ ps) held within =
@@ -61,6 +78,9 @@ module _ {K S T : Type 0} (eq : K → K → Bool) (hash : S → K → ℕ) (orde
 
   pub all_pairs : pairs_at weights values (indices_of order.live) ≡ map pair_of r.rows
   all_pairs = pairs_held weights values order.live (held_all eq hash order index weights values kept) ∙ ap (map pair_of) (rows_are eq hash order index weights values kept r view)
+
+  pub all_entries : map entry_of (rows_in weights values order.live) ≡ map entry_of r.rows
+  all_entries = ap (map entry_of) (rows_are eq hash order index weights values kept r view)
 
   pub all_keys : items_of order.live ≡ map (λ (x : Placed K T). x.key) r.rows
   all_keys = sym (keys_held weights values order.live (held_all eq hash order index weights values kept)) ∙ ap (map (λ (x : Placed K T). x.key)) (rows_are eq hash order index weights values kept r view)

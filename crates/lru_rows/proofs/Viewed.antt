@@ -5,15 +5,15 @@ use Rattle.std.specs.Option.{option_map}
 use Rattle.std.specs.Cmp.{IsEquivalence}
 use Rattle.std.proofs.lemmas.Option.{slice_get-map}
 use Rattle.lru_index.specs.Index.{Index, Finds as index_Finds}
-use Rattle.lru_list.specs.Linked.{Linked, item_of, indices_of, times, tail_of, IsNumbered, IsLive, promoted as list_promoted}
+use Rattle.lru_list.specs.Linked.{Linked, item_of, indices_of, times, head_of, tail_of, IsNumbered, IsLive, promoted as list_promoted, demoted as list_demoted}
 use Rattle.std.proofs.lemmas.Bool.{false≢true}
 use Rattle.lru_list.proofs.Chains.{times_here}
 use Rattle.lru_list.proofs.LinkedLaws.{live_range, stands_in}
-use Rattle.lru_rows.specs.Rows.{Placed, placed, Recency, recency, row_at, IsAt, Finds, IsRecency, last_row, promoted, with_weight, with_value}
+use Rattle.lru_rows.specs.Rows.{Placed, placed, Recency, recency, row_at, IsAt, Finds, IsRecency, last_row, first_row, promoted, demoted, with_weight, with_value}
 use Rattle.lru_rows.specs.Representation.Columns.{value_at, rows_in, IsKept}
 use Rattle.lru_rows.proofs.Listed.{some_of, stands_behind, places-rows}
 use Rattle.lru_rows.proofs.Kept.{key_of_place, is_some_of, Stands, stands, held_all, recency_holds, finds_row, length_is}
-use Rattle.lru_rows.proofs.Moves.{rows_promoted, free_promoted, rows_weight, rows_value}
+use Rattle.lru_rows.proofs.Moves.{rows_promoted, free_promoted, rows_demoted, free_demoted, rows_weight, rows_value}
 
 -- what is found in a list stands there
 pub get_stands : (xs : List ℕ) (n p : ℕ) → slice_get xs n ≡ Some p → 1 ≤ times p xs
@@ -61,6 +61,12 @@ module _ {K S T : Type 0} (eq : K → K → Bool) (hash : S → K → ℕ) (orde
         ap (λ rs. recency rs (length order'.freed)) (rows_promoted eq hash order index weights values kept p s order' is numbered ∙ ap (λ rs. promoted rs p) rows_are)
         ∙ ap (recency (promoted r.rows p)) (free_promoted eq hash order index weights values kept p s order' is numbered ∙ free_is)
 
+    pub seen_demoted : (order' : Linked K) → order' ≡ list_demoted order p → IsNumbered order' → recency (rows_in weights values order'.live) (length order'.freed) ≡ recency (demoted r.rows p) r.free
+    seen_demoted order' is numbered =
+        let s = seen_stands p at in
+        ap (λ rs. recency rs (length order'.freed)) (rows_demoted eq hash order index weights values kept p s order' is numbered ∙ ap (λ rs. demoted rs p) rows_are)
+        ∙ ap (recency (demoted r.rows p)) (free_demoted eq hash order index weights values kept p s order' is numbered ∙ free_is)
+
     pub seen_reweighed : (w : ℕ) (weights' : List ℕ) → weights' ≡ set weights p w → recency (rows_in weights' values order.live) (length order.freed) ≡ recency (with_weight r.rows p w) r.free
     seen_reweighed w weights' is =
         let s = seen_stands p at in
@@ -105,3 +111,20 @@ module _ {K S T : Type 0} (eq : K → K → Bool) (hash : S → K → ℕ) (orde
   last_fits p is =
       let there : 1 ≤ times p (indices_of order.live) = get_stands (indices_of order.live) (length order.live - 1) p (sym is) in
       omega (arith, kept.wide, kept.few, (stands_in order kept.numbered p (omega (arith, there))).1)
+
+  -- the first place
+  pub first_live : (p : ℕ) → Some p ≡ head_of order → IsLive order p
+  first_live p is =
+      let there = key_of_place eq hash order index weights values kept p (get_stands (indices_of order.live) 0 p (sym is)) in
+      is_some_of (item_of order.live p) there.0 there.1
+
+  pub first_fits : (p : ℕ) → Some p ≡ head_of order → p < 4294967296
+  first_fits p is =
+      let there : 1 ≤ times p (indices_of order.live) = get_stands (indices_of order.live) 0 p (sym is) in
+      omega (arith, kept.wide, kept.few, (stands_in order kept.numbered p (omega (arith, there))).1)
+
+  pub first_place : (o : Option ℕ) → o ≡ head_of order → o ≡ option_map (λ (x : Placed K T). x.place) (first_row r.rows)
+  first_place o is =
+      is ∙ ap (λ ps. slice_get ps 0) (sym (places-rows weights values order.live (held_all eq hash order index weights values kept)))
+      ∙ slice_get-map (λ (x : Placed K T). x.place) (rows_in weights values order.live) 0
+      ∙ ap (λ rs. option_map (λ (x : Placed K T). x.place) (first_row rs)) rows_are

@@ -57,6 +57,10 @@ module _ {K T : Type 0} where
   abbrev pub promoted : List (Placed K T) → ℕ → List (Placed K T)
   promoted rows p = option_map_or (λ r. r ∷ without rows p) (row_at rows p) rows
 
+  -- the row at a place goes last
+  abbrev pub demoted : List (Placed K T) → ℕ → List (Placed K T)
+  demoted rows p = option_map_or (λ r. without rows p ++ r ∷ []) (row_at rows p) rows
+
   -- the row at a place has another weight, or other data
   abbrev pub with_weight : List (Placed K T) → ℕ → ℕ → List (Placed K T)
   with_weight rows p w = map (λ r. if r.place == p then placed r.place r.key r.value w else r) rows
@@ -68,9 +72,17 @@ module _ {K T : Type 0} where
   abbrev pub last_row : List (Placed K T) → Option (Placed K T)
   last_row rows = slice_get rows (length rows - 1)
 
+  -- the row that was used last, if there is one
+  abbrev pub first_row : List (Placed K T) → Option (Placed K T)
+  first_row rows = slice_get rows 0
+
   -- what an iterator shows of a row
   abbrev pub pair_of : Placed K T → T × ℕ
   pair_of r = (r.value, r.weight)
+
+  -- what one shows that shows the keys too
+  abbrev pub entry_of : Placed K T → K × T × ℕ
+  entry_of r = (r.key, r.value, r.weight)
 
   -- what is known of a row that was taken out
   abbrev pub taken : Placed K T → Taken K T
@@ -102,6 +114,11 @@ module _ {K T : Type 0} where
   PopsLast old None new = (old.rows ≡ []) × (new ≡ old)
   PopsLast old (Some t) new = (r : Placed K T) × (front : List (Placed K T)) × (old.rows ≡ front ++ r ∷ []) × (t ≡ taken r) × (new ≡ recency front (old.free + 1))
 
+  -- the same for the first row
+  abbrev pub PopsFirst : Recency K T → Option (Taken K T) → Recency K T → Type 0
+  PopsFirst old None new = (old.rows ≡ []) × (new ≡ old)
+  PopsFirst old (Some t) new = (r : Placed K T) × (rest : List (Placed K T)) × (old.rows ≡ r ∷ rest) × (t ≡ taken r) × (new ≡ recency rest (old.free + 1))
+
   -- why no place can be made for a row more: there are as many rows as can be, or, where no place is free, memory is refused
   abbrev pub LacksPlace : Recency K T → NoPlace → Type 0
   LacksPlace old Memory = (length old.rows < most_rows) × (old.free ≡ 0)
@@ -121,6 +138,10 @@ module _ {K T : Type 0} where
 -- what an item of an iterator over rows shows
 abbrev pub shown : {T : Type 0} → Bor T × ℕ → T × ℕ
 shown item = (item.0.now, item.1)
+
+-- the same where it shows the key too
+abbrev pub shown_entry : {K T : Type 0} → Bor K × Bor T × ℕ → K × T × ℕ
+shown_entry item = (item.0.now, item.1.now, item.2)
 
 -- a closure that was lent the data, and given the weight, may give this answer and leave this data. `post` is the closure's own relation
 pub record Updates {T R : Type 0} (post : MutBor T → ℕ → R → MutBor T → Type 0) (old : T) (weight : ℕ) (answer : R) (new : T) : Type 0 where

@@ -3,10 +3,10 @@ ghost use Rattle.std.specs.Prelude.{◌≡◌, ◌<◌, length, get_or, Some, If
 ghost use Rattle.std.specs.Iterator.{at_most, UpTo};
 ghost use Rattle.std.specs.Iterator.SizeHint.{IsWithinCount};
 ghost use Rattle.std.specs.Map.Iter.{TakesFirst, TakesLast};
-ghost use Rattle.lru_rows.specs.Rows.{shown};
+ghost use Rattle.lru_rows.specs.Rows.{shown, shown_entry};
 ghost use Rattle.lru_rows.specs.Representation.Columns.{value_at};
 
-use lru_list::linked_list::LinkedListIndices;
+use lru_list::linked_list::{LinkedListEntries, LinkedListIndices};
 use std::iter::FusedIterator;
 use std::marker::Model;
 
@@ -80,3 +80,64 @@ impl<'a, K, T> ExactSizeIterator for RowsIter<'a, K, T> {
 }
 
 impl<'a, K, T> FusedIterator for RowsIter<'a, K, T> {}
+
+/// The key, the data and the weight of each row that is left to give, most recent first.
+#[derive(Drop)]
+pub struct RowsEntries<'a, K, T> {
+    pub(crate) keys: LinkedListEntries<'a, K>,
+    pub(crate) weights: &'a [usize],
+    pub(crate) values: &'a [Option<T>],
+}
+
+impl<'a, K, T> Model for RowsEntries<'a, K, T> {
+    ghost use Rattle.std.specs.Prelude.{List, ℕ, map};
+    ghost use Rattle.lru_list.specs.Linked.{indices_of};
+    ghost use Rattle.lru_rows.specs.Rows.{entry_of};
+    ghost use Rattle.lru_rows.specs.Representation.Columns.{rows_in, ShowsAll};
+
+    ghost Value = { List (K × T × ℕ) };
+
+    ghost view = { λ i. map entry_of (rows_in i.weights.now i.values.now i.keys) };
+
+    ghost invariant = { λ i. ShowsAll i.weights.now i.values.now (indices_of i.keys) };
+}
+
+impl<'a, K, T> Iterator for RowsEntries<'a, K, T> {
+    type Item = (&'a K, &'a T, usize);
+
+    ghost next_gives = { TakesFirst shown_entry };
+
+    ghost remaining = { λ rest. at_most (length rest) };
+
+    fn next(&mut self) -> Option<(&'a K, &'a T, usize)> {
+        let (place, key) = self.keys.next()?;
+        let (value, weight) = pair_at(self.weights, self.values, place);
+        Some((key, value, weight))
+    }
+
+    fn size_hint(&self) -> (usize, Option<usize>)
+        ensures lower { IsWithinCount result.0 (at_most (length self.now)) }
+        ensures upper { IfSome result.1 (UpTo (at_most (length self.now))) }
+        ensures exact { result ≡ (length self.now, Some (length self.now)) }
+    {
+        self.keys.size_hint()
+    }
+}
+
+impl<'a, K, T> DoubleEndedIterator for RowsEntries<'a, K, T> {
+    ghost next_back_gives = { TakesLast shown_entry };
+
+    fn next_back(&mut self) -> Option<(&'a K, &'a T, usize)> {
+        let (place, key) = self.keys.next_back()?;
+        let (value, weight) = pair_at(self.weights, self.values, place);
+        Some((key, value, weight))
+    }
+}
+
+impl<'a, K, T> ExactSizeIterator for RowsEntries<'a, K, T> {
+    fn len(&self) -> usize {
+        self.keys.len()
+    }
+}
+
+impl<'a, K, T> FusedIterator for RowsEntries<'a, K, T> {}

@@ -1,11 +1,11 @@
 //! Rows of keys, data and weights, most recent first.
-ghost use Rattle.std.specs.Prelude.{◌≡◌, ℕ, ◌<◌, ◌≤◌, ◌∷◌, ◌++◌, [], length, map, take, Some, None, IfOk, if◌then◌else◌};
+ghost use Rattle.std.specs.Prelude.{◌≡◌, ℕ, ◌+◌, ◌<◌, ◌≤◌, ◌∷◌, ◌++◌, [], length, map, take, Some, None, IfOk, if◌then◌else◌};
 ghost use Rattle.std.specs.List.{list_any};
 ghost use Rattle.std.specs.Option.{option_map, option_copied};
-ghost use Rattle.lru_rows.specs.Rows.{recency, pair_of, placed, row_at, row_of, IsAt, promoted, with_weight, with_value, last_row, Finds, IsRecency, Removes, PopsLast, Pushes, MakesVacancy, UpdatesAt};
+ghost use Rattle.lru_rows.specs.Rows.{most_rows, recency, pair_of, entry_of, placed, row_at, row_of, IsAt, promoted, demoted, with_weight, with_value, last_row, first_row, Finds, IsRecency, Removes, PopsLast, PopsFirst, Pushes, MakesVacancy, UpdatesAt};
 
 use crate::columns::Columns;
-use crate::iter::RowsIter;
+use crate::iter::{RowsEntries, RowsIter};
 use crate::order::Order;
 use lru_index::hashing::SeededHashes;
 use lru_index::keys::Keys;
@@ -167,12 +167,33 @@ impl<K: Hash, T, S: BuildHasher> Rows<K, T, S> {
         Some(place as u32)
     }
 
+    /// The place of the row that was used last.
+    #[inline(always)]
+    pub fn first(&self) -> Option<Place>
+        ensures place { result ≡ option_map (λ r. r.place) (first_row self.now.rows) }
+        ensures valid { IsRecency K.eq self.now.rows }
+    {
+        let place = self.order.list.head()?;
+        Some(place as u32)
+    }
+
     /// The data and the weight of each row, most recent first.
     pub fn iter(&self) -> RowsIter<'_, K, T>
         ensures { result ≡ map pair_of self.now.rows }
     {
         RowsIter {
             places: self.order.list.indices(),
+            weights: self.columns.weights.as_slice(),
+            values: self.columns.values.as_slice(),
+        }
+    }
+
+    /// The key, the data and the weight of each row, most recent first.
+    pub fn entries(&self) -> RowsEntries<'_, K, T>
+        ensures { result ≡ map entry_of self.now.rows }
+    {
+        RowsEntries {
+            keys: self.order.list.entries(),
             weights: self.columns.weights.as_slice(),
             values: self.columns.values.as_slice(),
         }
@@ -228,6 +249,15 @@ impl<K: Hash, T, S: BuildHasher> Rows<K, T, S> {
         self.order.list.promote(place as usize);
     }
 
+    /// Puts a place's row last.
+    #[inline(always)]
+    pub fn demote(&mut self, place: Place)
+        requires { IsAt self.old.rows place }
+        ensures { self.new ≡ recency (demoted self.old.rows place) self.old.free }
+    {
+        self.order.list.demote(place as usize);
+    }
+
     /// Gives a place's row another weight.
     #[inline(always)]
     pub fn set_weight(&mut self, place: Place, weight: usize)
@@ -253,7 +283,8 @@ impl<K: Hash, T, S: BuildHasher> Rows<K, T, S> {
     ///
     /// There is no memory for that many, or there can't be as many rows.
     pub fn reserve(&mut self, additional: usize) -> Result<(), AllocError>
-        ensures { self.new ≡ self.old }
+        ensures same { self.new ≡ self.old }
+        ensures room { IfOk result (λ _. length self.new.rows + additional ≤ most_rows) }
     {
         let len = self.order.list.len();
         if additional > MOST_ITEMS - len {
@@ -368,6 +399,20 @@ impl<K: Hash + Default + Drop, T: Drop, S: BuildHasher> Rows<K, T, S> {
         let at = self.order.list.tail()?;
         let last = self.order.key_at(at as u32);
         let _place = self.columns.index.remove(&self.order, last);
+        let (value, weight) = self.columns.take(at);
+        let key = self.order.list.remove(at);
+        Some(Taken { key, value, weight })
+    }
+
+    /// Takes the row out that was used last. Its place is free then.
+    #[inline(always)]
+    pub fn pop_first(&mut self) -> Option<Taken<K, T>>
+        ensures pops { PopsFirst self.old result self.new }
+        ensures valid { IsRecency K.eq self.old.rows }
+    {
+        let at = self.order.list.head()?;
+        let first = self.order.key_at(at as u32);
+        let _place = self.columns.index.remove(&self.order, first);
         let (value, weight) = self.columns.take(at);
         let key = self.order.list.remove(at);
         Some(Taken { key, value, weight })

@@ -60,6 +60,47 @@ fn rows_are_shown_from_both_ends(rt: HostRuntime) -> Result<(), Fail> {
     Ok(())
 }
 
+// The key, the data and the weight of a row.
+type Entry = Option<(u64, u64, usize)>;
+
+fn entry(shown: Option<(&u64, &u64, usize)>) -> Entry {
+    let (key, value, weight) = shown?;
+    Some((*key, *value, weight))
+}
+
+// As `both_ends`.
+fn entries_of(rows: &Rows<u64, u64>) -> ([Entry; 5], (usize, Option<usize>), usize) {
+    let mut left = rows.entries();
+    let all = left.size_hint();
+    let first = entry(left.next());
+    let last = entry(left.next_back());
+    let one = left.len();
+    let middle = entry(left.next_back());
+    let none = entry(left.next());
+    let neither = entry(left.next_back());
+    ([first, last, middle, none, neither], all, one)
+}
+
+#[test]
+fn entries_are_shown_from_both_ends(rt: HostRuntime) -> Result<(), Fail> {
+    let rows = three_rows(rt.alloc())?;
+    assert_eq!(rt;
+        entries_of(&rows),
+        (
+            [
+                Some((3, 30, 4)),
+                Some((1, 10, 5)),
+                Some((2, 20, 2)),
+                None,
+                None
+            ],
+            (3, Some(3)),
+            1
+        )
+    );
+    Ok(())
+}
+
 #[test]
 fn keys_are_shown_in_order(rt: HostRuntime) -> Result<(), Fail> {
     let rows = three_rows(rt.alloc())?;

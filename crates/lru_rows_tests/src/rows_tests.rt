@@ -46,6 +46,27 @@ static PLACES: [Step<u64>; 10] = [
     (Call::PushFirst(1, 11, 4), "4", "3 3: 1=11 4, 3=30 2, 4=40 3,"),
 ];
 
+// Rows that go last: the first, one in the middle, and the last itself.
+#[rattlefmt::skip]
+static DEMOTED: [Step<u64>; 9] = [
+    (Call::PushLast(1, 10, 3), "2", "1 2: 1=10 3,"),
+    (Call::Demote(1), "true", "1 2: 1=10 3,"),
+    (Call::PushLast(2, 20, 4), "3", "2 3: 1=10 3, 2=20 4,"),
+    (Call::PushLast(3, 30, 5), "4", "3 4: 1=10 3, 2=20 4, 3=30 5,"),
+    (Call::Demote(1), "true", "3 2: 2=20 4, 3=30 5, 1=10 3,"),
+    (Call::Demote(3), "true", "3 4: 2=20 4, 1=10 3, 3=30 5,"),
+    (Call::Demote(3), "true", "3 4: 2=20 4, 1=10 3, 3=30 5,"),
+    (Call::Demote(9), "false", "3 4: 2=20 4, 1=10 3, 3=30 5,"),
+    (Call::PopLast, "took 3=30 5", "2 2: 2=20 4, 1=10 3,"),
+];
+
+#[test]
+fn rows_go_last(rt: HostRuntime) -> Result<(), Fail> {
+    let mut rows = Rows::with_capacity(rt.alloc(), 0)?;
+    assert_eq!(rt; fault(rt.alloc(), &mut rows, &DEMOTED)?, None);
+    Ok(())
+}
+
 #[test]
 fn each_call_answers(rt: HostRuntime) -> Result<(), Fail> {
     let mut rows = Rows::with_capacity(rt.alloc(), 0)?;

@@ -17,6 +17,8 @@ pub enum Call<K> {
     Look(K),
     /// Answers whether there is a place.
     Promote(K),
+    /// Answers whether there is a place.
+    Demote(K),
     /// Answers the data and the weight that were there.
     Update(K, u64),
     /// Answers whether there is a place.
@@ -38,7 +40,7 @@ pub type Step<K> = (Call<K>, &'static str, &'static str);
 fn shown<K: Hash + Debug>(alloc: Global, rows: &Rows<K, u64>) -> Result<String, AllocError> {
     let (len, last) = (rows.len(), rows.last().unwrap_or(0));
     let mut text = format!(in alloc; "{len} {last}:")?;
-    for (key, (value, weight)) in rows.keys().zip(rows.iter()) {
+    for (key, value, weight) in rows.entries() {
         write!(text, " {key:?}={value} {weight},")?;
     }
     Ok(text)
@@ -94,6 +96,12 @@ fn promote<K: Hash>(rows: &mut Rows<K, u64>, key: &K) -> Option<()> {
     Some(())
 }
 
+fn demote<K: Hash>(rows: &mut Rows<K, u64>, key: &K) -> Option<()> {
+    let place = rows.find(key)?;
+    rows.demote(place);
+    Some(())
+}
+
 fn update<K: Hash>(rows: &mut Rows<K, u64>, key: &K, value: u64) -> Option<(u64, usize)> {
     let place = rows.find(key)?;
     Some(rows.update(place, |held: &mut u64, weight| {
@@ -120,6 +128,7 @@ fn answer_of<K: Hash + Debug + Default + Drop + Copy>(
         Call::Find(key) => rows.find(&key).unwrap_or(0).to_string(alloc),
         Call::Look(key) => look(alloc, rows, &key),
         Call::Promote(key) => promote(rows, &key).is_some().to_string(alloc),
+        Call::Demote(key) => demote(rows, &key).is_some().to_string(alloc),
         Call::Update(key, value) => {
             let was = update(rows, &key, value);
             format!(in alloc; "{was:?}")

@@ -77,6 +77,10 @@ module _ {K : Type 0} where
   abbrev pub rest_of : List (Node K) → ℕ → ℕ → List K
   rest_of ns head len = map (λ (p : ℕ × K). p.1) (pairs (items ns) (path (nexts ns) len head))
 
+  -- the same with their places
+  abbrev pub pairs_of : List (Node K) → ℕ → ℕ → List (ℕ × K)
+  pairs_of ns head len = pairs (items ns) (path (nexts ns) len head)
+
   -- the places that an iterator has left
   abbrev pub places_of : List (Node K) → ℕ → ℕ → List ℕ
   places_of ns head len = path (nexts ns) len head

@@ -1,5 +1,5 @@
 use Rattle.lru_index.specs.Hashing.{key_hash}
-use Rattle.std.proofs.Common.{sym, ap, ◌∙◌}
+use Rattle.std.proofs.Common.{ap, ◌∙◌}
 use Rattle.std.specs.Prelude.{take}
 use Rattle.std.specs.List.{list_any}
 use Rattle.lru_rows.proofs.Shown.{all_keys}

@@ -1,6 +1,6 @@
 use Rattle.lru_index.specs.Hashing.{key_hash}
 use Rattle.lru_rows.proofs.Moves.{kept_value, kept_as}
-use Rattle.lru_rows.proofs.Viewed.{seen_stands, seen_held, seen_within, seen_value_at, seen_rewritten_too}
+use Rattle.lru_rows.proofs.Viewed.{seen_stands, seen_held, seen_value_at, seen_rewritten_too}
 use Rattle.lru_rows.proofs.rows.Rows.replace.Goals as goal
 
 pub replace-requires : goal.replace-requires

@@ -1,0 +1,38 @@
+use Rattle.lru_index.specs.Hashing.{key_hash}
+use Rattle.lru_index.specs.Index.{Indexes, gone_at}
+use Rattle.lru_list.specs.Linked.{item_of}
+use Rattle.std.proofs.Common.{arith, subst}
+use Rattle.lru_rows.proofs.Viewed.{seen_valid, first_fits, first_live}
+use Rattle.lru_rows.proofs.Gone.{pops_first_none, found_last, first_pair, kept_out, pops_first_row}
+use Rattle.lru_rows.proofs.rows.Rows.pop_first.Goals as goal
+
+pub returns-in_err-at-clause-pops : goal.returns-in_err-at-clause-pops
+returns-in_err-at-clause-pops g c = pops_first_none g.K.PartialEq.eq (key_hash g.S.BuildHasher g.S.Hasher.Hasher g.K.Hash.hash_input) c.self.inside.order.list c.self.inside.columns.index c.self.inside.columns.weights.items c.self.inside.columns.values.items c.self.invariant c.args.self.now c.self.view_is c.in_err-at.ensures.index c.from_residual.result c.from_residual.ensures
+
+pub returns-in_err-at-clause-valid : goal.returns-in_err-at-clause-valid
+returns-in_err-at-clause-valid g c = seen_valid g.K.PartialEq.eq (key_hash g.S.BuildHasher g.S.Hasher.Hasher g.K.Hash.hash_input) c.self.inside.order.list c.self.inside.columns.index c.self.inside.columns.weights.items c.self.inside.columns.values.items c.self.invariant c.args.self.now c.self.view_is g.met.K.Eq.laws
+
+pub overflow_cast-at : goal.overflow_cast-at
+overflow_cast-at g c = omega (arith, first_fits g.K.PartialEq.eq (key_hash g.S.BuildHasher g.S.Hasher.Hasher g.K.Hash.hash_input) c.self.inside.order.list c.self.inside.columns.index c.self.inside.columns.weights.items c.self.inside.columns.values.items c.self.invariant c.args.self.now c.self.view_is c.in_ok-at.at c.in_ok-at.ensures.index)
+
+pub key_at-first-requires : goal.key_at-first-requires
+key_at-first-requires g c = first_live g.K.PartialEq.eq (key_hash g.S.BuildHasher g.S.Hasher.Hasher g.K.Hash.hash_input) c.self.inside.order.list c.self.inside.columns.index c.self.inside.columns.weights.items c.self.inside.columns.values.items c.self.invariant c.args.self.now c.self.view_is c.in_ok-at.at c.in_ok-at.ensures.index
+
+pub invariant_of-self : goal.invariant_of-self
+invariant_of-self g c =
+    kept_out g.K.PartialEq.eq (key_hash g.S.BuildHasher g.S.Hasher.Hasher g.K.Hash.hash_input) c.self.inside.order.list c.self.inside.columns.index c.self.inside.columns.weights.items c.self.inside.columns.values.items c.self.invariant c.args.self.now c.self.view_is g.K.Default.is_default c.in_ok-at.at c.key_at-first.result.now c.key_at-first.ensures c.remove-key.new.self c.remove-key.result c.remove-key.ensures.removes c.remove-key.ensures.numbered
+    c.remove-place.new.self (subst (λ o. Indexes g.K.PartialEq.eq (key_hash g.S.BuildHasher g.S.Hasher.Hasher g.K.Hash.hash_input) c.remove-place.new.self (gone_at (item_of c.self.inside.order.list.live) o)) (found_last g.K.PartialEq.eq (key_hash g.S.BuildHasher g.S.Hasher.Hasher g.K.Hash.hash_input) c.self.inside.order.list c.self.inside.columns.index c.self.inside.columns.weights.items c.self.inside.columns.values.items c.self.invariant c.args.self.now c.self.view_is g.met.K.Eq.laws c.in_ok-at.at c.key_at-first.result.now c.key_at-first.ensures c.remove-place.result c.remove-place.ensures.finds) c.remove-place.ensures.indexes) c.remove-place.ensures.room
+    c.take-value.new.self.index c.take-value.new.self.weights.items c.take-value.new.self.values.items
+    c.take-value.ensures.index c.take-value.ensures.weights c.take-value.ensures.values c.take-value.result.0 c.take-value.result.1 c.take-value.ensures.value c.take-value.ensures.weight
+
+pub returns-clause-pops : goal.returns-clause-pops
+returns-clause-pops g c =
+    let l = first_pair c.self.inside.order.list.live c.in_ok-at.at c.key_at-first.result.now c.in_ok-at.ensures.index c.key_at-first.ensures in
+    pops_first_row g.K.PartialEq.eq (key_hash g.S.BuildHasher g.S.Hasher.Hasher g.K.Hash.hash_input) c.self.inside.order.list c.self.inside.columns.index c.self.inside.columns.weights.items c.self.inside.columns.values.items c.self.invariant c.args.self.now c.self.view_is g.K.Default.is_default c.in_ok-at.at c.key_at-first.result.now c.key_at-first.ensures c.remove-key.new.self c.remove-key.result c.remove-key.ensures.removes c.remove-key.ensures.numbered
+    c.remove-place.new.self (subst (λ o. Indexes g.K.PartialEq.eq (key_hash g.S.BuildHasher g.S.Hasher.Hasher g.K.Hash.hash_input) c.remove-place.new.self (gone_at (item_of c.self.inside.order.list.live) o)) (found_last g.K.PartialEq.eq (key_hash g.S.BuildHasher g.S.Hasher.Hasher g.K.Hash.hash_input) c.self.inside.order.list c.self.inside.columns.index c.self.inside.columns.weights.items c.self.inside.columns.values.items c.self.invariant c.args.self.now c.self.view_is g.met.K.Eq.laws c.in_ok-at.at c.key_at-first.result.now c.key_at-first.ensures c.remove-place.result c.remove-place.ensures.finds) c.remove-place.ensures.indexes) c.remove-place.ensures.room
+    c.take-value.new.self.index c.take-value.new.self.weights.items c.take-value.new.self.values.items
+    c.take-value.ensures.index c.take-value.ensures.weights c.take-value.ensures.values c.take-value.result.0 c.take-value.result.1 c.take-value.ensures.value c.take-value.ensures.weight
+    l.0 l.1
+
+pub returns-clause-valid : goal.returns-clause-valid
+returns-clause-valid g c = seen_valid g.K.PartialEq.eq (key_hash g.S.BuildHasher g.S.Hasher.Hasher g.K.Hash.hash_input) c.self.inside.order.list c.self.inside.columns.index c.self.inside.columns.weights.items c.self.inside.columns.values.items c.self.invariant c.args.self.now c.self.view_is g.met.K.Eq.laws
