@@ -1,6 +1,5 @@
 //! N shards for many threads, each behind a lock of its own.
 #![tactic(auto)]
 
-mod lock;
 pub mod lru;
 mod shed;

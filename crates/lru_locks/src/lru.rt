@@ -4,13 +4,13 @@ ghost use Rattle.std.specs.Sync.RwLock.{write_guard_value};
 ghost use Rattle.lru_rules.specs.Limits.{cap_of};
 ghost use Rattle.lru_rules.specs.Shards.{AreAtHome, IsOwn, AreOwn};
 
-use crate::lock::ShortLock;
 use crate::shed::{Room, shed};
 use crossbeam_utils::CachePadded;
 use lru_rules::counters::{growth, shift};
 use lru_rules::eviction::{EvictError, Readings, drawn_shards, longer_of, place_after};
 use lru_rules::totals::{Totals, Units};
 use lru_shard::unit::{Cause, LruUnit, Refused};
+use lru_short_locks::ShortLock;
 use rand_core::Rng;
 use std::alloc::{AllocError, Global};
 use std::sync::atomic::{AtomicUsize, Ordering};

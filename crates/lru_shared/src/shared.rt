@@ -2,11 +2,11 @@
 ghost use Rattle.std.specs.Prelude.{◌≡◌, ◌<◌, ◌%◌, vec_len, true, IfOk, IfErr, IfSome};
 ghost use Rattle.lru_shared.specs.Calls.{HandsBack, MayShow, MayLend};
 
-use crate::lock::ShortMutex;
 use crate::shelf::Shelf;
 use crossbeam_utils::CachePadded;
 use lru_cache::cache::{Cause, Entry, Refused};
 use lru_index::hashing::SeededHashes;
+use lru_short_locks::ShortMutex;
 use std::alloc::{AllocError, Global};
 use std::hash::{BuildHasher, Hash};
 use std::sync::{Condvar, Wait};
