@@ -14,10 +14,12 @@ pub enum Work {
     /// Three peeks to a promote.
     Mix,
     AdmitAndEvict,
+    /// Of a peer the same; of an `Lru` two calls.
+    AdmitThenEvict,
 }
 
 impl Work {
-    pub const ALL: [Work; 4] = [Work::Peek, Work::Promote, Work::Mix, Work::AdmitAndEvict];
+    pub const ALL: [Work; 5] = [Work::Peek, Work::Promote, Work::Mix, Work::AdmitAndEvict, Work::AdmitThenEvict];
 
     pub fn name(self) -> &'static str {
         match self {
@@ -25,6 +27,7 @@ impl Work {
             Work::Promote => "promote",
             Work::Mix => "mix",
             Work::AdmitAndEvict => "admit and evict",
+            Work::AdmitThenEvict => "admit then evict",
         }
     }
 }
@@ -49,7 +52,7 @@ impl Keys {
     fn of(&self, work: Work) -> &[u64] {
         match work {
             Work::Peek | Work::Promote | Work::Mix => &self.drawn,
-            Work::AdmitAndEvict => &self.new,
+            Work::AdmitAndEvict | Work::AdmitThenEvict => &self.new,
         }
     }
 }
@@ -133,6 +136,8 @@ impl<S: Order, L: Lock<S>, const N: usize> Sharded<S, L, N> {
             Work::Mix if place % 4 != 0 => self.peek(key),
             Work::Mix => self.promote(key),
             Work::AdmitAndEvict => self.shard_of(key).write(|shard| shard.admit(key)),
+            // (those of the other rows, which are new again)
+            Work::AdmitThenEvict => self.shard_of(!key).write(|shard| shard.admit(!key)),
         }
     }
 

@@ -176,8 +176,8 @@ fn passes<R: Wait>(
 }
 
 #[test]
-fn takes_64_at_once_and_passes_the_gate_for_each(rt: HostRuntime) -> Result<(), Fail> {
+fn takes_16_at_once_and_passes_the_gate_for_each(rt: HostRuntime) -> Result<(), Fail> {
     let world = Arc::new(rt.alloc(), one_shard(rt.alloc())?)?;
-    assert_eq!(rt; passes(&rt, world, rt.alloc())?, (100, 64));
+    assert_eq!(rt; passes(&rt, world, rt.alloc())?, (100, 16));
     Ok(())
 }

@@ -27,16 +27,19 @@ enum Work {
     PromoteApart,
     /// Three peeks to a promote.
     Mix,
-    /// An admission of a row that is new, and the evictions that it asks for.
+    /// An admission of a row that is new, with the evictions that it asks for, in one call.
     AdmitAndEvict,
+    /// The same, in two calls.
+    AdmitThenEvict,
 }
 
-static ALL: [Work; 5] = [
+static ALL: [Work; 6] = [
     Work::Peek,
     Work::Promote,
     Work::PromoteApart,
     Work::Mix,
     Work::AdmitAndEvict,
+    Work::AdmitThenEvict,
 ];
 
 impl Work {
@@ -47,12 +50,13 @@ impl Work {
             Work::PromoteApart => "promote in shards apart",
             Work::Mix => "mix",
             Work::AdmitAndEvict => "admit and evict",
+            Work::AdmitThenEvict => "admit then evict",
         }
     }
 
     fn keys_of(self, keys: &Keys) -> &[u64] {
         match self {
-            Work::AdmitAndEvict => &keys.new,
+            Work::AdmitAndEvict | Work::AdmitThenEvict => &keys.new,
             Work::PromoteApart => &keys.apart,
             _ => &keys.drawn,
         }
@@ -67,8 +71,11 @@ trait Caller {
     /// Puts a row first.
     fn promote(&mut self, key: u64) -> bool;
 
-    /// Admits a row and evicts down to the limit.
+    /// Admits a row and evicts down to the limit, in one call.
     fn admit_and_evict(&mut self, key: u64) -> bool;
+
+    /// The same, in two calls.
+    fn admit_then_evict(&mut self, key: u64) -> bool;
 }
 
 /// One of the threads that share an `Lru`.
@@ -90,6 +97,11 @@ impl<R: Wait, const N: usize> Caller for Sharer<'_, R, N> {
     }
 
     fn admit_and_evict(&mut self, key: u64) -> bool {
+        let admitted = self.lru.admit_and_evict(self.rt, key, key, 1, |_| {});
+        admitted.is_ok()
+    }
+
+    fn admit_then_evict(&mut self, key: u64) -> bool {
         let is_in = self.lru.admit(self.rt, key, key, 1).is_ok();
         let evicted = self.lru.evict_to_limit(self.rt, self.alloc, &mut self.rng);
         evicted.is_ok() && is_in
@@ -114,6 +126,10 @@ impl<const N: usize> Caller for Owner<N> {
     }
 
     fn admit_and_evict(&mut self, key: u64) -> bool {
+        self.core.admit_and_evict(key, key, 1, |_| {}).is_ok()
+    }
+
+    fn admit_then_evict(&mut self, key: u64) -> bool {
         let is_in = self.core.admit(key, key, 1).is_ok();
         let evicted = self.core.evict_to_limit(self.alloc, &mut self.rng);
         evicted.is_ok() && is_in
@@ -130,6 +146,8 @@ fn work_on<C: Caller>(caller: &mut C, work: Work, keys: &[u64]) -> usize {
             Work::Mix if place % 4 != 0 => caller.peek(*key),
             Work::Mix => caller.promote(*key),
             Work::AdmitAndEvict => caller.admit_and_evict(*key),
+            // (those of the other rows, which are new again)
+            Work::AdmitThenEvict => caller.admit_then_evict(!*key),
         };
         if is_there {
             done = done.wrapping_add(1);
