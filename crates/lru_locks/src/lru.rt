@@ -784,8 +784,8 @@ impl<T: Drop, const N: usize> Lru<T, N> {
         self.evict_from(rt, own)
     }
 
-    // Admits, and evicts from the same shard, under one lock, what is too much by what all hold. It answers what all hold after it:
-    // the counters tell of each change how much there was just then, so that of two that take the last room one sees it taken.
+    // Admits, and evicts from the same shard, under one lock, what is too much by what all hold. It answers what all hold after
+    // it, as the steps of the counters tell: of two that take the last room one sees it taken.
     fn admit_here<F: FnMut((T, usize))>(
         &self,
         rt: &impl Wait,
@@ -846,13 +846,15 @@ impl<T: Drop, const N: usize> Lru<T, N> {
     /// with the data and the weight of each evicted row, in order. It answers the shard.
     ///
     /// Under the lock of the key's shard it admits, and evicts last rows of that shard, but not the row just put, while all
-    /// shards are over by what it read there; `visit` is called under that lock. Where they are over after it, it goes on from
-    /// that shard round the circle, a lock for each row, as long as the values at the end of its first step, less what it evicted
-    /// since, and the values now are both past a limit. So by one caller it ends within the limits, and of callers at once
-    /// none that took the last room evicts less than what it took too much.
+    /// shards together are over by what was counted as it began. Each counter then takes one step, and tells what all hold
+    /// after it. Where that is over, since the shard had no more rows to give or other callers took the room meanwhile, it
+    /// goes on from that shard round the circle, a lock for each row, as long as what was told, less what it evicted since,
+    /// and the values now are both past a limit. So a caller that finds the room taken makes up for it, and one with no other
+    /// beside it ends within the limits.
     ///
-    /// Nothing is drawn, and evictions take no memory. A refusal, for Length, Weight or Memory as a shard refuses, hands the
-    /// data back, evicts nothing and changes nothing.
+    /// `visit` is called under the lock of the key's shard, for the rows of that shard, and must make no call that waits for
+    /// it. Nothing is drawn, and evictions take no memory. A refusal, for Length, Weight or Memory as a shard refuses, hands
+    /// the data back, evicts nothing and changes nothing.
     pub fn admit_and_evict<F: FnMut((T, usize))>(
         &self,
         rt: &impl Wait,

@@ -48,6 +48,26 @@ fn admit<const N: usize>(
     }
 }
 
+// The same with an admission that evicts; a refusal evicts nothing.
+fn admit_and_evict<const N: usize>(
+    core: &mut LruCore<u64, N>,
+    key: u64,
+    weight: usize,
+    gone: &mut Option<(u64, usize)>,
+) -> Result<usize, Refused<u64>> {
+    let before = shown(core);
+    match core.admit_and_evict(key, key, weight, |pair| *gone = Some(pair)) {
+        Err(refused)
+            if refused.cause == Cause::Memory
+                && refused.held == key
+                && gone.is_none()
+                && before == shown(core) => {
+            core.admit_and_evict(key, key, weight, |pair| *gone = Some(pair))
+        }
+        answer => answer,
+    }
+}
+
 fn write_pairs<W: Write>(pairs: &[(u64, usize)], writer: &mut W) -> io::Result<()> {
     for (data, weight) in pairs {
         writeln!(writer, "evicted {data} {weight}")?;
@@ -100,6 +120,20 @@ fn fall<W: Write>(core: &mut LruCore<u64, 1>, alloc: Global, writer: &mut W) -> 
 // (A function that makes a core has one way out behind that: each drops the core, and its proof grows with them.)
 fn one_shard<W: Write>(alloc: Global, writer: &mut W) -> io::Result<()> {
     fall(&mut limited(alloc, 10)?, alloc, writer)
+}
+
+// Five rows of weight 2 under a limit of 4, each of which makes its own room.
+fn turn_over<W: Write>(core: &mut LruCore<u64, 1>, writer: &mut W) -> io::Result<()> {
+    for key in 0..5u64 {
+        let mut gone = None;
+        let answer = admit_and_evict(core, key, 2, &mut gone);
+        writeln!(writer, "admit {key} {answer:?} for {gone:?}")?;
+    }
+    write_shown(core, writer)
+}
+
+fn turnover<W: Write>(alloc: Global, writer: &mut W) -> io::Result<()> {
+    turn_over(&mut limited(alloc, 4)?, writer)
 }
 
 // How many rows leave. Where memory cuts it short, the rest leave at the second try.
@@ -190,6 +224,7 @@ fn late<W: Write>(alloc: Global, writer: &mut W) -> io::Result<()> {
 
 pub fn script<W: Write>(alloc: Global, writer: &mut W) -> io::Result<()> {
     one_shard(alloc, writer)?;
+    turnover(alloc, writer)?;
     two_shards(alloc, writer)?;
     two_limits(alloc, writer)?;
     roomy(alloc, writer)?;
