@@ -4,5 +4,6 @@
 mod before;
 pub mod loading;
 pub mod next;
+pub mod removing;
 pub mod saving;
 mod syncing;
