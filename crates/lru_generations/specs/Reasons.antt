@@ -12,6 +12,7 @@ use Rattle.lru_checkpoints.specs.declared.errors.CheckpointError.{CheckpointErro
 use Rattle.lru_checkpoints.specs.declared.errors.CheckpointError.TheVariants.{Memory, Folder, Missing, Damaged, Other, LastGeneration}
 use Rattle.lru_checkpoints.specs.Causes.{HasSaveReason}
 use Rattle.lru_checkpoints.specs.Loads.{IsCallFault, IsRefusedFrame, IsRefusedManifest}
+use Rattle.lru_checkpoints.specs.Generations.{HasNoNext}
 use Rattle.lru_generations.specs.Before.{before_path, before_text}
 
 -- the sync of the names failed: for the device, for memory, or since the folder is not there
@@ -37,3 +38,8 @@ IsUnremoved meaning old new (Missing at) = ⊥
 IsUnremoved meaning old new (Damaged at part) = ⊥
 IsUnremoved meaning old new (Other at) = ⊥
 IsUnremoved meaning old new LastGeneration = ⊥
+
+-- the next checkpoint was not saved: there is no next number, or a file or the names were not written
+abbrev pub IsNextUnsaved : {F : Type 0} → Meaning F → List ℕ → List ℕ → F → F → CheckpointError → Type 0
+IsNextUnsaved meaning dir file_name old new error = HasNoNext meaning dir file_name old new error
+    ⊎ ((number : ℕ) × (IsUnsaved meaning dir file_name number old new error ⊎ IsUnsaved meaning dir (before_text file_name) number old new error))

@@ -2,6 +2,7 @@
 #![tactic(auto)]
 
 mod before;
+pub mod generations;
 pub mod loading;
 pub mod next;
 pub mod removing;

@@ -1,4 +1,4 @@
-use Rattle.std.proofs.Common.{◌≡◌, ◌<◌, ◌^◌, ℕ, suc, Some, inr, arith}
+use Rattle.std.proofs.Common.{◌≡◌, ℕ, suc, Some, inr, arith}
 use Rattle.lru_folder.specs.Meaning.{Meaning}
 use Rattle.lru_folder.proofs.LossLemmas.{spread-self}
 use Rattle.lru_manifests.specs.Manifests.{IsManifest}
