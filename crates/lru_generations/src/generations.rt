@@ -146,6 +146,9 @@ pub fn save<F: SyncedFolder, K: Stored, V: Stored>(
     ensures reason { F.meaning.keeps folder.old → IfErr result (λ error. (mid : F) × ((F.meaning.files mid ≡ F.meaning.files folder.old)
         × ((F.meaning.folders mid ≡ F.meaning.folders folder.old) × IsNextUnsaved F.meaning dir.now file_name.now mid folder.new error))) }
 
+    // Where neither memory nor the device failed, nothing was done.
+    ensures untouched { F.meaning.keeps folder.old → IfErr result (λ error. ¬ IsFault error → F.meaning.files folder.new ≡ F.meaning.files folder.old) }
+
     ensures places { F.meaning.keeps folder.old → F.meaning.folders folder.new ≡ F.meaning.folders folder.old }
     ensures kept { F.meaning.keeps folder.old ↔ F.meaning.keeps folder.new }
 {

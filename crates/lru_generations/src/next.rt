@@ -8,6 +8,7 @@ ghost use Rattle.lru_manifests.specs.Manifests.{IsManifest};
 ghost use Rattle.lru_manifests.specs.Names.{manifest_path};
 ghost use Rattle.lru_checkpoints.specs.Checkpoints.{Shards, HasCheckpoint};
 ghost use Rattle.lru_checkpoints.specs.Generations.{IsNext};
+ghost use Rattle.lru_checkpoints.specs.Loads.{IsFault};
 ghost use Rattle.lru_generations.specs.Before.{before_text, HasBefore, IsForGood, SavesAfter, SavesNext};
 ghost use Rattle.lru_generations.specs.Reasons.{IsNextUnsaved, IsUnsaved};
 
@@ -103,6 +104,9 @@ pub fn save_next<F: SyncedFolder, K: Stored, V: Stored>(
 
     // An error tells why there is no next number, or it names the file and the call that failed, and it has its reason.
     ensures reason { F.meaning.keeps folder.old → IfErr result (IsNextUnsaved F.meaning dir.now file_name.now folder.old folder.new) }
+
+    // Where neither memory nor the device failed, nothing was done.
+    ensures untouched { F.meaning.keeps folder.old → IfErr result (λ error. ¬ IsFault error → F.meaning.files folder.new ≡ F.meaning.files folder.old) }
 
     ensures faults { F.meaning.keeps folder.old → OnOk result (F.meaning.faults folder.new ≡ F.meaning.faults folder.old) }
     ensures places { F.meaning.keeps folder.old → F.meaning.folders folder.new ≡ F.meaning.folders folder.old }
