@@ -2,3 +2,4 @@ pub mod Reasoned
 pub mod ForGood
 pub mod BeforeNames
 pub mod SavedNext
+pub mod Older

@@ -1,5 +1,5 @@
 -- The checkpoint before the newest one, and what a save of the next one leaves.
-use Rattle.std.specs.Prelude.{◌≡◌, ◌⊎◌, ℕ, suc, List, ◌++◌, codes, Option, Some}
+use Rattle.std.specs.Prelude.{◌≡◌, ◌⊎◌, ◌<◌, ℕ, suc, List, ◌++◌, codes, Option, Some}
 use Rattle.std.specs.FinMap.{get}
 use Rattle.lru_folder.specs.Files.{Files}
 use Rattle.lru_folder.specs.Folder.{LeavesOnly}
@@ -8,7 +8,7 @@ use Rattle.lru_folder.specs.Meaning.{Meaning}
 use Rattle.lru_manifests.specs.declared.manifest.Manifest.{Manifest}
 use Rattle.lru_manifests.specs.Manifests.{IsManifest, manifest_bytes}
 use Rattle.lru_manifests.specs.Names.{manifest_path, manifest_temp_path}
-use Rattle.lru_checkpoints.specs.Checkpoints.{Shards, manifest_of, FitsEach, HasCheckpoint, HasFrames, IsPartOf}
+use Rattle.lru_checkpoints.specs.Checkpoints.{Shards, manifest_of, FitsEach, HasCheckpoint, HasFrames, IsFrame, IsPartOf}
 
 -- the file's name under which the manifest of the checkpoint before is written
 abbrev pub before_text : List ℕ → List ℕ
@@ -24,6 +24,10 @@ IsBeforeFile dir file_name q = (q ≡ manifest_temp_path dir (before_text file_n
 -- where there was a newest manifest, it is now that of the checkpoint before
 abbrev pub KeepsBefore : List ℕ → List ℕ → Option Manifest → Files → Type 0
 KeepsBefore dir file_name newest files = (manifest : Manifest) → newest ≡ Some manifest → get files (before_path dir file_name) ≡ Some (manifest_bytes manifest)
+
+-- a frame of a checkpoint that is older than the one before, where this is the newest one's number
+abbrev pub IsOlderFrame : List ℕ → List ℕ → ℕ → List ℕ → Type 0
+IsOlderFrame dir file_name newest q = (manifest : Manifest) × (IsManifest manifest × ((suc manifest.generation < newest) × IsFrame dir file_name manifest q))
 
 module _ {K V : Type 0} (key_bytes : K → List ℕ) (IsKey : K → Type 0) (data_bytes : V → List ℕ) (IsData : V → Type 0) (dir file_name : List ℕ) where
   -- The files have a whole checkpoint before the newest one, which can be read.

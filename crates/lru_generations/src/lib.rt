@@ -2,7 +2,9 @@
 #![tactic(auto)]
 
 mod before;
+pub mod generations;
 pub mod loading;
 pub mod next;
+pub mod removing;
 pub mod saving;
 mod syncing;

@@ -7,9 +7,10 @@ ghost use Rattle.lru_manifests.specs.declared.manifest.Manifest.{Manifest};
 ghost use Rattle.lru_manifests.specs.Manifests.{IsManifest};
 ghost use Rattle.lru_manifests.specs.Names.{manifest_path};
 ghost use Rattle.lru_checkpoints.specs.Checkpoints.{Shards, HasCheckpoint};
-ghost use Rattle.lru_checkpoints.specs.Generations.{IsNext, HasNoNext};
+ghost use Rattle.lru_checkpoints.specs.Generations.{IsNext};
+ghost use Rattle.lru_checkpoints.specs.Loads.{IsFault};
 ghost use Rattle.lru_generations.specs.Before.{before_text, HasBefore, IsForGood, SavesAfter, SavesNext};
-ghost use Rattle.lru_generations.specs.Reasons.{IsUnsaved};
+ghost use Rattle.lru_generations.specs.Reasons.{IsNextUnsaved, IsUnsaved};
 
 use crate::before::keep_before;
 use crate::saving::save_for_good;
@@ -102,8 +103,10 @@ pub fn save_next<F: SyncedFolder, K: Stored, V: Stored>(
         → HasBefore K.bytes_of K.is_value V.bytes_of V.is_value dir.now file_name.now generation rows m) }
 
     // An error tells why there is no next number, or it names the file and the call that failed, and it has its reason.
-    ensures reason { F.meaning.keeps folder.old → IfErr result (λ error. HasNoNext F.meaning dir.now file_name.now folder.old folder.new error ⊎ ((number : ℕ)
-        × (IsUnsaved F.meaning dir.now file_name.now number folder.old folder.new error ⊎ IsUnsaved F.meaning dir.now (before_text file_name.now) number folder.old folder.new error))) }
+    ensures reason { F.meaning.keeps folder.old → IfErr result (IsNextUnsaved F.meaning dir.now file_name.now folder.old folder.new) }
+
+    // Where neither memory nor the device failed, nothing was done.
+    ensures untouched { F.meaning.keeps folder.old → IfErr result (λ error. ¬ IsFault error → F.meaning.files folder.new ≡ F.meaning.files folder.old) }
 
     ensures faults { F.meaning.keeps folder.old → OnOk result (F.meaning.faults folder.new ≡ F.meaning.faults folder.old) }
     ensures places { F.meaning.keeps folder.old → F.meaning.folders folder.new ≡ F.meaning.folders folder.old }

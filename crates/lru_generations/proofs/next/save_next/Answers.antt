@@ -1,10 +1,10 @@
-use Rattle.std.proofs.Common.{◌≡◌, ◌<◌, ◌^◌, ℕ, suc, Some, inr, arith}
+use Rattle.std.proofs.Common.{◌≡◌, ℕ, suc, Some, inr, arith}
 use Rattle.lru_folder.specs.Meaning.{Meaning}
 use Rattle.lru_folder.proofs.LossLemmas.{spread-self}
 use Rattle.lru_manifests.specs.Manifests.{IsManifest}
 use Rattle.lru_checkpoints.specs.Checkpoints.{Shards, HasCheckpoint, manifest_of}
 use Rattle.lru_generations.specs.Before.{SavesNext}
-use Rattle.lru_generations.proofs.Reasoned.{told_from}
+use Rattle.lru_generations.proofs.Reasoned.{told_from, next_fault}
 use Rattle.lru_generations.proofs.SavedNext.{looked_next, saves_next, at_end, next_is}
 use Rattle.lru_generations.proofs.next.save_next.Goals as goal
 
@@ -83,3 +83,8 @@ returns-in-Err-save_after-clause-reason g c k =
     let m : Meaning _ = g.F.Folder.meaning in
     inr (told_from m c.args.dir.now c.args.file_name.now c.args.folder.now c.load_manifest.new.folder c.save_after.new.folder (c.load_manifest.ensures.places k) (c.in-Ok.ensures.faults k)
     c.in-Err-save_after.error (c.in-Err-save_after.ensures.reason (c.load_manifest.ensures.kept.0 k)))
+
+pub returns-in-Err-save_after-clause-untouched : goal.returns-in-Err-save_after-clause-untouched
+returns-in-Err-save_after-clause-untouched g c k other =
+    absurd (other (next_fault g.F.Folder.meaning c.args.dir.now c.args.file_name.now c.load_manifest.new.folder c.save_after.new.folder
+    c.in-Err-save_after.error (c.in-Err-save_after.ensures.reason (c.load_manifest.ensures.kept.0 k))))
