@@ -207,16 +207,16 @@ impl<K: Hash, V, S: BuildHasher> Cache<K, V, S> {
     pub fn peek_by<Q: Query<K>>(&self, query: Q) -> Option<&V>
         ensures { option_copied result ≡ option_map (λ e. e.value) (entry_of Q.stands_for self.now.entries query) }
     {
-        let place = self.rows.find_by(query)?;
-        Some(self.rows.value_at(place))
+        let found = self.rows.find_by(query)?;
+        Some(self.rows.value_at(found))
     }
 
     /// As `weight_of`, by what stands for the key.
     pub fn weight_by<Q: Query<K>>(&self, query: Q) -> Option<usize>
         ensures { result ≡ option_map (λ e. e.weight) (entry_of Q.stands_for self.now.entries query) }
     {
-        let place = self.rows.find_by(query)?;
-        Some(self.rows.weight_at(place))
+        let found = self.rows.find_by(query)?;
+        Some(self.rows.weight_at(found))
     }
 
     /// The key, the value and the weight of the entry that was used longest ago, which is not used by that.
