@@ -183,31 +183,31 @@ module _ {K V : Type 0} where
   none_told (r ∷ rs) told =
       absurd (false≢true (ap is_some (told ∙ ap (option_map (λ (x : Placed K V). x.place)) (slice_get-get_or (r ∷ rs) (length (r ∷ rs) - 1) r (omega arith)))))
 
-  module _ (eq : K → K → Bool) where
+  module _ {Q : Type 0} (eq : K → Q → Bool) where
     -- the entry of a key
-    pub entry-row : (rows : List (Placed K V)) (key : K) → entry_of eq (entries_in rows) key ≡ option_map entry_in (row_of eq rows key)
+    pub entry-row : (rows : List (Placed K V)) (key : Q) → entry_of eq (entries_in rows) key ≡ option_map entry_in (row_of eq rows key)
     entry-row [] key = refl
     entry-row (r ∷ rs) key =
         cond_both (eq r.key key) (Some r) (row_of eq rs key) (λ o. cond (eq r.key key) (Some (entry_in r)) (entry_of eq (entries_in rs) key) ≡ option_map entry_in o)
         (λ e. ap (λ b. cond b (Some (entry_in r)) (entry_of eq (entries_in rs) key)) e)
         (λ e. ap (λ b. cond b (Some (entry_in r)) (entry_of eq (entries_in rs) key)) e ∙ entry-row rs key)
 
-    abbrev keyed : K → List (Placed K V) → ℕ
+    abbrev pub keyed : Q → List (Placed K V) → ℕ
     keyed key rows = count_by (λ r. eq r.key key) rows
 
-    keyed-cons : (key : K) (r : Placed K V) (rs : List (Placed K V)) → keyed key (r ∷ rs) ≡ cond (eq r.key key) 1 0 + keyed key rs
+    pub keyed-cons : (key : Q) (r : Placed K V) (rs : List (Placed K V)) → keyed key (r ∷ rs) ≡ cond (eq r.key key) 1 0 + keyed key rs
     keyed-cons key r rs = sum_by-cons (λ (x : Placed K V). cond (eq x.key key) 1 0) r rs
 
-    pub keyed-entries : (key : K) (rows : List (Placed K V)) → count_by (λ (e : Entry K V). eq e.key key) (entries_in rows) ≡ keyed key rows
+    pub keyed-entries : (key : Q) (rows : List (Placed K V)) → count_by (λ (e : Entry K V). eq e.key key) (entries_in rows) ≡ keyed key rows
     keyed-entries key [] = refl
     keyed-entries key (r ∷ rs) =
         sum_by-cons (λ (e : Entry K V). cond (eq e.key key) 1 0) (entry_in r) (entries_in rs) ∙ ap (λ n. cond (eq r.key key) 1 0 + n) (keyed-entries key rs) ∙ sym (keyed-cons key r rs)
 
-    counts : (r : Placed K V) (key : K) (b : Bool) → eq r.key key ≡ b → ◌≡◌ {A = ℕ} (cond (eq r.key key) 1 0) (cond b 1 0)
+    pub counts : (r : Placed K V) (key : Q) (b : Bool) → eq r.key key ≡ b → ◌≡◌ {A = ℕ} (cond (eq r.key key) 1 0) (cond b 1 0)
     counts r key b e = ap (λ x. cond x 1 0) e
 
     -- a key that no row has
-    keyless : (key : K) (rows : List (Placed K V)) → keyed key rows ≡ 0 → without eq (entries_in rows) key ≡ entries_in rows
+    keyless : (key : Q) (rows : List (Placed K V)) → keyed key rows ≡ 0 → without eq (entries_in rows) key ≡ entries_in rows
     keyless key [] none = refl
     keyless key (r ∷ rs) none =
         by_bool (eq r.key key)
@@ -216,7 +216,7 @@ module _ {K V : Type 0} where
         let less : ◌≡◌ {A = ℕ} (keyed key rs) 0 = omega (arith, none, keyed-cons key r rs, counts r key false e) in
         ap (λ b. cond (not b) (entry_in r ∷ without eq (entries_in rs) key) (without eq (entries_in rs) key)) e ∙ ap (λ es. entry_in r ∷ es) (keyless key rs less))
 
-    pub absent_without : (key : K) (rows : List (Placed K V)) → row_of eq rows key ≡ None → without eq (entries_in rows) key ≡ entries_in rows
+    pub absent_without : (key : Q) (rows : List (Placed K V)) → row_of eq rows key ≡ None → without eq (entries_in rows) key ≡ entries_in rows
     absent_without key [] none = refl
     absent_without key (r ∷ rs) none =
         by_bool (eq r.key key)
@@ -226,7 +226,7 @@ module _ {K V : Type 0} where
         ∙ ap (λ es. entry_in r ∷ es) (absent_without key rs (sym (ap (λ b. cond b (Some r) (row_of eq rs key)) e) ∙ none)))
 
     -- a row that is found stands there
-    found_there : (key : K) (rows : List (Placed K V)) (r : Placed K V) → row_of eq rows key ≡ Some r → 1 ≤ places r.place rows
+    found_there : (key : Q) (rows : List (Placed K V)) (r : Placed K V) → row_of eq rows key ≡ Some r → 1 ≤ places r.place rows
     found_there key [] r found = absurd (false≢true (ap is_some found))
     found_there key (x ∷ xs) r found =
         by_bool (eq x.key key)
@@ -241,7 +241,7 @@ module _ {K V : Type 0} where
         ])
 
     -- and is the one at its place
-    pub row_there : (key : K) (rows : List (Placed K V)) (r : Placed K V) → row_of eq rows key ≡ Some r → ((p : ℕ) → places p rows ≤ 1) → row_at rows r.place ≡ Some r
+    pub row_there : (key : Q) (rows : List (Placed K V)) (r : Placed K V) → row_of eq rows key ≡ Some r → ((p : ℕ) → places p rows ≤ 1) → row_at rows r.place ≡ Some r
     row_there key [] r found once = absurd (false≢true (ap is_some found))
     row_there key (x ∷ xs) r found once =
         by_bool (eq x.key key)
@@ -255,7 +255,7 @@ module _ {K V : Type 0} where
         ap (λ b. cond b (Some x) (row_at xs r.place)) (ne_eqb x.place r.place ne) ∙ row_there key xs r rest (tail_once_of x xs once))
 
     -- the entries without a key's are the rows without that at its place
-    pub entries-without : (key : K) (rows : List (Placed K V)) (r : Placed K V) → row_of eq rows key ≡ Some r → ((p : ℕ) → places p rows ≤ 1) → keyed key rows ≤ 1 →
+    pub entries-without : (key : Q) (rows : List (Placed K V)) (r : Placed K V) → row_of eq rows key ≡ Some r → ((p : ℕ) → places p rows ≤ 1) → keyed key rows ≤ 1 →
         entries_in (rows_without rows r.place) ≡ without eq (entries_in rows) key
     entries-without key [] r found once one = absurd (false≢true (ap is_some found))
     entries-without key (x ∷ xs) r found once one =

@@ -149,23 +149,25 @@ module _ {K V : Type 0} where
     pub called : FoldsTo (λ p a q. Asks step p a.0 a.1 q) keep (reverse asked) left
     pub kept : new ≡ with_entries old (kept_of asked)
 
-  module _ (eq : K → K → Bool) where
+  -- by what stands for a key: a key that equals it, or what a query matches
+  module _ {Q : Type 0} (eq : K → Q → Bool) where
     -- the entry of a key, if there is one
-    abbrev pub entry_of : List (Entry K V) → K → Option (Entry K V)
+    abbrev pub entry_of : List (Entry K V) → Q → Option (Entry K V)
     entry_of es key = find (λ e. eq e.key key) es
 
     -- the entries without that key's
-    abbrev pub without : List (Entry K V) → K → List (Entry K V)
+    abbrev pub without : List (Entry K V) → Q → List (Entry K V)
     without es key = filter (λ e. not (eq e.key key)) es
 
     -- a key's entry goes first, if it has one
-    abbrev pub used : List (Entry K V) → K → List (Entry K V)
+    abbrev pub used : List (Entry K V) → Q → List (Entry K V)
     used es key = option_map_or (λ e. e ∷ without es key) (entry_of es key) es
 
     -- a key's entry goes last, if it has one
-    abbrev pub demoted : List (Entry K V) → K → List (Entry K V)
+    abbrev pub demoted : List (Entry K V) → Q → List (Entry K V)
     demoted es key = option_map_or (λ e. without es key ++ e ∷ []) (entry_of es key) es
 
+  module _ (eq : K → K → Bool) where
     -- what holds of every cache: no key has two entries, and it is over no limit
     pub record IsCache (c : Cached K V) : Type 0 where
       pub keys : (k : K) → count_by (λ e. eq e.key k) c.entries ≤ 1
@@ -176,28 +178,28 @@ module _ {K V : Type 0} where
     -- why an entry may be refused: it is too heavy by itself, or there may be none; or its key has no entry, nothing has to go for it, and there is no place for it
     abbrev pub MayRefuse : Cached K V → K → ℕ → Cause → Type 0
     MayRefuse old k w TooHeavy = (old.most_weight < w) ⊎ (old.most_entries ≡ 0)
-    MayRefuse old k w Full = (entry_of old.entries k ≡ None) × (Fit (old.most_weight - w) (old.most_entries - 1) old.entries × (length old.entries ≡ most_rows))
-    MayRefuse old k w Memory = (entry_of old.entries k ≡ None) × (Fit (old.most_weight - w) (old.most_entries - 1) old.entries × ((length old.entries < most_rows) × (old.places ≡ length old.entries)))
+    MayRefuse old k w Full = (entry_of eq old.entries k ≡ None) × (Fit (old.most_weight - w) (old.most_entries - 1) old.entries × (length old.entries ≡ most_rows))
+    MayRefuse old k w Memory = (entry_of eq old.entries k ≡ None) × (Fit (old.most_weight - w) (old.most_entries - 1) old.entries × ((length old.entries < most_rows) × (old.places ≡ length old.entries)))
 
     -- an entry that fits by itself is put first in place of its key's, which is answered, and the shortest end of the others goes that has to. Or it is refused: key and value are handed back, and nothing has changed
     abbrev pub Puts : {F : Type 0} → (F → Entry K V → F → Type 0) → F → Cached K V → K → V → ℕ → Result (Option (Entry K V)) (Refused K V) → Cached K V → Type 0
     Puts Step visit old k v w (Ok was) new =
-        ((w ≤ old.most_weight) × (0 < old.most_entries)) × ((was ≡ entry_of old.entries k) × ((front : List (Entry K V)) × ((gone : List (Entry K V))
-        × (Leaves (old.most_weight - w) (old.most_entries - 1) (without old.entries k) front gone × (IsShown Step visit gone × (new ≡ with_entries old (entry k v w ∷ front)))))))
+        ((w ≤ old.most_weight) × (0 < old.most_entries)) × ((was ≡ entry_of eq old.entries k) × ((front : List (Entry K V)) × ((gone : List (Entry K V))
+        × (Leaves (old.most_weight - w) (old.most_entries - 1) (without eq old.entries k) front gone × (IsShown Step visit gone × (new ≡ with_entries old (entry k v w ∷ front)))))))
     Puts Step visit old k v w (Err r) new = MayRefuse old k w r.cause × ((r.key ≡ k) × ((r.value ≡ v) × (new ≡ old)))
 
     -- a key's entry goes first, and its value is lent to a closure, which may change it; where it has none, nothing is called
     abbrev pub UpdatesEntry : {R : Type 0} → (MutBor V → ℕ → R → MutBor V → Type 0) → Cached K V → K → Option R → Cached K V → Type 0
-    UpdatesEntry post old key None new = (entry_of old.entries key ≡ None) × (new ≡ old)
+    UpdatesEntry post old key None new = (entry_of eq old.entries key ≡ None) × (new ≡ old)
     UpdatesEntry post old key (Some answer) new =
-        (e : Entry K V) × ((entry_of old.entries key ≡ Some e) × ((v : V) × (Updates post e.value e.weight answer v × (new ≡ with_entries old (entry e.key v e.weight ∷ without old.entries key)))))
+        (e : Entry K V) × ((entry_of eq old.entries key ≡ Some e) × ((v : V) × (Updates post e.value e.weight answer v × (new ≡ with_entries old (entry e.key v e.weight ∷ without eq old.entries key)))))
 
     -- a key is used; or, where it has no entry, one is put of a value and a weight that `Makes` allows, or none is made
     abbrev pub UsesOrPuts : {E F : Type 0} → (Result (V × ℕ) E → Type 0) → (F → Entry K V → F → Type 0) → F → Cached K V → K → Result Bool (NotPut K V E) → Cached K V → Type 0
-    UsesOrPuts Makes Step visit old key (Ok true) new = IsSome (entry_of old.entries key) × (new ≡ with_entries old (used old.entries key))
+    UsesOrPuts Makes Step visit old key (Ok true) new = IsSome (entry_of eq old.entries key) × (new ≡ with_entries old (used eq old.entries key))
     UsesOrPuts Makes Step visit old key (Ok false) new = (made : V × ℕ) × (Makes (Ok made) × Puts Step visit old key made.0 made.1 (Ok None) new)
-    UsesOrPuts Makes Step visit old key (Err (Unmade k e)) new = (entry_of old.entries key ≡ None) × (Makes (Err e) × ((k ≡ key) × (new ≡ old)))
-    UsesOrPuts Makes Step visit old key (Err (EntryRefused r)) new = (entry_of old.entries key ≡ None) × ((made : V × ℕ) × (Makes (Ok made) × Puts Step visit old key made.0 made.1 (Err r) new))
+    UsesOrPuts Makes Step visit old key (Err (Unmade k e)) new = (entry_of eq old.entries key ≡ None) × (Makes (Err e) × ((k ≡ key) × (new ≡ old)))
+    UsesOrPuts Makes Step visit old key (Err (EntryRefused r)) new = (entry_of eq old.entries key ≡ None) × ((made : V × ℕ) × (Makes (Ok made) × Puts Step visit old key made.0 made.1 (Err r) new))
 
     -- an entry is put whose weight a closure answers
     abbrev pub PutsWeighed : {F : Type 0} → (Bor K → Bor V → ℕ → Type 0) → (F → Entry K V → F → Type 0) → F → Cached K V → K → V → Result (Option (Entry K V)) (Refused K V) → Cached K V → Type 0
@@ -206,11 +208,11 @@ module _ {K V : Type 0} where
     -- a key's entry goes first, and its value is lent to a closure, which may change it and answers the weight from then on. The shortest end of the others goes that has to.
     -- An entry that is too heavy by itself then goes alone, and is handed back. Where the key has none, nothing is called
     abbrev pub Reweighs : {F : Type 0} → (MutBor V → ℕ → ℕ → MutBor V → Type 0) → (F → Entry K V → F → Type 0) → F → Cached K V → K → Result Bool (Entry K V) → Cached K V → Type 0
-    Reweighs post Step visit old key (Ok false) new = (entry_of old.entries key ≡ None) × (new ≡ old)
+    Reweighs post Step visit old key (Ok false) new = (entry_of eq old.entries key ≡ None) × (new ≡ old)
     Reweighs post Step visit old key (Ok true) new =
-        (e : Entry K V) × ((entry_of old.entries key ≡ Some e) × ((v : V) × ((w : ℕ) × (Updates post e.value e.weight w v × ((w ≤ old.most_weight)
-        × ((front : List (Entry K V)) × ((gone : List (Entry K V)) × (Leaves (old.most_weight - w) (old.most_entries - 1) (without old.entries key) front gone
+        (e : Entry K V) × ((entry_of eq old.entries key ≡ Some e) × ((v : V) × ((w : ℕ) × (Updates post e.value e.weight w v × ((w ≤ old.most_weight)
+        × ((front : List (Entry K V)) × ((gone : List (Entry K V)) × (Leaves (old.most_weight - w) (old.most_entries - 1) (without eq old.entries key) front gone
         × (IsShown Step visit gone × (new ≡ with_entries old (entry e.key v w ∷ front)))))))))))
     Reweighs post Step visit old key (Err back) new =
-        (e : Entry K V) × ((entry_of old.entries key ≡ Some e) × ((back.key ≡ e.key) × (Updates post e.value e.weight back.weight back.value
-        × ((old.most_weight < back.weight) × (new ≡ with_entries old (without old.entries key))))))
+        (e : Entry K V) × ((entry_of eq old.entries key ≡ Some e) × ((back.key ≡ e.key) × (Updates post e.value e.weight back.weight back.value
+        × ((old.most_weight < back.weight) × (new ≡ with_entries old (without eq old.entries key))))))

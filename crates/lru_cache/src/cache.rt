@@ -8,6 +8,7 @@ use crate::draining::drain;
 use crate::keeping::retain;
 use crate::shrinking::{fits, shrink};
 use lru_index::hashing::SeededHashes;
+use lru_index::keys::Query;
 use lru_list::linked_list::LinkedListIter;
 use lru_rows::iter::RowsEntries;
 use lru_rows::rows::{NoPlace, Rows};
@@ -195,6 +196,29 @@ impl<K: Hash, V, S: BuildHasher> Cache<K, V, S> {
         Some(self.rows.weight_at(place))
     }
 
+    /// As `contains`, by what stands for the key.
+    pub fn contains_by<Q: Query<K>>(&self, query: Q) -> bool
+        ensures { result ≡ is_some (entry_of Q.stands_for self.now.entries query) }
+    {
+        self.rows.find_by(query).is_some()
+    }
+
+    /// As `peek`, by what stands for the key.
+    pub fn peek_by<Q: Query<K>>(&self, query: Q) -> Option<&V>
+        ensures { option_copied result ≡ option_map (λ e. e.value) (entry_of Q.stands_for self.now.entries query) }
+    {
+        let found = self.rows.find_by(query)?;
+        Some(self.rows.value_at(found))
+    }
+
+    /// As `weight_of`, by what stands for the key.
+    pub fn weight_by<Q: Query<K>>(&self, query: Q) -> Option<usize>
+        ensures { result ≡ option_map (λ e. e.weight) (entry_of Q.stands_for self.now.entries query) }
+    {
+        let found = self.rows.find_by(query)?;
+        Some(self.rows.weight_at(found))
+    }
+
     /// The key, the value and the weight of the entry that was used longest ago, which is not used by that.
     pub fn peek_last(&self) -> Option<(&K, &V, usize)>
         ensures { IsLast self.now.entries (option_map (λ s. entry s.0.now s.1.now s.2) result) }
@@ -238,6 +262,18 @@ impl<K: Hash, V, S: BuildHasher> Cache<K, V, S> {
         ensures valid { IsCache K.eq self.old }
     {
         let Some(place) = self.rows.find(key) else {
+            return false;
+        };
+        self.rows.promote(place);
+        true
+    }
+
+    /// As `promote`, by what stands for the key.
+    pub fn promote_by<Q: Query<K>>(&mut self, query: Q) -> bool
+        ensures answer { result ≡ is_some (entry_of Q.stands_for self.old.entries query) }
+        ensures entries { self.new ≡ with_entries self.old (used Q.stands_for self.old.entries query) }
+    {
+        let Some(place) = self.rows.find_by(query) else {
             return false;
         };
         self.rows.promote(place);
@@ -519,6 +555,20 @@ impl<K: Hash + Default + Drop, V: Drop, S: BuildHasher> Cache<K, V, S> {
         ensures valid { IsCache K.eq self.old }
     {
         let row = self.rows.remove(key)?;
+        self.weight -= row.weight;
+        Some(Entry {
+            key: row.key,
+            value: row.value,
+            weight: row.weight,
+        })
+    }
+
+    /// As `remove`, by what stands for the key.
+    pub fn remove_by<Q: Query<K>>(&mut self, query: Q) -> Option<Entry<K, V>>
+        ensures answer { result ≡ entry_of Q.stands_for self.old.entries query }
+        ensures entries { self.new ≡ with_entries self.old (without Q.stands_for self.old.entries query) }
+    {
+        let row = self.rows.remove_by(query)?;
         self.weight -= row.weight;
         Some(Entry {
             key: row.key,

@@ -12,7 +12,7 @@ use Rattle.lru_index.proofs.Walked.{cell_within, has_link, split, tail_is, has_f
 use Rattle.lru_index.proofs.Indexed.{length_homes, zero_free, room_is, put_keeps, cut_keeps, no_key, absent, put_index, cut_index, grown_index}
 
 -- ---- where a walk has ended
-module _ {K : Type 0} (eq : K → K → Bool) (keys : ℕ → Option K) (key : K) (cells : List ℕ) (heads shift : ℕ) (keeps : IsKept cells heads shift) (b cell : ℕ) (low : b < 2 ^ (64 - shift)) (given : List ℕ) (same : given ≡ cells) (reached : Reaches eq keys key given heads b cell) where
+module _ {K Q : Type 0} (eq : K → Q → Bool) (keys : ℕ → Option K) (key : Q) (cells : List ℕ) (heads shift : ℕ) (keeps : IsKept cells heads shift) (b cell : ℕ) (low : b < 2 ^ (64 - shift)) (given : List ℕ) (same : given ≡ cells) (reached : Reaches eq keys key given heads b cell) where
   low_is : b < heads
   low_is = subst (λ n. b < n) (sym keeps.scale) low
 
@@ -46,18 +46,19 @@ module _ {K : Type 0} (eq : K → K → Bool) (keys : ℕ → Option K) (key : K
             let chain = split eq keys key cells heads b keeps.table low_is cell here.walk v read_is some in
             subst (λ xs. IsKept xs heads shift) left_is (cut_keeps cells heads shift keeps b v here.walk.front tail low_is chain)
 
-        module _ {S : Type 0} (laws : IsEquivalence eq) (hash : S → K → ℕ) (respects : (s : S) (x y : K) → IsTrue (eq x y) → hash s x ≡ hash s y) (hash_builder : S) (index : Index S) (view : index_of cells heads shift hash_builder ≡ index) (of : Indexes eq hash index keys) where
-          pub cut_indexes : Indexes eq hash (index_of (set cells cell w) heads shift hash_builder) (gone keys v)
+        module _ {S : Type 0} (same_key : K → K → Bool) (laws : IsEquivalence same_key) (hash : S → K → ℕ) (respects : (s : S) (x y : K) → IsTrue (same_key x y) → hash s x ≡ hash s y) (hash_builder : S) (index : Index S) (view : index_of cells heads shift hash_builder ≡ index) (of : Indexes same_key hash index keys) where
+          pub cut_indexes : Indexes same_key hash (index_of (set cells cell w) heads shift hash_builder) (gone keys v)
           cut_indexes =
               let tail = (tail_is eq keys key cells heads b keeps.table low_is cell here.walk v read_is some).0 in
               let chain = split eq keys key cells heads b keeps.table low_is cell here.walk v read_is some in
-              subst (λ xs. Indexes eq hash (index_of xs heads shift hash_builder) (gone keys v)) left_is
-              (cut_index eq laws hash respects cells heads shift hash_builder keeps keys (subst (λ i. Indexes eq hash i keys) (sym view) of) b v here.walk.front tail low_is chain)
+              subst (λ xs. Indexes same_key hash (index_of xs heads shift hash_builder) (gone keys v)) left_is
+              (cut_index same_key laws hash respects cells heads shift hash_builder keeps keys (subst (λ i. Indexes same_key hash i keys) (sym view) of) b v here.walk.front tail low_is chain)
 
-    module _ {S : Type 0} (laws : IsEquivalence eq) (hash : S → K → ℕ) (respects : (s : S) (x y : K) → IsTrue (eq x y) → hash s x ≡ hash s y) (hash_builder : S) (index : Index S) (view : index_of cells heads shift hash_builder ≡ index) (of : Indexes eq hash index keys) (bits_are : b ≡ hash hash_builder key / 2 ^ shift) where
+    module _ {S : Type 0} (same_key : K → K → Bool) (laws : IsEquivalence same_key) (hash : S → K → ℕ) (respects : (s : S) (x y : K) → IsTrue (same_key x y) → hash s x ≡ hash s y) (hash_builder : S) (index : Index S) (view : index_of cells heads shift hash_builder ≡ index) (of : Indexes same_key hash index keys)
+        (hashed : ℕ) (alike : (k : K) → IsTrue (eq k key) → hash hash_builder k ≡ hashed) (bits_are : b ≡ hashed / 2 ^ shift) where
       pub absent_is : v ≡ 0 → IsAbsent eq keys key
       absent_is none =
-          absent eq laws hash respects cells heads shift hash_builder keeps keys (subst (λ i. Indexes eq hash i keys) (sym view) of) key b bits_are low_is cell here (sym read_is ∙ none)
+          absent same_key laws hash respects cells heads shift hash_builder keeps keys (subst (λ i. Indexes same_key hash i keys) (sym view) of) eq key hashed alike b bits_are low_is cell here (sym read_is ∙ none)
 
 -- ---- a place put in
 module _ {S : Type 0} (cells : List ℕ) (heads shift : ℕ) (hash_builder : S) (keeps : IsKept cells heads shift) (index : Index S) (view : index_of cells heads shift hash_builder ≡ index) where

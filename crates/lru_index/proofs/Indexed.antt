@@ -142,20 +142,28 @@ module _ {K S : Type 0} (eq : K → K → Bool) (laws : IsEquivalence eq) (hash 
   pub no_key : (p : ℕ) → home_in cells heads p ≡ None → keys p ≡ None
   no_key p e = unmapped (λ k. hash hash_builder k / 2 ^ shift) (keys p) (sym (index.known p) ∙ e)
 
+  -- what stands for keys of one hash
+  module _ {Q : Type 0} (stands : K → Q → Bool) (query : Q) (hashed : ℕ) (alike : (k : K) → IsTrue (stands k query) → hash hash_builder k ≡ hashed) (b : ℕ) (bits_are : b ≡ hashed / 2 ^ shift) (low : b < heads) where
+    -- a place of such a key stands in its home
+    stands_home : (q : ℕ) (k : K) → keys q ≡ Some k → IsTrue (stands k query) → home_in cells heads q ≡ Some b
+    stands_home q k e same =
+        index.known q ∙ ap (option_map (λ x. hash hash_builder x / 2 ^ shift)) e
+        ∙ ap (λ n. Some (n / 2 ^ shift)) (alike k same) ∙ ap (λ n. Some n) (sym bits_are)
+
+    -- a chain without such a key: no place has one
+    pub absent : (cell : ℕ) → Reaches stands keys query cells heads b cell → at cells cell ≡ 0 → IsAbsent stands keys query
+    absent cell r end q k e =
+        elim (cases_Bool (stands k query)) [
+          | inl t ↦ all_passed stands keys query cells heads b keeps.table low cell r.walk end q (stands_home q k e t) k e
+          | inr f ↦ f
+        ]
+
   module _ (key : K) (b : ℕ) (bits_are : b ≡ hash hash_builder key / 2 ^ shift) (low : b < heads) where
     -- a place of the key stands in its home
     at_home : (q : ℕ) (k : K) → keys q ≡ Some k → IsTrue (eq k key) → home_in cells heads q ≡ Some b
     at_home q k e same =
         index.known q ∙ ap (option_map (λ x. hash hash_builder x / 2 ^ shift)) e
         ∙ ap (λ n. Some (n / 2 ^ shift)) (respects hash_builder k key same) ∙ ap (λ n. Some n) (sym bits_are)
-
-    -- a chain without the key: no place has it
-    pub absent : (cell : ℕ) → Reaches eq keys key cells heads b cell → at cells cell ≡ 0 → IsAbsent eq keys key
-    absent cell r end q k e =
-        elim (cases_Bool (eq k key)) [
-          | inl t ↦ all_passed eq keys key cells heads b keeps.table low cell r.walk end q (at_home q k e t) k e
-          | inr f ↦ f
-        ]
 
     module _ (p : ℕ) (some : 0 < p) (room : p < length (homes_of cells heads)) (free : home_in cells heads p ≡ None) (new : IsAbsent eq keys key) where
       put_once : (q r : ℕ) (j k : K) → put keys p key q ≡ Some j → put keys p key r ≡ Some k → IsTrue (eq j k) → q ≡ r

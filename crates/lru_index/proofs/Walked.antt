@@ -14,7 +14,7 @@ pub none_left : (cells : List ℕ) (heads v : ℕ) (ps : List ℕ) → IsChain c
 none_left cells heads v [] h zero_is = refl
 none_left cells heads v (p ∷ ps) h zero_is = absurd (omega (arith, h.0, h.1, zero_is))
 
-module _ {K : Type 0} (eq : K → K → Bool) (keys : ℕ → Option K) (key : K) (cells : List ℕ) (heads b : ℕ) (table : IsTable cells heads (home_in cells heads)) (low : b < heads) where
+module _ {K Q : Type 0} (eq : K → Q → Bool) (keys : ℕ → Option K) (key : Q) (cells : List ℕ) (heads b : ℕ) (table : IsTable cells heads (home_in cells heads)) (low : b < heads) where
   pub start : Walks eq keys key cells heads b b
   start = let c = table.chains b low in record { front = []; rest = c.0; chain = c.1; cell_is = refl; passed = λ p i. absurd i }
 

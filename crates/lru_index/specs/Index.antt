@@ -48,24 +48,26 @@ module _ {K : Type 0} where
   abbrev pub known_of : (K → ℕ) → ℕ → (ℕ → Option K) → ℕ → Option ℕ
   known_of hash shift keys p = option_map (λ k. hash k / 2 ^ shift) (keys p)
 
-  module _ (eq : K → K → Bool) where
+  -- by what stands for a key: a key that equals it, or what a query matches
+  module _ {Q : Type 0} (eq : K → Q → Bool) where
     -- a place has this key
-    abbrev pub HasKey : (ℕ → Option K) → K → ℕ → Type 0
+    abbrev pub HasKey : (ℕ → Option K) → Q → ℕ → Type 0
     HasKey keys key p = (k : K) × (keys p ≡ Some k) × IsTrue (eq k key)
 
     -- a place has another key, or none
-    abbrev pub Differs : (ℕ → Option K) → K → ℕ → Type 0
+    abbrev pub Differs : (ℕ → Option K) → Q → ℕ → Type 0
     Differs keys key p = (k : K) → keys p ≡ Some k → eq k key ≡ false
 
     -- no place has this key
-    abbrev pub IsAbsent : (ℕ → Option K) → K → Type 0
+    abbrev pub IsAbsent : (ℕ → Option K) → Q → Type 0
     IsAbsent keys key = (p : ℕ) → Differs keys key p
 
     -- what is found of a key: its place, if it has one
-    abbrev pub Finds : (ℕ → Option K) → K → Option ℕ → Type 0
+    abbrev pub Finds : (ℕ → Option K) → Q → Option ℕ → Type 0
     Finds keys key None = IsAbsent keys key
     Finds keys key (Some p) = HasKey keys key p
 
+  module _ (eq : K → K → Bool) where
     -- no two places have equal keys
     abbrev pub IsOneEach : (ℕ → Option K) → Type 0
     IsOneEach keys = (p q : ℕ) (j k : K) → keys p ≡ Some j → keys q ≡ Some k → IsTrue (eq j k) → p ≡ q
@@ -77,4 +79,4 @@ module _ {K : Type 0} where
 
     -- a key that had no place gets this one, whatever the others are
     abbrev pub Inserts : {S : Type 0} → (S → K → ℕ) → Index S → K → ℕ → Index S → Type 0
-    Inserts hash old key p new = (keys : ℕ → Option K) → IsAbsent keys key → Indexes hash old keys → Indexes hash new (put keys p key)
+    Inserts hash old key p new = (keys : ℕ → Option K) → IsAbsent eq keys key → Indexes hash old keys → Indexes hash new (put keys p key)

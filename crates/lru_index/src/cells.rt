@@ -7,7 +7,7 @@ ghost use Rattle.lru_index.specs.Hashing.{key_hash};
 ghost use Rattle.lru_index.specs.Representation.Walks.{Reaches};
 
 use crate::hashing::hash_of;
-use crate::keys::Keys;
+use crate::keys::{Keys, Query};
 use std::alloc::{AllocError, Global};
 use std::hash::{BuildHasher, Hash};
 
@@ -95,24 +95,24 @@ pub(crate) fn put_first(cells: &mut [u32], heads: usize, home: usize, place: u32
     cells[home] = place;
 }
 
-/// The cell that holds the place of a key, or the 0 behind the places of its home.
+/// The cell that holds the place of the key that is asked for, or the 0 behind the places of its home.
 #[inline(always)]
-pub(crate) fn cell_of<K: PartialEq, T: Keys<K>>(
+pub(crate) fn cell_of<K: Hash, Q: Query<K>, T: Keys<K>>(
     cells: &[u32],
     heads: usize,
     home: usize,
     keys: &T,
-    key: &K,
+    query: &Q,
 ) -> usize
     requires table { IsTable cells.now heads (home_in cells.now heads) }
     requires home { home < heads }
     requires live { (p : ℕ) → home_in cells.now heads p ≡ Some home → IsSome (T.key_of keys.now p) }
-    ensures { Reaches K.eq (T.key_of keys.now) key.now cells.now heads home result }
+    ensures { Reaches Q.stands_for (T.key_of keys.now) query.now cells.now heads home result }
 {
     let mut cell = home;
     loop {
         let place = cells[cell];
-        if place == 0 || *keys.key_at(place) == *key {
+        if place == 0 || query.stands_for(keys.key_at(place)) {
             return cell;
         }
         cell = heads + place as usize;

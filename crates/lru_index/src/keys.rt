@@ -1,5 +1,7 @@
-//! What tells the key of a place.
-ghost use Rattle.std.specs.Prelude.{◌≡◌, ℕ, Option, Some, IsSome, is_some};
+//! What tells the key of a place, and what stands for a key.
+ghost use Rattle.std.specs.Prelude.{◌≡◌, ℕ, Bool, Option, Some, IsSome, IsTrue, is_some};
+
+use std::hash::Hash;
 
 /// Rows that know the key of each of their places.
 pub trait Keys<K> {
@@ -14,4 +16,36 @@ pub trait Keys<K> {
     fn key_at(&self, place: u32) -> &K
         requires { IsSome (key_of self.now place) }
         ensures { key_of self.now place ≡ Some result.now };
+}
+
+/// What stands for a key where one is looked up: a reference to the key, or what it lends, as a `&str` where the keys are
+/// texts. So no key has to be made for a look-up.
+pub trait Query<K: Hash>: Copy + Hash {
+    // the keys that it stands for
+    ghost stands_for: { K → Self → Bool };
+
+    /// Whether it stands for a key.
+    fn stands_for(&self, key: &K) -> bool
+        ensures { result ≡ stands_for key.now self.now };
+
+    // it is hashed as the keys that it stands for
+    ghost respects_hash: { (q : Self) (k : K) → IsTrue (stands_for k q) → K.hash_input k ≡ Self.hash_input q };
+
+    // the keys that it stands for are equal
+    ghost respects_eq: { (q : Self) (x y : K) → IsTrue (stands_for x q) → IsTrue (stands_for y q) → IsTrue (K.eq x y) };
+}
+
+impl<K: Hash> Query<K> for &K {
+    ghost use Rattle.std.proofs.Common.{◌∙◌, sym};
+
+    ghost stands_for = { λ k q. K.eq k q.now };
+
+    ghost respects_hash = { λ q k e. K.respects_eq k q.now e };
+
+    ghost respects_eq = { λ q x y a b. sym (K.Eq.laws.congr q.now x y (K.Eq.laws.symm q.now x ∙ a)) ∙ K.Eq.laws.symm q.now y ∙ b };
+
+    #[inline(always)]
+    fn stands_for(&self, key: &K) -> bool {
+        *key == **self
+    }
 }

@@ -11,7 +11,7 @@ use crate::cells::{
     shift_for,
 };
 use crate::hashing::SeededHashes;
-use crate::keys::Keys;
+use crate::keys::{Keys, Query};
 use std::alloc::{AllocError, Global};
 use std::hash::{BuildHasher, Hash};
 use std::marker::Model;
@@ -112,8 +112,17 @@ impl<S: BuildHasher> PlaceIndex<S> {
         requires { Indexes K.eq (key_hash S.BuildHasher S.Hasher.Hasher K.hash_input) self.now (T.key_of keys.now) }
         ensures { Finds K.eq (T.key_of keys.now) key.now result }
     {
-        let home = home_of(&self.hash_builder, self.shift, key);
-        let cell = cell_of(&self.cells, self.heads, home, keys, key);
+        self.find_by(keys, key)
+    }
+
+    /// The place of the key that the query stands for, if there is one.
+    #[inline(always)]
+    pub fn find_by<K: Hash, Q: Query<K>, T: Keys<K>>(&self, keys: &T, query: Q) -> Option<u32>
+        requires { Indexes K.eq (key_hash S.BuildHasher S.Hasher.Hasher K.hash_input) self.now (T.key_of keys.now) }
+        ensures { Finds Q.stands_for (T.key_of keys.now) query result }
+    {
+        let home = home_of(&self.hash_builder, self.shift, &query);
+        let cell = cell_of(&self.cells, self.heads, home, keys, &query);
         let found = self.cells[cell];
         if found == 0 {
             return None;
@@ -142,8 +151,19 @@ impl<S: BuildHasher> PlaceIndex<S> {
         ensures indexes { Indexes K.eq (key_hash S.BuildHasher S.Hasher.Hasher K.hash_input) self.new (gone_at (T.key_of keys.now) result) }
         ensures room { room_of self.new ≡ room_of self.old }
     {
-        let home = home_of(&self.hash_builder, self.shift, key);
-        let cell = cell_of(&self.cells, self.heads, home, keys, key);
+        self.remove_by(keys, key)
+    }
+
+    /// Takes the place of the key out that the query stands for, and answers it. Where there is none, nothing changes.
+    #[inline(always)]
+    pub fn remove_by<K: Hash, Q: Query<K>, T: Keys<K>>(&mut self, keys: &T, query: Q) -> Option<u32>
+        requires { Indexes K.eq (key_hash S.BuildHasher S.Hasher.Hasher K.hash_input) self.old (T.key_of keys.now) }
+        ensures finds { Finds Q.stands_for (T.key_of keys.now) query result }
+        ensures indexes { Indexes K.eq (key_hash S.BuildHasher S.Hasher.Hasher K.hash_input) self.new (gone_at (T.key_of keys.now) result) }
+        ensures room { room_of self.new ≡ room_of self.old }
+    {
+        let home = home_of(&self.hash_builder, self.shift, &query);
+        let cell = cell_of(&self.cells, self.heads, home, keys, &query);
         let place = self.cells[cell];
         if place == 0 {
             return None;

@@ -44,15 +44,15 @@ module _ {K : Type 0} where
       apart : (q : ℕ) → 1 ≤ times q (indices_of ps) → p.0 ≢ q
       apart q h e = absurd (omega (arith, once_head p.0 (indices_of ps) once, subst (λ z. 1 ≤ times z (indices_of ps)) (sym e) h))
 
-module _ {K T : Type 0} (eq : K → K → Bool) (keys : ℕ → Option K) (weights : List ℕ) (values : List (Option T)) where
-  row_of_here : (r : Placed K T) (rs : List (Placed K T)) (key : K) → IsTrue (eq r.key key) → row_of eq (r ∷ rs) key ≡ Some r
+module _ {K Q T : Type 0} (eq : K → Q → Bool) (keys : ℕ → Option K) (weights : List ℕ) (values : List (Option T)) where
+  row_of_here : (r : Placed K T) (rs : List (Placed K T)) (key : Q) → IsTrue (eq r.key key) → row_of eq (r ∷ rs) key ≡ Some r
   row_of_here r rs key e = ap (λ b. cond b (Some r) (row_of eq rs key)) e
 
-  row_of_other : (r : Placed K T) (rs : List (Placed K T)) (key : K) → eq r.key key ≡ false → row_of eq (r ∷ rs) key ≡ row_of eq rs key
+  row_of_other : (r : Placed K T) (rs : List (Placed K T)) (key : Q) → eq r.key key ≡ false → row_of eq (r ∷ rs) key ≡ row_of eq rs key
   row_of_other r rs key e = ap (λ b. cond b (Some r) (row_of eq rs key)) e
 
   -- a key that no place has has no row
-  pub absent_row : (key : K) → IsAbsent eq keys key → (ps : List (ℕ × K)) → Known keys ps → row_of eq (rows_in weights values ps) key ≡ None
+  pub absent_row : (key : Q) → IsAbsent eq keys key → (ps : List (ℕ × K)) → Known keys ps → row_of eq (rows_in weights values ps) key ≡ None
   absent_row key absent [] known = refl
   absent_row key absent (p ∷ ps) known =
       let rest = absent_row key absent ps known.1 in
@@ -60,21 +60,20 @@ module _ {K T : Type 0} (eq : K → K → Bool) (keys : ℕ → Option K) (weigh
       (λ d some. ap (λ rs. row_of eq rs key) (rows-cons weights values p ps d some)
       ∙ row_of_other (placed p.0 p.1 d (get_or weights p.0 0)) (rows_in weights values ps) key (absent p.0 p.1 known.0) ∙ rest)
 
-  module _ (laws : IsEquivalence eq) (once : IsOneEach eq keys) where
+  module _ (same_key : K → K → Bool) (once : IsOneEach same_key keys) (key : Q) (agree : (x y : K) → IsTrue (eq x key) → IsTrue (eq y key) → IsTrue (same_key x y)) where
     -- another place has another key
-    differs_by : (b : Bool) (key : K) (i : ℕ) (k : K) → keys i ≡ Some k → IsTrue (eq k key) → (q : ℕ) (j : K) → keys q ≡ Some j → q ≢ i → eq j key ≡ b → eq j key ≡ false
-    differs_by false key i k found same q j known ne e = e
-    differs_by true key i k found same q j known ne e =
-        absurd (ne (once q i j k known found (sym (laws.congr key j k (laws.symm key j ∙ e)) ∙ laws.symm key k ∙ same)))
-
-    differs : (key : K) (i : ℕ) (k : K) → keys i ≡ Some k → IsTrue (eq k key) → (q : ℕ) (j : K) → keys q ≡ Some j → q ≢ i → eq j key ≡ false
-    differs key i k found same q j known ne = differs_by (eq j key) key i k found same q j known ne refl
+    differs_from : (i : ℕ) (k : K) → keys i ≡ Some k → IsTrue (eq k key) → (q : ℕ) (j : K) → keys q ≡ Some j → q ≢ i → eq j key ≡ false
+    differs_from i k found same q j known ne = from (eq j key) refl
+      where
+        from : (b : Bool) → eq j key ≡ b → eq j key ≡ false
+        from false e = e
+        from true e = absurd (ne (once q i j k known found (agree j k e same)))
 
     -- the row of a key is that of the place that has it
-    pub key_row : (key : K) (i : ℕ) (k : K) (d : T) → keys i ≡ Some k → IsTrue (eq k key) → value_at values i ≡ Some d →
+    pub key_row : (i : ℕ) (k : K) (d : T) → keys i ≡ Some k → IsTrue (eq k key) → value_at values i ≡ Some d →
         (ps : List (ℕ × K)) → Known keys ps → Held weights values ps → 1 ≤ times i (indices_of ps) → row_of eq (rows_in weights values ps) key ≡ Some (placed i k d (get_or weights i 0))
-    key_row key i k d found same value [] known held there = absurd (omega (arith, there))
-    key_row key i k d found same value (p ∷ ps) known held there =
+    key_row i k d found same value [] known held there = absurd (omega (arith, there))
+    key_row i k d found same value (p ∷ ps) known held there =
         let v = held_head weights values p ps held in
         let row = placed p.0 p.1 v.0 (get_or weights p.0 0) in
         ap (λ rs. row_of eq rs key) (rows-cons weights values p ps v.0 v.1)
@@ -85,9 +84,24 @@ module _ {K T : Type 0} (eq : K → K → Bool) (keys : ℕ → Option K) (weigh
               row_of_here row (rows_in weights values ps) key (ap (λ x. eq x key) key_is ∙ same)
               ∙ ap (λ q. Some (placed q p.1 v.0 (get_or weights q 0))) e ∙ ap (λ x. Some (placed i x v.0 (get_or weights i 0))) key_is ∙ ap (λ x. Some (placed i k x (get_or weights i 0))) value_is
           | inr ne ↦
-              row_of_other row (rows_in weights values ps) key (differs key i k found same p.0 p.1 known.0 ne)
-              ∙ key_row key i k d found same value ps known.1 (held_tail weights values p ps held) (omega (arith, there, times_other i p.0 (indices_of ps) ne))
+              row_of_other row (rows_in weights values ps) key (differs_from i k found same p.0 p.1 known.0 ne)
+              ∙ key_row i k d found same value ps known.1 (held_tail weights values p ps held) (omega (arith, there, times_other i p.0 (indices_of ps) ne))
         ]
+
+-- keys that equal a key are equal
+pub agreeing : {K : Type 0} (eq : K → K → Bool) → IsEquivalence eq → (key x y : K) → IsTrue (eq x key) → IsTrue (eq y key) → IsTrue (eq x y)
+agreeing eq laws key x y a b = sym (laws.congr key x y (laws.symm key x ∙ a)) ∙ laws.symm key y ∙ b
+
+module _ {K T : Type 0} (eq : K → K → Bool) (keys : ℕ → Option K) (weights : List ℕ) (values : List (Option T)) where
+  module _ (laws : IsEquivalence eq) (once : IsOneEach eq keys) where
+    -- another place has another key
+    differs_by : (b : Bool) (key : K) (i : ℕ) (k : K) → keys i ≡ Some k → IsTrue (eq k key) → (q : ℕ) (j : K) → keys q ≡ Some j → q ≢ i → eq j key ≡ b → eq j key ≡ false
+    differs_by false key i k found same q j known ne e = e
+    differs_by true key i k found same q j known ne e =
+        absurd (ne (once q i j k known found (sym (laws.congr key j k (laws.symm key j ∙ e)) ∙ laws.symm key k ∙ same)))
+
+    differs : (key : K) (i : ℕ) (k : K) → keys i ≡ Some k → IsTrue (eq k key) → (q : ℕ) (j : K) → keys q ≡ Some j → q ≢ i → eq j key ≡ false
+    differs key i k found same q j known ne = differs_by (eq j key) key i k found same q j known ne refl
 
     -- no key has two rows
     abbrev times_key : K → List (Placed K T) → ℕ

@@ -1,6 +1,6 @@
 -- Rows that are taken out, by key or as the last.
 use Rattle.std.proofs.Common.{◌≡◌, ℕ, ◌+◌, ◌-◌, List, [], ◌∷◌, ◌++◌, length, get_or, set, Some, None, refl, sym, ap, ◌∙◌, subst, arith, true, suc}
-use Rattle.std.specs.Prelude.{Option, Bool, is_some, slice_get}
+use Rattle.std.specs.Prelude.{Option, Bool, is_some, slice_get, IsTrue}
 use Rattle.std.specs.Cmp.{IsEquivalence}
 use Rattle.std.proofs.lemmas.Bool.{false≢true}
 use Rattle.std.proofs.lemmas.List.{map-append, get_or-set_other}
@@ -15,7 +15,7 @@ use Rattle.lru_rows.proofs.Orders.{item_end, taken_back}
 use Rattle.lru_rows.proofs.Listed.{some_of, rows-append, rows-cons, rows-same}
 use Rattle.lru_rows.proofs.Kept.{Stands, stands_by_key, once_all}
 use Rattle.lru_rows.proofs.Moves.{kept_removed, rows_removed, free_removed, kept_as, without_end, not_there}
-use Rattle.lru_rows.proofs.Viewed.{rows_are, free_is, seen_finds}
+use Rattle.lru_rows.proofs.Viewed.{rows_are, free_is, seen_finds, seen_finds_by}
 
 -- the last pair, by its place
 pub record Last {K : Type 0} (live : List (ℕ × K)) (p : ℕ) : Type 0 where
@@ -106,6 +106,17 @@ module _ {K S T : Type 0} (eq : K → K → Bool) (hash : S → K → ℕ) (orde
           view_out,
         )
 
+    -- of the key that a query stands for
+    pub removes_row_by : {Q : Type 0} (stands : K → Q → Bool) (query : Q) → ((x y : K) → IsTrue (stands x query) → IsTrue (stands y query) → IsTrue (eq x y)) → index_Finds stands (item_of order.live) query (Some p) →
+        Removes stands r query (Some (record { key = key; value = d; weight = w })) (recency (rows_in weights' values' order'.live) (length order'.freed))
+    removes_row_by stands query agree finds =
+        let at = seen_finds_by eq hash order index weights values kept r view stands query agree (Some p) finds in (
+          placed p k d (get_or weights p 0),
+          at.1 ∙ sym at.2 ∙ row_here,
+          out_is,
+          view_out,
+        )
+
     -- of the last
     pub pops_row : (front : List (ℕ × K)) → order.live ≡ front ++ (p, k) ∷ [] → PopsLast r (Some (record { key = key; value = d; weight = w })) (recency (rows_in weights' values' order'.live) (length order'.freed))
     pops_row front whole = (
@@ -163,6 +174,12 @@ module _ {K S T : Type 0} (eq : K → K → Bool) (hash : S → K → ℕ) (orde
   pub removes_none : IsEquivalence eq → (asked : K) → index_Finds eq (item_of order.live) asked None → (o : Option (Taken K T)) → o ≡ None → Removes eq r asked o (recency (rows_in weights values order.live) (length order.freed))
   removes_none laws asked absent o is =
       subst (λ x. Removes eq r asked x (recency (rows_in weights values order.live) (length order.freed))) (sym is) (nothing_found laws asked absent, view)
+
+  pub removes_none_by : {Q : Type 0} (stands : K → Q → Bool) (query : Q) → ((x y : K) → IsTrue (stands x query) → IsTrue (stands y query) → IsTrue (eq x y)) → index_Finds stands (item_of order.live) query None → (o : Option (Taken K T)) → o ≡ None →
+      Removes stands r query o (recency (rows_in weights values order.live) (length order.freed))
+  removes_none_by stands query agree absent o is =
+      subst (λ x. Removes stands r query x (recency (rows_in weights values order.live) (length order.freed))) (sym is)
+      (seen_finds_by eq hash order index weights values kept r view stands query agree None absent, view)
 
   -- an order with no tail has no rows
   no_tail : (live : List (ℕ × K)) → None ≡ slice_get (indices_of live) (length live - 1) → live ≡ []

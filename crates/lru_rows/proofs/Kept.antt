@@ -1,6 +1,6 @@
 -- What is known of rows by what is kept of them.
 use Rattle.std.proofs.Common.{◌≡◌, ℕ, ◌+◌, ◌<◌, ◌≤◌, List, length, get_or, Some, None, refl, sym, ap, ◌∙◌, arith, true, false}
-use Rattle.std.specs.Prelude.{Option, Bool, is_some, IsSome}
+use Rattle.std.specs.Prelude.{Option, Bool, is_some, IsSome, IsTrue}
 use Rattle.std.specs.Cmp.{IsEquivalence}
 use Rattle.std.proofs.lemmas.Bool.{false≢true}
 use Rattle.lru_index.specs.Index.{Index, Finds as index_Finds}
@@ -9,7 +9,7 @@ use Rattle.lru_list.proofs.LinkedLaws.{item_from_stands, stands_from_item, live_
 use Rattle.lru_rows.specs.Rows.{Placed, placed, row_at, row_of, IsAt, Finds, IsRecency}
 use Rattle.lru_rows.specs.Representation.Columns.{value_at, rows_in, IsKept}
 use Rattle.lru_rows.proofs.Listed.{Held, row_found, row_missing, length-rows}
-use Rattle.lru_rows.proofs.Found.{Known, known_all, absent_row, key_row, keys_once, places_times}
+use Rattle.lru_rows.proofs.Found.{Known, known_all, absent_row, key_row, agreeing, keys_once, places_times}
 
 pub some_is : {A : Type 0} (o : Option A) → IsSome o → (a : A) × (o ≡ Some a)
 some_is None h = absurd (false≢true h)
@@ -67,15 +67,19 @@ module _ {K S T : Type 0} (eq : K → K → Bool) (hash : S → K → ℕ) (orde
   }
 
   -- what an index finds is what is found among the rows
-  pub finds_row : IsEquivalence eq → (key : K) (o : Option ℕ) → index_Finds eq (item_of order.live) key o → Finds eq (rows_in weights values order.live) key o
+  pub finds_by : {Q : Type 0} (stands : K → Q → Bool) (query : Q) → ((x y : K) → IsTrue (stands x query) → IsTrue (stands y query) → IsTrue (eq x y)) →
+      (o : Option ℕ) → index_Finds stands (item_of order.live) query o → Finds stands (rows_in weights values order.live) query o
   unfolding stands_by_key
-  finds_row laws key None absent = absent_row eq (item_of order.live) weights values key absent order.live known_keys
-  finds_row laws key (Some p) (k, found, same) =
+  finds_by stands query agree None absent = absent_row stands (item_of order.live) weights values query absent order.live known_keys
+  finds_by stands query agree (Some p) (k, found, same) =
       let s = stands_by_key p k found in (
         placed p k s.value (get_or weights p 0),
-        key_row eq (item_of order.live) weights values laws kept.indexed.once key p k s.value found same s.holds order.live known_keys held_all (stands_from_item order.live p (ap is_some found)),
+        key_row stands (item_of order.live) weights values eq kept.indexed.once query agree p k s.value found same s.holds order.live known_keys held_all (stands_from_item order.live p (ap is_some found)),
         s.row,
       )
+
+  pub finds_row : IsEquivalence eq → (key : K) (o : Option ℕ) → index_Finds eq (item_of order.live) key o → Finds eq (rows_in weights values order.live) key o
+  finds_row laws key o found = finds_by eq key (agreeing eq laws key) o found
 
   -- a key without a row is at no place
   pub absent_key : IsEquivalence eq → (key : K) → row_of eq (rows_in weights values order.live) key ≡ None → (p : ℕ) (k : K) → item_of order.live p ≡ Some k → eq k key ≡ false

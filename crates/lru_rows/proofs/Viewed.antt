@@ -1,6 +1,6 @@
 -- The rows that a caller sees, and what calls make of them.
 use Rattle.std.proofs.Common.{◌≡◌, ℕ, ◌-◌, ◌<◌, ◌≤◌, List, [], ◌∷◌, length, get_or, set, Some, sym, ap, ◌∙◌, subst, arith, zero, suc}
-use Rattle.std.specs.Prelude.{Option, Bool, is_some, IsSome, slice_get, map}
+use Rattle.std.specs.Prelude.{Option, Bool, is_some, IsSome, IsTrue, slice_get, map}
 use Rattle.std.specs.Option.{option_map}
 use Rattle.std.specs.Cmp.{IsEquivalence}
 use Rattle.std.proofs.lemmas.Option.{slice_get-map}
@@ -12,7 +12,7 @@ use Rattle.lru_list.proofs.LinkedLaws.{live_range, stands_in}
 use Rattle.lru_rows.specs.Rows.{Placed, placed, Recency, recency, row_at, IsAt, Finds, IsRecency, last_row, first_row, promoted, demoted, with_weight, with_value}
 use Rattle.lru_rows.specs.Representation.Columns.{value_at, rows_in, IsKept}
 use Rattle.lru_rows.proofs.Listed.{some_of, stands_behind, places-rows}
-use Rattle.lru_rows.proofs.Kept.{key_of_place, is_some_of, Stands, stands, held_all, recency_holds, finds_row, length_is}
+use Rattle.lru_rows.proofs.Kept.{key_of_place, is_some_of, Stands, stands, held_all, recency_holds, finds_row, finds_by, length_is}
 use Rattle.lru_rows.proofs.Moves.{rows_promoted, free_promoted, rows_demoted, free_demoted, rows_weight, rows_value}
 
 -- what is found in a list stands there
@@ -86,6 +86,10 @@ module _ {K S T : Type 0} (eq : K → K → Bool) (hash : S → K → ℕ) (orde
 
   pub seen_len : (n : ℕ) → n ≡ length order.live → n ≡ length r.rows
   seen_len n is = is ∙ sym (length_is eq hash order index weights values kept) ∙ ap length rows_are
+
+  pub seen_finds_by : {Q : Type 0} (stands : K → Q → Bool) (query : Q) → ((x y : K) → IsTrue (stands x query) → IsTrue (stands y query) → IsTrue (eq x y)) →
+      (o : Option ℕ) → index_Finds stands (item_of order.live) query o → Finds stands r.rows query o
+  seen_finds_by stands query agree o found = subst (λ rs. Finds stands rs query o) rows_are (finds_by eq hash order index weights values kept stands query agree o found)
 
   module _ (laws : IsEquivalence eq) where
     pub seen_valid : IsRecency eq r.rows

@@ -88,26 +88,28 @@ module _ {K T : Type 0} where
   abbrev pub taken : Placed K T → Taken K T
   taken r = record { key = r.key; value = r.value; weight = r.weight }
 
-  module _ (eq : K → K → Bool) where
+  -- by what stands for a key: a key that equals it, or what a query matches
+  module _ {Q : Type 0} (eq : K → Q → Bool) where
     -- the row of a key, if there is one
-    abbrev pub row_of : List (Placed K T) → K → Option (Placed K T)
+    abbrev pub row_of : List (Placed K T) → Q → Option (Placed K T)
     row_of rows key = find (λ r. eq r.key key) rows
 
     -- what is found of a key: the place of its row, if it has one
-    abbrev pub Finds : List (Placed K T) → K → Option ℕ → Type 0
+    abbrev pub Finds : List (Placed K T) → Q → Option ℕ → Type 0
     Finds rows key None = row_of rows key ≡ None
     Finds rows key (Some p) = (r : Placed K T) × (row_of rows key ≡ Some r) × (row_at rows p ≡ Some r)
 
+    -- what a call answers that takes a key's row out: the row, if there is one, whose place is free from then on
+    abbrev pub Removes : Recency K T → Q → Option (Taken K T) → Recency K T → Type 0
+    Removes old key None new = (row_of old.rows key ≡ None) × (new ≡ old)
+    Removes old key (Some t) new = (r : Placed K T) × (row_of old.rows key ≡ Some r) × (t ≡ taken r) × (new ≡ recency (without old.rows r.place) (old.free + 1))
+
+  module _ (eq : K → K → Bool) where
     -- what holds of all rows: no place has two rows, nor has a key
     pub record IsRecency (rows : List (Placed K T)) : Type 0 where
       pub places : (p : ℕ) → count_by (λ r. r.place == p) rows ≤ 1
       pub keys : (k : K) → count_by (λ r. eq r.key k) rows ≤ 1
       pub short : length rows ≤ most_rows
-
-    -- what a call answers that takes a key's row out: the row, if there is one, whose place is free from then on
-    abbrev pub Removes : Recency K T → K → Option (Taken K T) → Recency K T → Type 0
-    Removes old key None new = (row_of old.rows key ≡ None) × (new ≡ old)
-    Removes old key (Some t) new = (r : Placed K T) × (row_of old.rows key ≡ Some r) × (t ≡ taken r) × (new ≡ recency (without old.rows r.place) (old.free + 1))
 
   -- the same for the last row
   abbrev pub PopsLast : Recency K T → Option (Taken K T) → Recency K T → Type 0

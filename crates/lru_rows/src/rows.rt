@@ -8,7 +8,7 @@ use crate::columns::Columns;
 use crate::iter::{RowsEntries, RowsIter};
 use crate::order::Order;
 use lru_index::hashing::SeededHashes;
-use lru_index::keys::Keys;
+use lru_index::keys::{Keys, Query};
 use lru_list::linked_list::{LinkedList, LinkedListIter, MOST_ITEMS, PushError};
 use std::alloc::{AllocError, Global};
 use std::hash::{BuildHasher, Hash};
@@ -155,6 +155,15 @@ impl<K: Hash, T, S: BuildHasher> Rows<K, T, S> {
         ensures valid { IsRecency K.eq self.now.rows }
     {
         self.columns.index.find(&self.order, key)
+    }
+
+    /// The place of the row whose key the query stands for.
+    #[inline(always)]
+    pub fn find_by<Q: Query<K>>(&self, query: Q) -> Option<Place>
+        ensures finds { Finds Q.stands_for self.now.rows query result }
+        ensures valid { IsRecency K.eq self.now.rows }
+    {
+        self.columns.index.find_by(&self.order, query)
     }
 
     /// The place of the row that was used longest ago.
@@ -384,6 +393,19 @@ impl<K: Hash + Default + Drop, T: Drop, S: BuildHasher> Rows<K, T, S> {
         ensures valid { IsRecency K.eq self.old.rows }
     {
         let place = self.columns.index.remove(&self.order, key)?;
+        let at = place as usize;
+        let (value, weight) = self.columns.take(at);
+        let key = self.order.list.remove(at);
+        Some(Taken { key, value, weight })
+    }
+
+    /// Takes the row out whose key the query stands for. Its place is free then.
+    #[inline(always)]
+    pub fn remove_by<Q: Query<K>>(&mut self, query: Q) -> Option<Taken<K, T>>
+        ensures removes { Removes Q.stands_for self.old query result self.new }
+        ensures valid { IsRecency K.eq self.old.rows }
+    {
+        let place = self.columns.index.remove_by(&self.order, query)?;
         let at = place as usize;
         let (value, weight) = self.columns.take(at);
         let key = self.order.list.remove(at);

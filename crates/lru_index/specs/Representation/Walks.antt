@@ -3,7 +3,7 @@ use Rattle.std.specs.Prelude.{◌≡◌, ℕ, Bool, List, [], ◌∷◌, ◌++�
 use Rattle.lru_index.specs.Index.{HasKey, Differs}
 use Rattle.lru_index.specs.Representation.Cells.{In, Chains, home_in, end_cell}
 
-module _ {K : Type 0} (eq : K → K → Bool) (keys : ℕ → Option K) (key : K) where
+module _ {K Q : Type 0} (eq : K → Q → Bool) (keys : ℕ → Option K) (key : Q) where
   -- a cell of the chain of home b, behind places that have other keys
   pub record Walks (cells : List ℕ) (heads b cell : ℕ) : Type 0 where
     pub front : List ℕ

@@ -1,0 +1,136 @@
+-- What is found, used or taken out by what stands for a key.
+use Rattle.std.proofs.Common.{◌≡◌, ℕ, ◌+◌, ◌-◌, ◌≤◌, List, [], ◌∷◌, ◌++◌, length, Some, None, sym, ap, ◌∙◌, subst, arith, true, false}
+use Rattle.std.specs.Prelude.{Option, Bool, is_some, max, count_by, IsTrue}
+use Rattle.std.specs.Option.{option_map, option_map_or}
+use Rattle.lru_rows.specs.declared.rows.Taken.{Taken}
+use Rattle.lru_rows.specs.Rows.{Placed, Recency, recency, row_at, row_of, IsAt, Finds, IsRecency, promoted, Removes as RowsRemoves, without as rows_without}
+use Rattle.lru_cache.specs.declared.cache.Entry.{Entry}
+use Rattle.lru_cache.specs.Cache.{Cached, entry, entry_of, without, used, with_entries}
+use Rattle.lru_cache.specs.Representation.{entry_in, entries_in, weight_in, cached_in, IsKept}
+use Rattle.lru_cache.proofs.Entries.{by_bool, row_place, row_there, weight-cons, weight-without, length-without, length-entries, entry-row, entries-without, absent_without, keyed, keyed-cons, counts}
+use Rattle.lru_cache.proofs.Views.{entries_are, with_rows}
+
+-- a query stands for one row's key at most
+module _ {K Q V : Type 0} (stands : K → Q → Bool) (query : Q) (same_key : K → K → Bool) (itself : (k : K) → IsTrue (same_key k k)) (agree : (x y : K) → IsTrue (stands x query) → IsTrue (stands y query) → IsTrue (same_key x y)) where
+  fewer_stand : (k : K) → IsTrue (stands k query) → (rows : List (Placed K V)) → keyed stands query rows ≤ keyed same_key k rows
+  fewer_stand k it [] = omega arith
+  fewer_stand k it (x ∷ xs) =
+      by_bool (stands x.key query)
+      (λ e. omega (arith, fewer_stand k it xs, keyed-cons stands query x xs, counts stands x query true e, keyed-cons same_key k x xs, counts same_key x k true (agree x.key k e it)))
+      (λ e. omega (arith, fewer_stand k it xs, keyed-cons stands query x xs, counts stands x query false e, keyed-cons same_key k x xs))
+
+  pub one_stands : (rows : List (Placed K V)) → ((k : K) → keyed same_key k rows ≤ 1) → keyed stands query rows ≤ 1
+  one_stands [] once = omega arith
+  one_stands (x ∷ xs) once =
+      by_bool (stands x.key query)
+      (λ e. omega (arith, fewer_stand x.key e xs, once x.key, keyed-cons stands query x xs, counts stands x query true e, keyed-cons same_key x.key x xs, counts same_key x x.key true (itself x.key)))
+      (λ e. omega (arith, one_stands xs (λ k. omega (arith, once k, keyed-cons same_key k x xs)), keyed-cons stands query x xs, counts stands x query false e))
+
+module _ {K Q V : Type 0} (same_key : K → K → Bool) (r : Recency K V) (used_is most_weight most_entries : ℕ) (kept : IsKept r used_is most_weight most_entries) (c : Cached K V)
+    (view : cached_in r most_weight most_entries ≡ c) (stands : K → Q → Bool) (query : Q) where
+  same_entries : entries_in r.rows ≡ c.entries
+  same_entries = entries_are same_key r used_is most_weight most_entries kept c view
+
+  found_entry : entry_of stands c.entries query ≡ option_map entry_in (row_of stands r.rows query)
+  found_entry = ap (λ es. entry_of stands es query) (sym same_entries) ∙ entry-row stands r.rows query
+
+  pub query_some : (o : Option ℕ) → Finds stands r.rows query o → is_some o ≡ is_some (entry_of stands c.entries query)
+  query_some None none = sym (ap is_some (found_entry ∙ ap (option_map entry_in) none))
+  query_some (Some p) (x, found, at) = sym (ap is_some (found_entry ∙ ap (option_map entry_in) found))
+
+  pub query_at : (p : ℕ) → Finds stands r.rows query (Some p) → IsAt r.rows p
+  query_at p (x, found, at) = ap is_some at
+
+  pub query_value : (p : ℕ) (v : V) → Finds stands r.rows query (Some p) → option_map (λ (x : Placed K V). x.value) (row_at r.rows p) ≡ Some v → Some v ≡ option_map (λ (e : Entry K V). e.value) (entry_of stands c.entries query)
+  query_value p v (x, found, at) is =
+      sym is ∙ ap (option_map (λ (y : Placed K V). y.value)) at ∙ sym (ap (option_map (λ (e : Entry K V). e.value)) (found_entry ∙ ap (option_map entry_in) found))
+
+  pub query_weight : (p : ℕ) (w : ℕ) → Finds stands r.rows query (Some p) → option_map (λ (x : Placed K V). x.weight) (row_at r.rows p) ≡ Some w → Some w ≡ option_map (λ (e : Entry K V). e.weight) (entry_of stands c.entries query)
+  query_weight p w (x, found, at) is =
+      sym is ∙ ap (option_map (λ (y : Placed K V). y.weight)) at ∙ sym (ap (option_map (λ (e : Entry K V). e.weight)) (found_entry ∙ ap (option_map entry_in) found))
+
+  pub query_nothing : {B : Type 0} (f : Entry K V → B) → Finds stands r.rows query None → None ≡ option_map f (entry_of stands c.entries query)
+  query_nothing f none = sym (ap (option_map f) (found_entry ∙ ap (option_map entry_in) none))
+
+  unchanged : with_entries c c.entries ≡ c
+  unchanged =
+      subst (λ x. with_entries x x.entries ≡ x) view
+      (ap (λ n. record { entries = entries_in r.rows; places = n; most_weight = most_weight; most_entries = most_entries }) (omega (arith, length-entries r.rows)))
+
+  pub query_unused : Finds stands r.rows query None → c ≡ with_entries c (used stands c.entries query)
+  query_unused none =
+      sym unchanged
+      ∙ ap (with_entries c) (sym (ap (λ o. option_map_or (λ e. e ∷ without stands c.entries query) o c.entries) (found_entry ∙ ap (option_map entry_in) none)))
+
+  pub query_untaken : (o : Option (Entry K V)) → o ≡ None → row_of stands r.rows query ≡ None → o ≡ entry_of stands c.entries query
+  query_untaken o is none = is ∙ sym (found_entry ∙ ap (option_map entry_in) none)
+
+  pub query_kept_all : (r' : Recency K V) → r' ≡ r → row_of stands r.rows query ≡ None → cached_in r' most_weight most_entries ≡ with_entries c (without stands c.entries query)
+  query_kept_all r' is none =
+      ap (λ x. cached_in x most_weight most_entries) is ∙ view ∙ sym unchanged
+      ∙ ap (with_entries c) (sym (ap (λ es. without stands es query) (sym same_entries) ∙ absent_without stands query r.rows none ∙ same_entries))
+
+  module _ (itself : (k : K) → IsTrue (same_key k k)) (agree : (x y : K) → IsTrue (stands x query) → IsTrue (stands y query) → IsTrue (same_key x y)) (valid : IsRecency same_key r.rows) where
+    one : keyed stands query r.rows ≤ 1
+    one = one_stands stands query same_key itself agree r.rows valid.keys
+
+    -- the entry goes first
+    module _ (p : ℕ) (finds : Finds stands r.rows query (Some p)) where
+      first : promoted r.rows p ≡ finds.0 ∷ rows_without r.rows p
+      first = ap (λ o. option_map_or (λ x. x ∷ rows_without r.rows p) o r.rows) finds.2
+
+      others : entries_in (rows_without r.rows p) ≡ without stands c.entries query
+      others =
+          ap (λ q. entries_in (rows_without r.rows q)) (sym (row_place r.rows p finds.0 finds.2))
+          ∙ entries-without stands query r.rows finds.0 finds.1 valid.places one ∙ ap (λ es. without stands es query) same_entries
+
+      as_long : length r.rows ≡ 1 + length (rows_without r.rows p)
+      as_long = length-without p r.rows (ap is_some finds.2) (valid.places p)
+
+      pub query_kept_used : (r' : Recency K V) → r' ≡ recency (promoted r.rows p) r.free → IsKept r' used_is most_weight most_entries
+      query_kept_used r' is = subst (λ x. IsKept x used_is most_weight most_entries) (sym (is ∙ ap (λ rs. recency rs r.free) first)) (record {
+        used_is = kept.used_is ∙ weight-without p r.rows finds.0 finds.2 (valid.places p) ∙ sym (weight-cons finds.0 (rows_without r.rows p));
+        light = kept.light;
+        few = omega (arith, kept.few, as_long);
+      })
+
+      pub query_view_used : (r' : Recency K V) → r' ≡ recency (promoted r.rows p) r.free → cached_in r' most_weight most_entries ≡ with_entries c (used stands c.entries query)
+      query_view_used r' is =
+          ap (λ x. cached_in x most_weight most_entries) (is ∙ ap (λ rs. recency rs r.free) first)
+          ∙ with_rows same_key r used_is most_weight most_entries kept c view (finds.0 ∷ rows_without r.rows p) r.free (omega (arith, as_long))
+          ∙ ap (with_entries c)
+          (ap (λ es. entry_in finds.0 ∷ es) others
+          ∙ sym (ap (λ o. option_map_or (λ e. e ∷ without stands c.entries query) o c.entries) (found_entry ∙ ap (option_map entry_in) finds.1)))
+
+    -- or is taken out
+    module _ (t : Taken K V) (r' : Recency K V) (removes : RowsRemoves stands r query (Some t) r') where
+      there : row_at r.rows removes.0.place ≡ Some removes.0
+      there = row_there stands query r.rows removes.0 removes.1 valid.places
+
+      gone_heavy : weight_in r.rows ≡ removes.0.weight + weight_in (rows_without r.rows removes.0.place)
+      gone_heavy = weight-without removes.0.place r.rows removes.0 there (valid.places removes.0.place)
+
+      gone_long : length r.rows ≡ 1 + length (rows_without r.rows removes.0.place)
+      gone_long = length-without removes.0.place r.rows (ap is_some there) (valid.places removes.0.place)
+
+      weight_is : t.weight ≡ removes.0.weight
+      weight_is = ap (λ (x : Taken K V). x.weight) removes.2
+
+      pub query_light : t.weight ≤ used_is
+      query_light = omega (arith, weight_is, gone_heavy, kept.used_is)
+
+      pub query_kept_gone : IsKept r' (used_is - t.weight) most_weight most_entries
+      query_kept_gone = subst (λ x. IsKept x (used_is - t.weight) most_weight most_entries) (sym removes.3) (record {
+        used_is = omega (arith, weight_is, gone_heavy, kept.used_is);
+        light = omega (arith, kept.light);
+        few = omega (arith, kept.few, gone_long);
+      })
+
+      pub query_answer : Some (entry t.key t.value t.weight) ≡ entry_of stands c.entries query
+      query_answer = ap (λ (x : Taken K V). Some (entry x.key x.value x.weight)) removes.2 ∙ sym (found_entry ∙ ap (option_map entry_in) removes.1)
+
+      pub query_view_gone : cached_in r' most_weight most_entries ≡ with_entries c (without stands c.entries query)
+      query_view_gone =
+          ap (λ x. cached_in x most_weight most_entries) removes.3
+          ∙ with_rows same_key r used_is most_weight most_entries kept c view (rows_without r.rows removes.0.place) (r.free + 1) (omega (arith, gone_long))
+          ∙ ap (with_entries c) (entries-without stands query r.rows removes.0 removes.1 valid.places one ∙ ap (λ es. without stands es query) same_entries)
