@@ -69,3 +69,25 @@ impl Query<String> for &str {
         key.as_str() == *self
     }
 }
+
+/// What may be none, as a key that has to have a default.
+impl<K: Hash, Q: Query<K>> Query<Option<K>> for Option<Q> {
+    ghost use Rattle.lru_index.specs.Queries.{some_stands, hashed_alike, equal_alike};
+
+    ghost stands_for = { some_stands Q.stands_for };
+
+    ghost respects_hash = { hashed_alike Q.stands_for K.hash_input Q.hash_input Q.Query.respects_hash };
+
+    ghost respects_eq = { equal_alike Q.stands_for K.eq Q.Query.respects_eq };
+
+    #[inline(always)]
+    fn stands_for(&self, key: &Option<K>) -> bool {
+        match self {
+            Some(query) => match key {
+                Some(key) => query.stands_for(key),
+                None => false,
+            },
+            None => key.is_none(),
+        }
+    }
+}
