@@ -293,6 +293,26 @@ fn keys_of_one_hash_are_kept_apart(rt: HostRuntime) -> Result<(), Fail> {
     Ok(())
 }
 
+#[test]
+fn keys_of_one_hash_are_asked_for(rt: HostRuntime) -> Result<(), Fail> {
+    let mut cache = Cache::<Alike, u64>::new(rt.alloc(), 10, 3)?;
+    assert!(rt; cache.put(Alike(1), 10, 1, |_gone| {}).is_ok());
+    assert!(rt; cache.put(Alike(2), 20, 2, |_gone| {}).is_ok());
+    assert_eq!(rt; cache.peek_by(&Alike(1)).copied(), Some(10));
+    assert_eq!(rt;
+        (cache.weight_by(&Alike(2)), cache.weight_by(&Alike(3))),
+        (Some(2), None)
+    );
+    assert!(rt; cache.remove_by(&Alike(3)).is_none());
+    assert!(rt; cache.remove_by(&Alike(2)).is_some());
+    assert_eq!(rt;
+        (cache.contains_by(&Alike(2)), cache.promote_by(&Alike(1))),
+        (false, true)
+    );
+    assert_eq!(rt; (cache.len(), cache.weight()), (1, 1));
+    Ok(())
+}
+
 #[rattlefmt::skip]
 static WITHOUT_SIZE: [Step<u64, ()>; 5] = [
     (Call::Put(1, (), 1), "new, gone:", "1 1: 1=() 1,"),

@@ -145,3 +145,36 @@ fn texts_weigh_their_length(rt: HostRuntime) -> Result<(), Fail> {
     assert_eq!(rt; (cache.len(), cache.weight()), (1, 2));
     Ok(())
 }
+
+// Whether each call that is asked by a text that is not owned answers so.
+fn are_asked_by_texts(alloc: Global, cache: &mut Texts) -> Result<bool, AllocError> {
+    let is_told = (cache.weight_by(Some("a")) == Some(2))
+        & cache
+            .peek_by(Some("a"))
+            .is_some_and(|value| value.as_str() == "x");
+    let is_missing = !cache.contains_by(Some("c"))
+        & !cache.contains_by(None::<&str>)
+        & !cache.promote_by(Some("ab"));
+    let is_first = cache.contains_by(Some("a"))
+        & cache.promote_by(Some("a"))
+        & is_shown(
+            alloc,
+            cache,
+            "2 5: Some(\"a\")=\"x\" 2, Some(\"b\")=\"y\" 3,",
+        )?;
+    let none = taken(alloc, &cache.remove_by(Some("")))?;
+    let removed = taken(alloc, &cache.remove_by(Some("b")))?;
+    let are_taken = (none.as_str() == "none") & (removed.as_str() == "took Some(\"b\")=\"y\" 3,");
+    Ok(is_told & is_missing & is_first & are_taken)
+}
+
+#[test]
+fn texts_are_asked_for_by_texts(rt: HostRuntime) -> Result<(), Fail> {
+    let alloc = rt.alloc();
+    let mut cache = Cache::with_seed(alloc, 6, 9, 3)?;
+    assert!(rt; puts(alloc, &mut cache, ("a", "x", 2), "new, gone:")?);
+    assert!(rt; puts(alloc, &mut cache, ("b", "y", 3), "new, gone:")?);
+    assert!(rt; are_asked_by_texts(alloc, &mut cache)?);
+    assert_eq!(rt; (cache.len(), cache.weight()), (1, 2));
+    Ok(())
+}

@@ -1,3 +1,4 @@
 pub mod Hashing
 pub mod Index
+pub mod Queries
 pub mod Representation

@@ -49,3 +49,45 @@ impl<K: Hash> Query<K> for &K {
         *key == **self
     }
 }
+
+/// A text that is owned, by one that is not.
+impl Query<String> for &str {
+    ghost use Rattle.std.proofs.Common.{ap, ◌∙◌, sym};
+    ghost use Rattle.std.specs.Prelude.{string_bytes};
+    ghost use Rattle.std.specs.Str.{bytes_eq};
+    ghost use Rattle.std.specs.Cmp.Lexicographic.{bytes_decides, nat_list_eq_equiv};
+    ghost use Rattle.std.specs.Hash as fed;
+
+    ghost stands_for = { λ k q. bytes_eq (string_bytes k) q.now };
+
+    ghost respects_hash = { λ q k e. ap fed.str ((bytes_decides (string_bytes k) q.now).0 e) };
+
+    ghost respects_eq = { λ q x y a b. sym (nat_list_eq_equiv.congr q.now (string_bytes x) (string_bytes y) (nat_list_eq_equiv.symm q.now (string_bytes x) ∙ a)) ∙ nat_list_eq_equiv.symm q.now (string_bytes y) ∙ b };
+
+    #[inline(always)]
+    fn stands_for(&self, key: &String) -> bool {
+        key.as_str() == *self
+    }
+}
+
+/// What may be none, as a key that has to have a default.
+impl<K: Hash, Q: Query<K>> Query<Option<K>> for Option<Q> {
+    ghost use Rattle.lru_index.specs.Queries.{some_stands, hashed_alike, equal_alike};
+
+    ghost stands_for = { some_stands Q.stands_for };
+
+    ghost respects_hash = { hashed_alike Q.stands_for K.hash_input Q.hash_input Q.Query.respects_hash };
+
+    ghost respects_eq = { equal_alike Q.stands_for K.eq Q.Query.respects_eq };
+
+    #[inline(always)]
+    fn stands_for(&self, key: &Option<K>) -> bool {
+        match self {
+            Some(query) => match key {
+                Some(key) => query.stands_for(key),
+                None => false,
+            },
+            None => key.is_none(),
+        }
+    }
+}
