@@ -9,7 +9,7 @@ mod watch;
 use peers::Subject;
 use plan::Plan;
 
-const SUBJECTS: [Subject; 7] = [
+const SUBJECTS: [Subject; 8] = [
     Subject::Hashlink,
     Subject::Lru,
     Subject::Plug(2),
@@ -17,6 +17,7 @@ const SUBJECTS: [Subject; 7] = [
     Subject::Plug(1),
     Subject::Plug(8),
     Subject::Plug(16),
+    Subject::Plug(3),
 ];
 
 const PEERS: usize = 3;

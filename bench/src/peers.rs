@@ -32,6 +32,7 @@ impl Subject {
             Subject::Plug(1) => "LruCore<_, 1>",
             Subject::Plug(8) => "LruCore<_, 8>",
             Subject::Plug(16) => "LruCore<_, 16>",
+            Subject::Plug(3) => "Cache",
             Subject::Plug(_) => "toolchain's lru",
             Subject::Hashlink => "hashlink",
             Subject::Lru => "lru",

@@ -12,6 +12,7 @@ mod plan;
 mod units;
 
 use lru::LruCache;
+use lru_cache::cache::Cache;
 use pingora_lru::lru_core::LruCore;
 use pingora_lru::unit::LruUnit;
 use std::alloc::Global;
@@ -22,8 +23,11 @@ const UNIT: u64 = 0;
 
 const TOOLCHAIN: u64 = 2;
 
+const CACHE: u64 = 3;
+
 /// Runs a plan on an empty order with a limit of so many rows, each of weight 1. The order is the shard of
-/// one owner (`subject` 0), a core of 1, 8 or 16 shards (that number), or the toolchain's `lru` (2).
+/// one owner (`subject` 0), a core of 1, 8 or 16 shards (that number), the toolchain's `lru` (2), or a
+/// cache of keys and values (3).
 ///
 /// A phase is three numbers of the plan: what is done, and the first key and the key past the last, as places
 /// in `keys`. What each phase counted goes to `counts`. The answer is the number of phases that ran: fewer
@@ -52,6 +56,10 @@ pub extern "C" fn lru_bench_half_run(
                 Err(_) => 0,
             }
         }
+        CACHE => match Cache::<u64, u64>::new(alloc, usize::MAX, limit) {
+            Ok(mut cache) => plan::run(alloc, &mut cache, plan, keys, counts),
+            Err(_) => 0,
+        },
         1 => run_core::<1>(alloc, limit, plan, keys, counts),
         8 => run_core::<8>(alloc, limit, plan, keys, counts),
         16 => run_core::<16>(alloc, limit, plan, keys, counts),
