@@ -4,6 +4,7 @@ use log::{Level, Logged, sink};
 use lru_folder::fault::FolderFault;
 use lru_folder::folder::Folder;
 use lru_host_folder::host_folder::HostFolder;
+use lru_synced_folder::synced_folder::SyncedFolder;
 use std::fs;
 use std::sync::atomic::{AtomicUsize, Ordering};
 use std::test::Fail;
@@ -32,5 +33,17 @@ fn each_folder_that_is_made_is_synced_into_the_one_above(rt: HostRuntime) -> Res
     let counts = count_syncs(&mut folder, &syncs);
     fs::remove_dir_all(&rt, "synced_here")?;
     assert!(rt; counts == Ok([3, 4, 4, 6]));
+    Ok(())
+}
+
+#[test]
+fn the_names_in_a_folder_are_synced_where_it_is_there(rt: HostRuntime) -> Result<(), Fail> {
+    let syncs = AtomicUsize::new(0);
+    let counted = Counted::new(rt, &syncs);
+    let mut folder = HostFolder::new(Logged::new(counted, Level::Warn, sink::Discard));
+    assert!(rt; folder.sync_dir("") == Ok(()));
+    assert!(rt; folder.sync_dir("./") == Ok(()));
+    assert!(rt; folder.sync_dir("not_there") == Err(FolderFault::NotFound));
+    assert_eq!(rt; syncs.load(Ordering::SeqCst), 2);
     Ok(())
 }
