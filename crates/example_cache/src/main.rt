@@ -4,16 +4,17 @@
 //! is made and put with that many bytes, and the entries that were used longest ago go until the budget, the first argument,
 //! is kept. At the end the cache is saved as a checkpoint, whole or not at all, and at the start it is loaded from there.
 //!
-//! It shows `Cache`, `save_generation` and `load_checkpoint`. A bad line, or no budget: a line that says which, and status 2.
-//! A checkpoint that was not loaded or saved: a line that says why, and status 1; one that is damaged is left as it is.
+//! It shows `Cache`, `save` and `load_checkpoint`. Where the newest checkpoint is damaged, the one before is taken. A bad line, or
+//! no budget: a line that says which, and status 2. A checkpoint that was not loaded or saved: a line that says why, and status 1;
+//! one that is damaged is left as it is.
 #![tactic(auto)]
 
 use lru_cache::cache::{Cache, Cause};
-use lru_checkpoints::errors::CheckpointError;
+use lru_checkpoints::errors::{CheckpointError, CheckpointFile};
 use lru_checkpoints::loading::load_checkpoint;
-use lru_checkpoints::next::next_generation;
-use lru_checkpoints::saving::save_generation;
 use lru_frames::row::Row;
+use lru_generations::generations::save;
+use lru_generations::loading::load_before;
 use lru_host_folder::host_folder::HostFolder;
 use std::env::Env;
 use std::io::ErrorKind;
@@ -55,17 +56,25 @@ fn budget(rt: &(impl Env + AllocGlobal)) -> io::Result<Option<usize>> {
     Ok(words.next().and_then(|word| word.parse().ok()))
 }
 
-/// Puts back what the last run saved, and answers the generation that comes next.
+/// Puts back what the last run saved, if there was one.
 fn load(
     rt: HostRuntime,
     folder: &mut HostFolder<HostRuntime>,
     cache: &mut Cache<u64, u64>,
-) -> Result<u64, CheckpointError> {
-    let next = next_generation(rt.alloc(), folder, FOLDER, NAME)?;
-    if next == 0 {
-        return Ok(next);
-    }
-    let checkpoint = load_checkpoint::<_, u64, u64>(rt.alloc(), folder, FOLDER, NAME)?;
+) -> Result<(), CheckpointError> {
+    let checkpoint = match load_checkpoint::<_, u64, u64>(rt.alloc(), folder, FOLDER, NAME) {
+        Ok(checkpoint) => checkpoint,
+        Err(
+            CheckpointError::Missing {
+                file: CheckpointFile::Manifest,
+            },
+        ) => return Ok(()),
+        Err(error) if error.is_fault() => return Err(error),
+        Err(error) => match load_before(rt.alloc(), folder, FOLDER, NAME) {
+            Ok(checkpoint) => checkpoint,
+            Err(_) => return Err(error),
+        },
+    };
     for rows in &checkpoint.shards {
         for row in rows {
             // Under a smaller budget than the last run's, the entries that were used longest ago go, or one is too heavy.
@@ -75,7 +84,7 @@ fn load(
             }
         }
     }
-    Ok(next)
+    Ok(())
 }
 
 /// The entries, the one that was used longest ago first: put back in this order, they stand as they stood.
@@ -114,6 +123,21 @@ fn ask(
     }
 }
 
+/// Answers the requests of the input. Whether there was no bad line.
+fn ask_all(rt: HostRuntime, cache: &mut Cache<u64, u64>) -> io::Result<bool> {
+    let mut met = Met { hits: 0, misses: 0 };
+    for line in rt.lines(rt.alloc()) {
+        let Some((key, size)) = text_of(line)?.and_then(|line| request_of(&line)) else {
+            println!(rt; "error: not a request")?;
+            return Ok(false);
+        };
+        ask(rt, cache, &mut met, key, size)?;
+    }
+    let (hits, misses) = (met.hits, met.misses);
+    println!(rt; "{hits} hits, {misses} misses, {} bytes", cache.weight())?;
+    Ok(true)
+}
+
 fn main(rt: HostRuntime) -> io::Result<ExitCode> {
     let Some(budget) = budget(&rt)? else {
         println!(rt; "usage: example_cache BUDGET")?;
@@ -121,40 +145,21 @@ fn main(rt: HostRuntime) -> io::Result<ExitCode> {
     };
     let mut folder = HostFolder::new(rt);
     let mut cache = Cache::new(rt.alloc(), budget, usize::MAX)?;
-    let generation = match load(rt, &mut folder, &mut cache) {
-        Ok(generation) => generation,
-        Err(error) => {
-            println!(rt; "not loaded: {error}")?;
-            return Ok(ExitCode::from(1));
-        }
-    };
-    println!(rt; "{} entries are here", cache.len())?;
-    let mut met = Met { hits: 0, misses: 0 };
-    for line in rt.lines(rt.alloc()) {
-        let Some((key, size)) = text_of(line)?.and_then(|line| request_of(&line)) else {
-            println!(rt; "error: not a request")?;
-            return Ok(ExitCode::from(2));
-        };
-        ask(rt, &mut cache, &mut met, key, size)?;
-    }
-    println!(rt;
-        "{} hits, {} misses, {} bytes",
-        met.hits,
-        met.misses,
-        cache.weight()
-    )?;
-    let shards = [rows_of(rt, cache)?];
-    if let Err(error) = save_generation(
-        rt.alloc(),
-        &mut folder,
-        FOLDER,
-        NAME,
-        generation,
-        &shards,
-    ) {
-        println!(rt; "not saved: {error}")?;
+    if let Err(error) = load(rt, &mut folder, &mut cache) {
+        println!(rt; "not loaded: {error}")?;
         return Ok(ExitCode::from(1));
     }
-    println!(rt; "saved as generation {generation}")?;
+    println!(rt; "{} entries are here", cache.len())?;
+    if !ask_all(rt, &mut cache)? {
+        return Ok(ExitCode::from(2));
+    }
+    let shards = [rows_of(rt, cache)?];
+    match save(rt.alloc(), &mut folder, FOLDER, NAME, &shards) {
+        Ok(saved) => println!(rt; "saved as generation {}", saved.generation)?,
+        Err(error) => {
+            println!(rt; "not saved: {error}")?;
+            return Ok(ExitCode::from(1));
+        }
+    }
     Ok(ExitCode::SUCCESS)
 }
