@@ -6,12 +6,17 @@ use lru_mailbox::{MailError, MailState};
 use std::alloc::Global;
 use std::collections::VecDeque;
 use std::sync::{Condvar, Mutex, MutexGuard, Wait};
+use std::thread;
+
+// How often a taker that finds nothing lets other threads run before it sleeps. Who puts a message pays for waking a taker,
+// which is many times what the message costs.
+const TURNS: u32 = 16;
 
 /// Messages that threads put and take, first come first served: a `MailState` behind a lock.
 ///
 /// Each call takes the lock, does what the call of that name does to the state, and lets go. Those that take messages wait
 /// while the mailbox is open and none is there. A push into an empty mailbox wakes one that waits, and who leaves messages
-/// behind wakes the next: so a batch costs one wake-up.
+/// behind wakes the next: so a batch costs one wake-up. A taker lets others run a few times before it sleeps.
 #[derive(Drop)]
 pub struct Mailbox<M> {
     state: Mutex<MailState<M>>,
@@ -58,9 +63,7 @@ impl<M> Mailbox<M> {
 
     /// Takes the first message. It waits while the mailbox is open and empty; `None` once it is closed and empty.
     pub fn pop(&self, rt: &impl Wait) -> Option<M> {
-        let mut state = self
-            .changed
-            .wait_while(rt, self.state.lock(rt), |state| is_idle(state));
+        let mut state = self.wait_for_some(rt);
         let popped = state.pop();
         self.pass_on(state);
         popped
@@ -75,12 +78,24 @@ impl<M> Mailbox<M> {
         ensures gains { Gains into.old.items result into.new.items }
         ensures room { vec_capacity into.new ≡ vec_capacity into.old }
     {
-        let mut state = self
-            .changed
-            .wait_while(rt, self.state.lock(rt), |state| is_idle(state));
+        let mut state = self.wait_for_some(rt);
         let count = state.pop_many(max, into);
         self.pass_on(state);
         count
+    }
+
+    // Waits while nothing is there and something may come.
+    fn wait_for_some(&self, rt: &impl Wait) -> MutexGuard<'_, MailState<M>> {
+        for _ in 0..TURNS {
+            let state = self.state.lock(rt);
+            if !is_idle(&*state) {
+                return state;
+            }
+            drop(state);
+            thread::yield_now();
+        }
+        self.changed
+            .wait_while(rt, self.state.lock(rt), |state| is_idle(state))
     }
 
     // Lets go, and wakes the next where messages are left.
