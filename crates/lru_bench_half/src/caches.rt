@@ -76,6 +76,10 @@ impl Order for Cache<u64, u64> {
     }
 
     fn odd_rows(&self) -> u64 {
-        self.iter().filter(|entry| *entry.1 % 2 == 1).count() as u64
+        let mut odd = 0u64;
+        for (_, value, _) in self.iter() {
+            odd = odd.wrapping_add(*value % 2);
+        }
+        odd
     }
 }
