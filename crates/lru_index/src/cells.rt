@@ -1,7 +1,7 @@
 //! The cells of an index: a head for each home, and behind the heads a link for each place.
 //!
 //! A head holds the first place of its home, and a link the place behind its own; 0 ends a chain.
-ghost use Rattle.std.specs.Prelude.{◌≡◌, ℕ, ◌+◌, ◌-◌, ◌^◌, ◌<◌, ◌≤◌, ◌/◌, ◌++◌, length, vec_len, IfOk, OnOk, OnErr, IsSome, None, get_or, set, replicate};
+ghost use Rattle.std.specs.Prelude.{◌≡◌, ℕ, ◌+◌, ◌-◌, ◌*◌, ◌^◌, ◌<◌, ◌≤◌, ◌/◌, ◌++◌, length, vec_len, IfOk, OnOk, OnErr, IsSome, None, get_or, set, replicate};
 ghost use Rattle.lru_index.specs.Representation.Cells.{IsTable, IsFilled, home_in};
 ghost use Rattle.lru_index.specs.Hashing.{key_hash};
 ghost use Rattle.lru_index.specs.Representation.Walks.{Reaches};
@@ -20,8 +20,17 @@ const LEAST_SHIFT: u32 = 33;
 // A small index grows by more than an eighth, since each growth is a request for memory.
 const LEAST_STEP: u32 = 16;
 
-/// By how much a hash is shifted for a power of two of heads, at most one place a head. They are no fewer than at the
-/// shift `most`.
+/// How many places so many heads are for: three to four heads, so that most chains are of one place, and two more for the
+/// places that hold no key.
+fn places_for(heads: usize) -> usize
+    requires { heads ≤ 2147483648 }
+    ensures { result ≡ heads / 4 * 3 + 2 }
+{
+    heads / 4 * 3 + 2
+}
+
+/// By how much a hash is shifted for a power of two of heads, at most three places to four heads. They are no fewer than
+/// at the shift `most`.
 pub(crate) fn shift_for(most: u32, places: u32) -> u32
     requires least { 33 ≤ most }
     requires most { most ≤ 63 }
@@ -29,7 +38,7 @@ pub(crate) fn shift_for(most: u32, places: u32) -> u32
     ensures most { result ≤ most }
 {
     let mut shift = most;
-    while shift > LEAST_SHIFT && heads_of(shift) + 2 < places as usize {
+    while shift > LEAST_SHIFT && places_for(heads_of(shift)) < places as usize {
         shift -= 1;
     }
     shift
@@ -51,10 +60,10 @@ pub(crate) fn links_for(room: u32, places: u32, heads: usize) -> u32
     requires { heads ≤ 2147483648 }
     ensures places { places ≤ result }
     ensures some { 1 ≤ result }
-    ensures few { places ≤ heads + 2 → result ≤ heads + 2 }
+    ensures few { places ≤ heads / 4 * 3 + 2 → result ≤ heads / 4 * 3 + 2 }
 {
     let links = room.saturating_add((room / 8).max(LEAST_STEP)).max(places);
-    let most = heads as u32 + 2;
+    let most = places_for(heads) as u32;
     if places <= most {
         links.min(most)
     } else {

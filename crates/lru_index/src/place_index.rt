@@ -20,7 +20,8 @@ use std::marker::Model;
 ///
 /// Where hashes spread, a look-up reads one or two keys. An insertion writes two cells of four bytes, and a removal one.
 /// Only a constructor and `reserve` take memory, by one request each, and where it is refused nothing has changed. The
-/// heads are a power of two, and there is a link for each place; up to 2 to the 31 places stand one to a head or fewer.
+/// heads are a power of two, and there is a link for each place; up to three times 2 to the 29 places stand three to four
+/// heads or fewer.
 #[derive(Drop)]
 pub struct PlaceIndex<S = SeededHashes> {
     cells: Vec<u32>,

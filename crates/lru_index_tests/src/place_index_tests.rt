@@ -7,7 +7,7 @@ use std::test::Fail;
 
 const MILLION: u32 = 1_000_000;
 
-// The most keys of one chain, where as many keys stand as there are heads, or somewhat fewer.
+// The most keys of one chain, where at most three keys stand for four heads.
 const LONGEST: u64 = 16;
 
 // A hasher that gives each key the same hash, so that all stand in one chain.
@@ -53,21 +53,21 @@ fn finds_what_was_put(rt: HostRuntime) -> Result<(), Fail> {
 #[test]
 fn makes_room(rt: HostRuntime) -> Result<(), Fail> {
     let mut rows = no_rows(rt.alloc())?;
-    // 128 heads
-    let mut index = PlaceIndex::with_capacity(rt.alloc(), 100)?;
-    assert_eq!(rt; index.room(), 100);
-    add_steps(&mut rows, &mut index, 0, 1, 99)?;
+    // 128 heads, which are for 98 places
+    let mut index = PlaceIndex::with_capacity(rt.alloc(), 80)?;
+    assert_eq!(rt; index.room(), 80);
+    add_steps(&mut rows, &mut index, 0, 1, 79)?;
     rows.reads.set(0);
-    index.reserve(&rows, 101)?;
-    assert_eq!(rt; (index.room(), rows.reads.get()), (116, 0));
-    index.reserve(&rows, 117)?;
+    index.reserve(&rows, 81)?;
+    assert_eq!(rt; (index.room(), rows.reads.get()), (96, 0));
+    index.reserve(&rows, 97)?;
     // as far as the heads reach
-    assert_eq!(rt; (index.room(), rows.reads.get()), (130, 0));
-    index.reserve(&rows, 131)?;
+    assert_eq!(rt; (index.room(), rows.reads.get()), (98, 0));
+    index.reserve(&rows, 99)?;
     // the chains are made anew
-    assert_eq!(rt; (index.room(), rows.reads.get()), (146, 99));
-    assert_eq!(rt; index.find(&rows, &98), Some(99));
-    assert_eq!(rt; index.find(&rows, &99), None);
+    assert_eq!(rt; (index.room(), rows.reads.get()), (114, 79));
+    assert_eq!(rt; index.find(&rows, &78), Some(79));
+    assert_eq!(rt; index.find(&rows, &79), None);
     Ok(())
 }
 
