@@ -134,6 +134,12 @@ module _ {K V : Type 0} where
   first_told [] p told = absurd (false≢true (sym (ap is_some told)))
   first_told (x ∷ xs) p told = (x, (xs, (refl, some_of x.place p (sym told))))
 
+  -- the rows without it are those after it
+  pub without_first : (r : Placed K V) (rs : List (Placed K V)) (p : ℕ) → r.place ≡ p → places p (r ∷ rs) ≤ 1 → rows_without (r ∷ rs) p ≡ rs
+  without_first r rs p e once =
+      let none : places p rs ≡ 0 = omega (arith, once, places_here r rs p e) in
+      by_place p r rs (λ xs. xs ≡ rs) (λ _. without_absent p rs none) (λ ne. absurd (ne e))
+
   -- ---- the row that stands last
   last_there : (front : List (Placed K V)) (x : Placed K V) → 1 ≤ places x.place (front ++ x ∷ [])
   last_there [] x = omega (arith, places_here x [] x.place refl)

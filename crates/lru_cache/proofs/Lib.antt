@@ -3,6 +3,7 @@ pub mod Views
 pub mod Shrunk
 pub mod Placing
 pub mod Putting
+pub mod PutBack
 pub mod Retained
 pub mod Drained
 pub mod Settled

@@ -1,13 +1,14 @@
 -- What is found, used or taken out by what stands for a key.
-use Rattle.std.proofs.Common.{◌≡◌, ℕ, ◌+◌, ◌-◌, ◌≤◌, List, [], ◌∷◌, ◌++◌, length, Some, None, sym, ap, ◌∙◌, subst, arith, true, false}
-use Rattle.std.specs.Prelude.{Option, Bool, is_some, max, count_by, IsTrue}
+use Rattle.std.proofs.Common.{◌≡◌, ℕ, ◌+◌, ◌-◌, ◌≤◌, List, [], ◌∷◌, length, Some, None, refl, sym, ap, ◌∙◌, subst, arith, true, false}
+use Rattle.std.specs.Prelude.{Option, Bool, is_some, IsTrue}
 use Rattle.std.specs.Option.{option_map, option_map_or}
 use Rattle.lru_rows.specs.declared.rows.Taken.{Taken}
-use Rattle.lru_rows.specs.Rows.{Placed, Recency, recency, row_at, row_of, IsAt, Finds, IsRecency, promoted, Removes as RowsRemoves, without as rows_without}
+use Rattle.std.specs.Borrow.{MutBor}
+use Rattle.lru_rows.specs.Rows.{placed, with_value, Updates, UpdatesAt, Placed, Recency, recency, row_at, row_of, IsAt, Finds, IsRecency, promoted, Removes as RowsRemoves, without as rows_without}
 use Rattle.lru_cache.specs.declared.cache.Entry.{Entry}
-use Rattle.lru_cache.specs.Cache.{Cached, entry, entry_of, without, used, with_entries}
+use Rattle.lru_cache.specs.Cache.{UpdatesEntry, Cached, entry, entry_of, without, used, with_entries}
 use Rattle.lru_cache.specs.Representation.{entry_in, entries_in, weight_in, cached_in, IsKept}
-use Rattle.lru_cache.proofs.Entries.{by_bool, row_place, row_there, weight-cons, weight-without, length-without, length-entries, entry-row, entries-without, absent_without, keyed, keyed-cons, counts}
+use Rattle.lru_cache.proofs.Entries.{some_of, with_value-without, with_value-first, row_first, by_bool, row_place, row_there, weight-cons, weight-without, length-without, length-entries, entry-row, entries-without, absent_without, keyed, keyed-cons, counts}
 use Rattle.lru_cache.proofs.Views.{entries_are, with_rows}
 
 -- a query stands for one row's key at most
@@ -62,6 +63,9 @@ module _ {K Q V : Type 0} (same_key : K → K → Bool) (r : Recency K V) (used_
       sym unchanged
       ∙ ap (with_entries c) (sym (ap (λ o. option_map_or (λ e. e ∷ without stands c.entries query) o c.entries) (found_entry ∙ ap (option_map entry_in) none)))
 
+  pub query_unupdated : {R : Type 0} (post : MutBor V → ℕ → R → MutBor V → Type 0) (o : Option R) → o ≡ None → Finds stands r.rows query None → UpdatesEntry stands post c query o c
+  query_unupdated post o is none = subst (λ x. UpdatesEntry stands post c query x c) (sym is) (found_entry ∙ ap (option_map entry_in) none, refl)
+
   pub query_untaken : (o : Option (Entry K V)) → o ≡ None → row_of stands r.rows query ≡ None → o ≡ entry_of stands c.entries query
   query_untaken o is none = is ∙ sym (found_entry ∙ ap (option_map entry_in) none)
 
@@ -101,6 +105,51 @@ module _ {K Q V : Type 0} (same_key : K → K → Bool) (r : Recency K V) (used_
           ∙ ap (with_entries c)
           (ap (λ es. entry_in finds.0 ∷ es) others
           ∙ sym (ap (λ o. option_map_or (λ e. e ∷ without stands c.entries query) o c.entries) (found_entry ∙ ap (option_map entry_in) finds.1)))
+
+      place_is : finds.0.place ≡ p
+      place_is = row_place r.rows p finds.0 finds.2
+
+      pub query_at_first : (r' : Recency K V) → r' ≡ recency (promoted r.rows p) r.free → IsAt r'.rows p
+      query_at_first r' is = ap is_some (ap (λ rs. row_at rs p) (ap (λ (x : Recency K V). x.rows) is ∙ first) ∙ row_first finds.0 (rows_without r.rows p) p place_is)
+
+      -- its value is lent
+      module _ {R : Type 0} (post : MutBor V → ℕ → R → MutBor V → Type 0) (answer : R) (r' r'' : Recency K V) (is : r' ≡ recency (promoted r.rows p) r.free) (updates : UpdatesAt post r' p answer r'') where
+        first_is : r'.rows ≡ finds.0 ∷ rows_without r.rows p
+        first_is = ap (λ (x : Recency K V). x.rows) is ∙ first
+
+        row_is : updates.0 ≡ finds.0
+        row_is = some_of updates.0 finds.0 (sym updates.1 ∙ ap (λ rs. row_at rs p) first_is ∙ row_first finds.0 (rows_without r.rows p) p place_is)
+
+        rows_now : r'' ≡ recency (placed finds.0.place finds.0.key updates.2 finds.0.weight ∷ rows_without r.rows p) r.free
+        rows_now =
+            updates.4 ∙ ap (λ n. recency (with_value r'.rows p updates.2) n) (ap (λ (x : Recency K V). x.free) is)
+            ∙ ap (λ rs. recency rs r.free)
+            (ap (λ rs. with_value rs p updates.2) first_is ∙ with_value-first p updates.2 finds.0 (rows_without r.rows p) place_is
+            ∙ ap (λ rs. placed finds.0.place finds.0.key updates.2 finds.0.weight ∷ rs) (with_value-without p updates.2 r.rows))
+
+        pub query_kept_updated : IsKept r'' used_is most_weight most_entries
+        query_kept_updated = subst (λ x. IsKept x used_is most_weight most_entries) (sym rows_now) (record {
+          used_is = kept.used_is ∙ weight-without p r.rows finds.0 finds.2 (valid.places p) ∙ sym (weight-cons (placed finds.0.place finds.0.key updates.2 finds.0.weight) (rows_without r.rows p));
+          light = kept.light;
+          few = omega (arith, kept.few, as_long);
+        })
+
+        pub query_view_updated : UpdatesEntry stands post c query (Some answer) (cached_in r'' most_weight most_entries)
+        query_view_updated = (
+          entry_in finds.0,
+          (
+            found_entry ∙ ap (option_map entry_in) finds.1,
+            (
+              updates.2,
+              (
+                subst (λ x. Updates post x.value x.weight answer updates.2) row_is updates.3,
+                ap (λ x. cached_in x most_weight most_entries) rows_now
+                    ∙ with_rows same_key r used_is most_weight most_entries kept c view (placed finds.0.place finds.0.key updates.2 finds.0.weight ∷ rows_without r.rows p) r.free (omega (arith, as_long))
+                    ∙ ap (λ es. with_entries c (entry finds.0.key updates.2 finds.0.weight ∷ es)) others,
+              ),
+            ),
+          ),
+        )
 
     -- or is taken out
     module _ (t : Taken K V) (r' : Recency K V) (removes : RowsRemoves stands r query (Some t) r') where

@@ -1,5 +1,5 @@
 -- A cache: its entries, most recent first, under two limits.
-use Rattle.std.specs.Prelude.{◌≡◌, ℕ, ◌+◌, ◌-◌, ◌<◌, ◌≤◌, ◌⊎◌, max, not, Bool, true, false, List, [], ◌∷◌, ◌++◌, length, map, filter, find, reverse, sum_by, count_by, Option, Some, None, Result, Ok, Err, refl, IsSome}
+use Rattle.std.specs.Prelude.{◌≡◌, ℕ, ◌+◌, ◌-◌, ◌<◌, ◌≤◌, ◌⊎◌, max, min, not, Bool, true, false, List, [], ◌∷◌, ◌++◌, length, map, filter, find, reverse, sum_by, count_by, Option, Some, None, Result, Ok, Err, refl, IsSome}
 use Rattle.std.specs.Option.{option_map_or}
 use Rattle.std.specs.List.{FoldsTo}
 use Rattle.std.specs.Coded.{Coded, code_by, coded×, coded_ℕ, coded_list}
@@ -149,6 +149,21 @@ module _ {K V : Type 0} where
     pub called : FoldsTo (λ p a q. Asks step p a.0 a.1 q) keep (reverse asked) left
     pub kept : new ≡ with_entries old (kept_of asked)
 
+  -- the entries of which a test answered false
+  abbrev pub gone_of : List (Entry K V × Bool) → List (Entry K V)
+  gone_of asked = map (λ a. a.0) (filter (λ a. not a.1) asked)
+
+  -- a test was asked of so many of the last entries, or of all, the last first. Those stay of which it answered true, and the others were shown to a closure, in that order
+  pub record RetainsLast {F G : Type 0} (step : F → Bor K → Bor V → ℕ → Bool → F → Type 0) (keep : F) (Step : G → Entry K V → G → Type 0) (visit : G) (most : ℕ) (old new : Cached K V) : Type 0 where
+    pub front : List (Entry K V)
+    pub asked : List (Entry K V × Bool)
+    pub left : F
+    pub all : old.entries ≡ front ++ map (λ a. a.0) asked
+    pub many : length asked ≡ min most (length old.entries)
+    pub called : FoldsTo (λ p a q. Asks step p a.0 a.1 q) keep (reverse asked) left
+    pub shown : IsShown Step visit (gone_of asked)
+    pub kept : new ≡ with_entries old (front ++ kept_of asked)
+
   -- by what stands for a key: a key that equals it, or what a query matches
   module _ {Q : Type 0} (eq : K → Q → Bool) where
     -- the entry of a key, if there is one
@@ -166,6 +181,12 @@ module _ {K V : Type 0} where
     -- a key's entry goes last, if it has one
     abbrev pub demoted : List (Entry K V) → Q → List (Entry K V)
     demoted es key = option_map_or (λ e. without es key ++ e ∷ []) (entry_of es key) es
+
+    -- a key's entry goes first, and its value is lent to a closure, which may change it; where it has none, nothing is called
+    abbrev pub UpdatesEntry : {R : Type 0} → (MutBor V → ℕ → R → MutBor V → Type 0) → Cached K V → Q → Option R → Cached K V → Type 0
+    UpdatesEntry post old key None new = (entry_of old.entries key ≡ None) × (new ≡ old)
+    UpdatesEntry post old key (Some answer) new =
+        (e : Entry K V) × ((entry_of old.entries key ≡ Some e) × ((v : V) × (Updates post e.value e.weight answer v × (new ≡ with_entries old (entry e.key v e.weight ∷ without old.entries key)))))
 
   module _ (eq : K → K → Bool) where
     -- what holds of every cache: no key has two entries, and it is over no limit
@@ -187,12 +208,6 @@ module _ {K V : Type 0} where
         ((w ≤ old.most_weight) × (0 < old.most_entries)) × ((was ≡ entry_of eq old.entries k) × ((front : List (Entry K V)) × ((gone : List (Entry K V))
         × (Leaves (old.most_weight - w) (old.most_entries - 1) (without eq old.entries k) front gone × (IsShown Step visit gone × (new ≡ with_entries old (entry k v w ∷ front)))))))
     Puts Step visit old k v w (Err r) new = MayRefuse old k w r.cause × ((r.key ≡ k) × ((r.value ≡ v) × (new ≡ old)))
-
-    -- a key's entry goes first, and its value is lent to a closure, which may change it; where it has none, nothing is called
-    abbrev pub UpdatesEntry : {R : Type 0} → (MutBor V → ℕ → R → MutBor V → Type 0) → Cached K V → K → Option R → Cached K V → Type 0
-    UpdatesEntry post old key None new = (entry_of eq old.entries key ≡ None) × (new ≡ old)
-    UpdatesEntry post old key (Some answer) new =
-        (e : Entry K V) × ((entry_of eq old.entries key ≡ Some e) × ((v : V) × (Updates post e.value e.weight answer v × (new ≡ with_entries old (entry e.key v e.weight ∷ without eq old.entries key)))))
 
     -- a key is used; or, where it has no entry, one is put of a value and a weight that `Makes` allows, or none is made
     abbrev pub UsesOrPuts : {E F : Type 0} → (Result (V × ℕ) E → Type 0) → (F → Entry K V → F → Type 0) → F → Cached K V → K → Result Bool (NotPut K V E) → Cached K V → Type 0

@@ -1,10 +1,10 @@
 -- What the rows of a cache stand for.
-use Rattle.std.specs.Prelude.{Bool, ◌≡◌, ℕ, ◌+◌, ◌≤◌, List, [], ◌∷◌, ◌++◌, length, map, reverse, sum_by}
+use Rattle.std.specs.Prelude.{Bool, ◌≡◌, ℕ, ◌+◌, ◌≤◌, min, List, [], ◌∷◌, ◌++◌, length, map, reverse, sum_by}
 use Rattle.std.specs.List.{FoldsTo}
 use Rattle.std.specs.Borrow.{Bor}
 use Rattle.lru_rows.specs.Rows.{Placed, Recency, recency}
 use Rattle.lru_cache.specs.declared.cache.Entry.{Entry}
-use Rattle.lru_cache.specs.Cache.{Cached, entry, IsShown, Asks, kept_of}
+use Rattle.lru_cache.specs.Cache.{Cached, entry, IsShown, Asks, kept_of, gone_of}
 
 module _ {K V : Type 0} where
   abbrev pub entry_in : Placed K V → Entry K V
@@ -59,8 +59,23 @@ module _ {K V : Type 0} where
     pub kept : entries_in new.rows ≡ kept_of asked
     pub free_is : length new.rows + new.free ≡ length old.rows + old.free
 
-  -- so far it was asked of the last rows, and those that it kept stand first
-  pub record Retaining {F : Type 0} (step : F → Bor K → Bor V → ℕ → Bool → F → Type 0) (keep last : F) (old now : Recency K V) (used count : ℕ) : Type 0 where
+  -- a test was asked of so many of the last rows, or of all, the last first. Those of which it answered true stand first now, and the others were shown to a closure
+  pub record AsksLast {F G : Type 0} (step : F → Bor K → Bor V → ℕ → Bool → F → Type 0) (keep : F) (Step : G → Entry K V → G → Type 0) (visit : G) (most : ℕ) (old new : Recency K V) (count : ℕ) : Type 0 where
+    pub kept : List (Placed K V)
+    pub rest : List (Placed K V)
+    pub asked : List (Entry K V × Bool)
+    pub left : F
+    pub all : entries_in old.rows ≡ entries_in rest ++ map (λ a. a.0) asked
+    pub many : length asked ≡ min most (length old.rows)
+    pub called : FoldsTo (λ p a q. Asks step p a.0 a.1 q) keep (reverse asked) left
+    pub shown : IsShown Step visit (gone_of asked)
+    pub now_is : new.rows ≡ kept ++ rest
+    pub are_kept : entries_in kept ≡ kept_of asked
+    pub count_is : count ≡ length kept
+    pub free_is : length new.rows + new.free ≡ length old.rows + old.free
+
+  -- so far it was asked of the last rows, and `left` are still to be asked of
+  pub record Asking {F G : Type 0} (step : F → Bor K → Bor V → ℕ → Bool → F → Type 0) (keep last : F) (Step : G → Entry K V → G → Type 0) (visit seen : G) (most : ℕ) (old now : Recency K V) (used left count : ℕ) : Type 0 where
     pub kept : List (Placed K V)
     pub rest : List (Placed K V)
     pub done : List (Placed K V)
@@ -68,11 +83,42 @@ module _ {K V : Type 0} where
     pub now_is : now.rows ≡ kept ++ rest
     pub parts : old.rows ≡ rest ++ done
     pub all : map (λ a. a.0) asked ≡ entries_in done
+    pub left_is : length done + left ≡ min most (length old.rows)
     pub called : FoldsTo (λ p a q. Asks step p a.0 a.1 q) keep (reverse asked) last
+    pub shown : FoldsTo Step visit (reverse (gone_of asked)) seen
     pub are_kept : entries_in kept ≡ kept_of asked
     pub count_is : count ≡ length kept
     pub used_is : used ≡ weight_in now.rows
     pub free_is : length now.rows + now.free ≡ length old.rows + old.free
+
+  -- the first rows went last, so many, in their order
+  pub record PutsBack (count : ℕ) (old new : Recency K V) : Type 0 where
+    pub moved : List (Placed K V)
+    pub rest : List (Placed K V)
+    pub parts : old.rows ≡ moved ++ rest
+    pub count_is : length moved ≡ count
+    pub left : new ≡ recency (rest ++ moved) old.free
+
+  -- so far the first rows went last, and `left` are still to go
+  pub record PuttingBack (count : ℕ) (old now : Recency K V) (left : ℕ) : Type 0 where
+    pub moved : List (Placed K V)
+    pub rest : List (Placed K V)
+    pub parts : old.rows ≡ moved ++ rest
+    pub now_is : now ≡ recency (rest ++ moved) old.free
+    pub left_is : length moved + left ≡ count
+    pub enough : left ≤ length rest
+
+  -- the same as `RetainsRows`, of so many of the last rows, or of all; the others went and were shown to a closure
+  pub record RetainsLastRows {F G : Type 0} (step : F → Bor K → Bor V → ℕ → Bool → F → Type 0) (keep : F) (Step : G → Entry K V → G → Type 0) (visit : G) (most : ℕ) (old new : Recency K V) : Type 0 where
+    pub front : List (Entry K V)
+    pub asked : List (Entry K V × Bool)
+    pub left : F
+    pub all : entries_in old.rows ≡ front ++ map (λ a. a.0) asked
+    pub many : length asked ≡ min most (length old.rows)
+    pub called : FoldsTo (λ p a q. Asks step p a.0 a.1 q) keep (reverse asked) left
+    pub shown : IsShown Step visit (gone_of asked)
+    pub kept : entries_in new.rows ≡ front ++ kept_of asked
+    pub free_is : length new.rows + new.free ≡ length old.rows + old.free
 
   -- all rows went, the first first, and each was shown
   pub record DrainsRows {F : Type 0} (Step : F → Entry K V → F → Type 0) (visit : F) (old new : Recency K V) : Type 0 where

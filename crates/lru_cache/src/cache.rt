@@ -2,10 +2,10 @@
 ghost use Rattle.std.specs.Prelude.{◌≡◌, ◌+◌, ◌<◌, ◌≤◌, None, length, map, is_some, nat_eq, IfOk};
 ghost use Rattle.std.specs.Option.{option_map, option_copied};
 ghost use Rattle.lru_rows.specs.Rows.{most_rows};
-ghost use Rattle.lru_cache.specs.Cache.{empty, weight_of, entry_of, without, used, demoted, parts_of, with_entries, Puts, PutsWeighed, PutsFirst, HasPlace, MakesPlace, PopsLast, PopsFirst, IsLast, entry, Limits, Clears, Drains, Retains, UpdatesEntry, Reweighs, Settles, UsesOrPuts, IsCache};
+ghost use Rattle.lru_cache.specs.Cache.{empty, weight_of, entry_of, without, used, demoted, parts_of, with_entries, Puts, PutsWeighed, PutsFirst, HasPlace, MakesPlace, PopsLast, PopsFirst, IsLast, entry, Limits, Clears, Drains, Retains, RetainsLast, UpdatesEntry, Reweighs, Settles, UsesOrPuts, IsCache};
 
 use crate::draining::drain;
-use crate::keeping::retain;
+use crate::keeping::{retain, retain_last};
 use crate::shrinking::{fits, shrink};
 use lru_index::hashing::SeededHashes;
 use lru_index::keys::Query;
@@ -294,6 +294,20 @@ impl<K: Hash, V, S: BuildHasher> Cache<K, V, S> {
         self.rows.promote(place);
         Some(self.rows.update(place, update))
     }
+
+    /// As `update`, by what stands for the key.
+    pub fn update_by<Q: Query<K>, R, U: FnOnce(&mut V, usize) -> R + Drop>(
+        &mut self,
+        query: Q,
+        update: U,
+    ) -> Option<R>
+        requires { U.IsAlwaysCallable update }
+        ensures { UpdatesEntry Q.stands_for (U.post update) self.old query result self.new }
+    {
+        let found = self.rows.find_by(query)?;
+        self.rows.promote(found);
+        Some(self.rows.update(found, update))
+    }
 }
 
 impl<K: Hash + Default + Drop, V: Drop, S: BuildHasher> Cache<K, V, S> {
@@ -546,6 +560,20 @@ impl<K: Hash + Default + Drop, V: Drop, S: BuildHasher> Cache<K, V, S> {
         ensures { Retains (λ p k v w b q. F.step p k v w b q) keep self.old self.new }
     {
         self.weight = retain(&mut self.rows, self.weight, keep);
+    }
+
+    /// Asks `keep` of the `most` entries that were used longest ago, or of all where there are fewer, the one that was used
+    /// longest ago first, by its key, its value and its weight. Those go for which it answers false, and each is handed to
+    /// `visit`. The others stay where they are. The time that it takes grows with `most`, and not with the entries.
+    pub fn retain_last<F, G>(&mut self, most: usize, keep: F, visit: G)
+    where
+        F: FnMut(&K, &V, usize) -> bool + Drop,
+        G: FnMut(Entry<K, V>) + Drop,
+        requires keep { F.IsAlwaysCallable keep }
+        requires visit { G.IsAlwaysCallable visit }
+        ensures { RetainsLast (λ p k v w b q. F.step p k v w b q) keep (λ p x q. G.step p x tt q) visit most self.old self.new }
+    {
+        self.weight = retain_last(&mut self.rows, self.weight, most, keep, visit);
     }
 
     /// Takes a key's entry out.

@@ -123,6 +123,28 @@ fn entries_are_retained(rt: HostRuntime) -> Result<(), Fail> {
     Ok(())
 }
 
+// What stays of the entries that were used longest ago.
+#[rattlefmt::skip]
+static RETAINED_LAST: [Step<u64, u64>; 10] = [
+    (Call::RetainLast(9, 9), "asked: gone:", "0 0:"),
+    (Call::Put(1, 10, 2), "new, gone:", "1 2: 1=10 2,"),
+    (Call::Put(2, 20, 3), "new, gone:", "2 5: 2=20 3, 1=10 2,"),
+    (Call::Put(3, 30, 1), "new, gone:", "3 6: 3=30 1, 2=20 3, 1=10 2,"),
+    (Call::Put(4, 40, 4), "new, gone:", "4 10: 4=40 4, 3=30 1, 2=20 3, 1=10 2,"),
+    (Call::RetainLast(0, 0), "asked: gone:", "4 10: 4=40 4, 3=30 1, 2=20 3, 1=10 2,"),
+    (Call::RetainLast(3, 2), "asked: 1, 2, 3, gone: 2=20 3,", "3 7: 4=40 4, 3=30 1, 1=10 2,"),
+    (Call::RetainLast(1, 1), "asked: 1, gone: 1=10 2,", "2 5: 4=40 4, 3=30 1,"),
+    (Call::RetainLast(2, 4), "asked: 3, 4, gone:", "2 5: 4=40 4, 3=30 1,"),
+    (Call::RetainLast(18446744073709551615, 0), "asked: 3, 4, gone: 3=30 1, 4=40 4,", "0 0:"),
+];
+
+#[test]
+fn the_last_entries_are_retained(rt: HostRuntime) -> Result<(), Fail> {
+    let mut cache = Cache::new(rt.alloc(), 10, 5)?;
+    assert_eq!(rt; fault(rt.alloc(), &mut cache, &RETAINED_LAST)?, None);
+    Ok(())
+}
+
 // Entries that go last, and from the first on.
 #[rattlefmt::skip]
 static FROM_THE_FIRST: [Step<u64, u64>; 13] = [
@@ -302,6 +324,10 @@ fn keys_of_one_hash_are_asked_for(rt: HostRuntime) -> Result<(), Fail> {
     assert_eq!(rt;
         (cache.weight_by(&Alike(2)), cache.weight_by(&Alike(3))),
         (Some(2), None)
+    );
+    assert_eq!(rt;
+        cache.update_by(&Alike(2), |value: &mut u64, _weight| *value),
+        Some(20)
     );
     assert!(rt; cache.remove_by(&Alike(3)).is_none());
     assert!(rt; cache.remove_by(&Alike(2)).is_some());

@@ -10,11 +10,20 @@ type Made = Result<(u64, usize), u8>;
 fn are_made_where_missing(alloc: Global) -> Result<bool, AllocError> {
     let mut cache = Cache::<u64, u64>::new(alloc, 10, 10)?;
     let put = cache.use_or_put(1, || -> Made { Ok((10, 2)) }, |_gone| {});
-    let used = cache.use_or_put(1, || -> Made { Err(7) }, |_gone| {});
+    let mut calls = 0u32;
+    let used = cache.use_or_put(
+        1,
+        || -> Made {
+            calls = calls.wrapping_add(1);
+            Err(7)
+        },
+        |_gone| {},
+    );
     let unmade = cache.use_or_put(2, || -> Made { Err(7) }, |_gone| {});
     let heavy = cache.use_or_put(3, || -> Made { Ok((30, 11)) }, |_gone| {});
     let is_as_told = matches!(put, Ok(false))
         && matches!(used, Ok(true))
+        && calls == 0
         && matches!(unmade, Err(NotPut::Unmade(2, 7)))
         && matches!(heavy, Err(NotPut::Refused(_)));
     Ok(is_as_told && cache.len() == 1 && cache.peek(&1) == Some(&10))

@@ -39,6 +39,8 @@ pub enum Call<K, V> {
     Reweigh(K, V, usize),
     /// Keeps what weighs at most this. Answers the weights that were shown.
     Retain(usize),
+    /// Of so many entries, keeps what weighs at most this. Answers what was asked of, and what went.
+    RetainLast(usize, usize),
 }
 
 /// A call, the text of its answer, and that of the cache after it.
@@ -240,6 +242,36 @@ fn retain<K: Hash + Debug + Default + Drop, V: Debug + Drop>(
     Ok(shown)
 }
 
+// Keeps of so many entries those that weigh at most this, and answers the text of what is shown to its test and to its visitor.
+fn retain_last<K: Hash + Debug + Default + Drop, V: Debug + Drop>(
+    alloc: Global,
+    cache: &mut Cache<K, V>,
+    most: usize,
+    heaviest: usize,
+) -> Result<String, AllocError> {
+    let mut shown = String::from_str(alloc, "asked:")?;
+    let mut told = Ok(());
+    let mut gone = String::from_str(alloc, "gone:")?;
+    let mut told_gone = Ok(());
+    cache.retain_last(
+        most,
+        |key, _value, weight| {
+            if told.is_ok() {
+                told = write!(shown, " {key:?},");
+            }
+            weight <= heaviest
+        },
+        |entry| {
+            if told_gone.is_ok() {
+                told_gone = tell(&mut gone, &entry);
+            }
+        },
+    );
+    told?;
+    told_gone?;
+    format!(in alloc; "{shown} {gone}")
+}
+
 /// Whether a key has an entry, its value and its weight.
 pub fn look<K: Hash, V: Debug>(
     alloc: Global,
@@ -309,6 +341,7 @@ where
         Call::PutWeighed(key, value, weight) => put_weighed(alloc, cache, key, value, weight),
         Call::Reweigh(key, value, weight) => reweigh(alloc, cache, &key, value, weight),
         Call::Retain(most) => retain(alloc, cache, most),
+        Call::RetainLast(most, heaviest) => retain_last(alloc, cache, most, heaviest),
     }
 }
 

@@ -162,10 +162,15 @@ fn are_asked_by_texts(alloc: Global, cache: &mut Texts) -> Result<bool, AllocErr
             cache,
             "2 5: Some(\"a\")=\"x\" 2, Some(\"b\")=\"y\" 3,",
         )?;
+    let lent = cache.update_by(Some("b"), |value: &mut String, weight: usize| {
+        (value.len(), weight)
+    });
+    let is_lent = (lent == Some((1, 3)))
+        & cache.update_by(Some(""), |_value, _weight| ()).is_none();
     let none = taken(alloc, &cache.remove_by(Some("")))?;
     let removed = taken(alloc, &cache.remove_by(Some("b")))?;
     let are_taken = (none.as_str() == "none") & (removed.as_str() == "took Some(\"b\")=\"y\" 3,");
-    Ok(is_told & is_missing & is_first & are_taken)
+    Ok(is_told & is_missing & is_first & is_lent & are_taken)
 }
 
 #[test]

@@ -18,21 +18,21 @@ module _ {K V : Type 0} where
   shows post lent answer None is called = absurd (false≢true (sym (ap is_some is)))
   shows post lent answer (Some e) is called = (e, (refl, (lent, (ap (λ o. option_map_or (λ x. x) o lent.now) is, called))))
 
-  module _ (eq : K → K → Bool) where
-    pub may_show : {R : Type 0} (post : Bor V → R → Type 0) (es : List (Entry K V)) (key : K) (result : Option R) → ShowsEntry eq post es key result → IfSome result (MayShow post)
+  module _ {Q : Type 0} (eq : K → Q → Bool) where
+    pub may_show : {R : Type 0} (post : Bor V → R → Type 0) (es : List (Entry K V)) (key : Q) (result : Option R) → ShowsEntry eq post es key result → IfSome result (MayShow post)
     may_show post es key None h = tt
     may_show post es key (Some answer) h = (h.1.1.0, h.1.1.1.1)
 
-    pub may_lend : {R : Type 0} (post : MutBor V → ℕ → R → MutBor V → Type 0) (old : Cached K V) (key : K) (result : Option R) (new : Cached K V) → UpdatesEntry eq post old key result new → IfSome result (MayLend post)
+    pub may_lend : {R : Type 0} (post : MutBor V → ℕ → R → MutBor V → Type 0) (old : Cached K V) (key : Q) (result : Option R) (new : Cached K V) → UpdatesEntry eq post old key result new → IfSome result (MayLend post)
     may_lend post old key None new h = tt
     may_lend post old key (Some answer) new h = (h.1.1.1.0.lent, (h.0.weight, (h.1.1.1.0.left, h.1.1.1.0.called)))
 
-    first_keyed : (e : Entry K V) (rest : Option (Entry K V)) (key : K) (b : Bool) → eq e.key key ≡ b → IfSome rest (λ x. eq x.key key ≡ true) → IfSome (cond b (Some e) rest) (λ x. eq x.key key ≡ true)
+    first_keyed : (e : Entry K V) (rest : Option (Entry K V)) (key : Q) (b : Bool) → eq e.key key ≡ b → IfSome rest (λ x. eq x.key key ≡ true) → IfSome (cond b (Some e) rest) (λ x. eq x.key key ≡ true)
     first_keyed e rest key true is held = is
     first_keyed e rest key false is held = held
 
     -- the entry of a key has that key
-    pub keyed : (es : List (Entry K V)) (key : K) → IfSome (entry_of eq es key) (λ x. eq x.key key ≡ true)
+    pub keyed : (es : List (Entry K V)) (key : Q) → IfSome (entry_of eq es key) (λ x. eq x.key key ≡ true)
     keyed [] key = tt
     keyed (e ∷ es) key = first_keyed e (entry_of eq es key) key (eq e.key key) refl (keyed es key)
 

@@ -1,7 +1,6 @@
 -- What the answers of a shared cache say by themselves, where nothing is known of the entries that other threads may change.
 use Rattle.std.specs.Prelude.{◌≡◌, ℕ, Result, Ok, Err}
 use Rattle.std.specs.Borrow.{Bor, MutBor}
-use Rattle.lru_cache.specs.declared.cache.Refused.{Refused}
 use Rattle.lru_shared.specs.declared.shared.NotGot.{NotGot}
 use Rattle.lru_shared.specs.declared.shared.NotGot.TheVariants.{Memory, Unmade, Refused as Unput}
 

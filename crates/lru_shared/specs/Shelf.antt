@@ -21,8 +21,8 @@ module _ {K V : Type 0} where
   IsCloned clones (Some e) None = ⊥
   IsCloned clones (Some e) (Some v) = clones e.value v
 
-  -- the value of a key's entry was lent to a closure, which answered this; or there is no entry, and nothing was called
-  abbrev pub ShowsEntry : {R : Type 0} → (K → K → Bool) → (Bor V → R → Type 0) → List (Entry K V) → K → Option R → Type 0
+  -- by a key that equals it, or what stands for one: the value of its entry was lent to a closure, which answered this; or there is no entry, and nothing was called
+  abbrev pub ShowsEntry : {R Q : Type 0} → (K → Q → Bool) → (Bor V → R → Type 0) → List (Entry K V) → Q → Option R → Type 0
   ShowsEntry eq post es key None = entry_of eq es key ≡ None
   ShowsEntry eq post es key (Some answer) = (e : Entry K V) × ((entry_of eq es key ≡ Some e) × ((lent : Bor V) × ((lent.now ≡ e.value) × post lent answer)))
 

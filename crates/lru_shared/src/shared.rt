@@ -1,11 +1,13 @@
 //! A cache that threads share.
-ghost use Rattle.std.specs.Prelude.{◌≡◌, ◌<◌, ◌%◌, vec_len, true, IfOk, IfErr, IfSome};
+ghost use Rattle.std.specs.Prelude.{◌≡◌, ◌<◌, ◌%◌, vec_len, true, IfOk, IfErr, IfSome, IsTrue};
+ghost use Rattle.lru_index.specs.Hashing.{hash_by, key_hash};
 ghost use Rattle.lru_shared.specs.Calls.{HandsBack, MayShow, MayLend};
 
 use crate::shelf::Shelf;
 use crossbeam_utils::CachePadded;
 use lru_cache::cache::{Cause, Entry, Refused};
 use lru_index::hashing::SeededHashes;
+use lru_index::keys::Query;
 use lru_short_locks::ShortMutex;
 use std::alloc::{AllocError, Global};
 use std::hash::{BuildHasher, Hash};
@@ -207,14 +209,28 @@ impl<K: Hash, V, const N: usize, S: BuildHasher> SharedCache<K, V, N, S> {
         (hash % LOW) as usize % N
     }
 
-    // The shard of a key.
-    fn shard_at(&self, key: &K) -> &Shard<K, V, S> {
-        &self.shards[self.shard_of(self.hash_builder.hash_one(key))]
+    // The shard of what stands for a key. It is that of each key for which the query stands, as they are hashed alike.
+    fn shard_by<Q: Query<K>>(&self, query: Q) -> usize
+        ensures hashed { result ≡ hash_by S.BuildHasher S.Hasher.Hasher self.now.hash_builder (Q.hash_input query) % 4294967296 % N }
+        ensures same { (k : K) → IsTrue (Q.stands_for k query) → result ≡ key_hash S.BuildHasher S.Hasher.Hasher K.hash_input self.now.hash_builder k % 4294967296 % N }
+        ensures below { result < N }
+    {
+        self.shard_of(self.hash_builder.hash_one(&query))
+    }
+
+    // The same, and what it is.
+    fn shard_at<Q: Query<K>>(&self, query: Q) -> &Shard<K, V, S> {
+        &self.shards[self.shard_by(query)]
     }
 
     /// Whether a key has an entry.
     pub fn contains(&self, rt: &impl Wait, key: &K) -> bool {
-        self.shard_at(key).shelf.lock(rt).contains(key)
+        self.contains_by(rt, key)
+    }
+
+    /// As `contains`, by what stands for the key.
+    pub fn contains_by<Q: Query<K>>(&self, rt: &impl Wait, query: Q) -> bool {
+        self.shard_at(query).shelf.lock(rt).contains_by(query)
     }
 
     /// Shows the value of a key to `show`, under the lock, and answers what it does. The key is not used by that. One
@@ -223,7 +239,23 @@ impl<K: Hash, V, const N: usize, S: BuildHasher> SharedCache<K, V, N, S> {
         requires { F.IsAlwaysCallable show }
         ensures { IfSome result (MayShow (F.post show)) }
     {
-        self.shard_at(key).shelf.lock(rt).peek_with(key, show)
+        self.peek_with_by(rt, key, show)
+    }
+
+    /// As `peek_with`, by what stands for the key.
+    pub fn peek_with_by<Q: Query<K>, R, F: FnOnce(&V) -> R>(
+        &self,
+        rt: &impl Wait,
+        query: Q,
+        show: F,
+    ) -> Option<R>
+        requires { F.IsAlwaysCallable show }
+        ensures { IfSome result (MayShow (F.post show)) }
+    {
+        self.shard_at(query)
+            .shelf
+            .lock(rt)
+            .peek_with_by(query, show)
     }
 
     /// Uses a key, and answers a clone of its value, made under the lock.
@@ -235,7 +267,19 @@ impl<K: Hash, V, const N: usize, S: BuildHasher> SharedCache<K, V, N, S> {
     where
         V: Clone,
     {
-        self.shard_at(key).shelf.lock(rt).get(key)
+        self.get_by(rt, key)
+    }
+
+    /// As `get`, by what stands for the key.
+    ///
+    /// # Errors
+    ///
+    /// As for `get`.
+    pub fn get_by<Q: Query<K>>(&self, rt: &impl Wait, query: Q) -> Result<Option<V>, AllocError>
+    where
+        V: Clone,
+    {
+        self.shard_at(query).shelf.lock(rt).get_by(query)
     }
 
     /// Uses a key, lends its value to `show` with its weight, under the lock, and answers what `show` does. Its weight
@@ -249,7 +293,20 @@ impl<K: Hash, V, const N: usize, S: BuildHasher> SharedCache<K, V, N, S> {
         requires { F.IsAlwaysCallable show }
         ensures { IfSome result (MayLend (F.post show)) }
     {
-        self.shard_at(key).shelf.lock(rt).get_with(key, show)
+        self.get_with_by(rt, key, show)
+    }
+
+    /// As `get_with`, by what stands for the key.
+    pub fn get_with_by<Q: Query<K>, R, F: FnOnce(&mut V, usize) -> R + Drop>(
+        &self,
+        rt: &impl Wait,
+        query: Q,
+        show: F,
+    ) -> Option<R>
+        requires { F.IsAlwaysCallable show }
+        ensures { IfSome result (MayLend (F.post show)) }
+    {
+        self.shard_at(query).shelf.lock(rt).get_with_by(query, show)
     }
 }
 
@@ -281,7 +338,14 @@ impl<K: Hash + Default + Drop, V: Drop, const N: usize, S: BuildHasher> SharedCa
     pub fn remove(&self, rt: &impl Wait, key: &K) -> Option<Entry<K, V>>
         ensures { IfSome result (λ entry. K.eq entry.key key.now ≡ true) }
     {
-        self.shard_at(key).shelf.lock(rt).remove(key)
+        self.remove_by(rt, key)
+    }
+
+    /// As `remove`, by what stands for the key.
+    pub fn remove_by<Q: Query<K>>(&self, rt: &impl Wait, query: Q) -> Option<Entry<K, V>>
+        ensures { IfSome result (λ entry. Q.stands_for entry.key query ≡ true) }
+    {
+        self.shard_at(query).shelf.lock(rt).remove_by(query)
     }
 
     /// Uses a key, and answers a clone of its value; or, where it has none, puts an entry of what `make` makes, value and

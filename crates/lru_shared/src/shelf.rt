@@ -5,6 +5,7 @@ ghost use Rattle.lru_shared.specs.Shelf.{is_among, left_of, IsCloned, ShowsEntry
 
 use lru_cache::cache::{Cache, Entry, Refused};
 use lru_index::hashing::SeededHashes;
+use lru_index::keys::Query;
 use std::alloc::{AllocError, Global};
 use std::hash::{BuildHasher, Hash};
 
@@ -60,15 +61,26 @@ impl<K: Hash, V, S: BuildHasher> Shelf<K, V, S> {
     pub(crate) fn contains(&self, key: &K) -> bool
         ensures { result ≡ is_some (entry_of K.eq self.now.cache.entries key.now) }
     {
-        self.cache.contains(key)
+        self.contains_by(key)
     }
 
-    // Shows the value of a key, which is not used by that.
-    pub(crate) fn peek_with<R, F: FnOnce(&V) -> R>(&self, key: &K, show: F) -> Option<R>
-        requires { F.IsAlwaysCallable show }
-        ensures { ShowsEntry K.eq (F.post show) self.now.cache.entries key.now result }
+    // Whether what the query stands for has an entry.
+    pub(crate) fn contains_by<Q: Query<K>>(&self, query: Q) -> bool
+        ensures { result ≡ is_some (entry_of Q.stands_for self.now.cache.entries query) }
     {
-        let value = self.cache.peek(key)?;
+        self.cache.contains_by(query)
+    }
+
+    // Shows the value of what the query stands for, which is not used by that.
+    pub(crate) fn peek_with_by<Q: Query<K>, R, F: FnOnce(&V) -> R>(
+        &self,
+        query: Q,
+        show: F,
+    ) -> Option<R>
+        requires { F.IsAlwaysCallable show }
+        ensures { ShowsEntry Q.stands_for (F.post show) self.now.cache.entries query result }
+    {
+        let value = self.cache.peek_by(query)?;
         Some(show(value))
     }
 
@@ -80,27 +92,38 @@ impl<K: Hash, V, S: BuildHasher> Shelf<K, V, S> {
         ensures cache { self.new.cache ≡ with_entries self.old.cache (used K.eq self.old.cache.entries key.now) }
         ensures making { self.new.making.items ≡ self.old.making.items }
     {
+        self.get_by(key)
+    }
+
+    // As `get`, by what stands for the key.
+    pub(crate) fn get_by<Q: Query<K>>(&mut self, query: Q) -> Result<Option<V>, AllocError>
+    where
+        V: Clone,
+        ensures value { IfOk result (λ found. IsCloned V.is_clone (entry_of Q.stands_for self.old.cache.entries query) found) }
+        ensures cache { self.new.cache ≡ with_entries self.old.cache (used Q.stands_for self.old.cache.entries query) }
+        ensures making { self.new.making.items ≡ self.old.making.items }
+    {
         let _len = self.cache.len();
         match self
             .cache
-            .update(key, |value: &mut V, _weight: usize| value.clone())
+            .update_by(query, |value: &mut V, _weight: usize| value.clone())
         {
             Some(cloned) => Ok(Some(cloned?)),
             None => Ok(None),
         }
     }
 
-    // Uses a key, and lends its value with its weight, which stays.
-    pub(crate) fn get_with<R, F: FnOnce(&mut V, usize) -> R + Drop>(
+    // Uses what the query stands for, and lends its value with its weight, which stays.
+    pub(crate) fn get_with_by<Q: Query<K>, R, F: FnOnce(&mut V, usize) -> R + Drop>(
         &mut self,
-        key: &K,
+        query: Q,
         show: F,
     ) -> Option<R>
         requires { F.IsAlwaysCallable show }
-        ensures cache { UpdatesEntry K.eq (F.post show) self.old.cache key.now result self.new.cache }
+        ensures cache { UpdatesEntry Q.stands_for (F.post show) self.old.cache query result self.new.cache }
         ensures making { self.new.making.items ≡ self.old.making.items }
     {
-        self.cache.update(key, show)
+        self.cache.update_by(query, show)
     }
 
     // Whether a key has no entry, and one is being made.
@@ -168,12 +191,12 @@ impl<K: Hash + Default + Drop, V: Drop, S: BuildHasher> Shelf<K, V, S> {
         self.put(key, value, weight, visit)
     }
 
-    // Takes a key's entry out.
-    pub(crate) fn remove(&mut self, key: &K) -> Option<Entry<K, V>>
-        ensures answer { result ≡ entry_of K.eq self.old.cache.entries key.now }
-        ensures cache { self.new.cache ≡ with_entries self.old.cache (without K.eq self.old.cache.entries key.now) }
+    // Takes the entry out of what the query stands for.
+    pub(crate) fn remove_by<Q: Query<K>>(&mut self, query: Q) -> Option<Entry<K, V>>
+        ensures answer { result ≡ entry_of Q.stands_for self.old.cache.entries query }
+        ensures cache { self.new.cache ≡ with_entries self.old.cache (without Q.stands_for self.old.cache.entries query) }
         ensures making { self.new.making.items ≡ self.old.making.items }
     {
-        self.cache.remove(key)
+        self.cache.remove_by(query)
     }
 }

@@ -1,4 +1,4 @@
-//! Tests of `lru_shared`: each call, limits that are divided, a value that is made once, and a soak.
+//! Tests of `lru_shared`: each call, keys that are texts, limits that are divided, a value that is made once, and a soak.
 #![tactic(auto)]
 
 #[cfg(test)]
@@ -7,3 +7,5 @@ mod calls;
 mod made;
 #[cfg(test)]
 mod soak;
+#[cfg(test)]
+mod texts;

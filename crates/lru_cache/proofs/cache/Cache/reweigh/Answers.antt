@@ -2,7 +2,7 @@ use Rattle.std.proofs.Common.{None, refl, arith, ap}
 use Rattle.lru_cache.specs.Cache.{Cached}
 use Rattle.lru_cache.specs.Representation.{cached_in}
 use Rattle.lru_cache.proofs.Views.{valid_cache, view_unupdated, at_first, kept_updated, view_updated}
-use Rattle.lru_cache.proofs.Reweighed.{some_now, too_heavy, settled}
+use Rattle.lru_cache.proofs.Reweighed.{too_heavy, settled}
 use Rattle.lru_cache.proofs.cache.Cache.reweigh.Goals as goal
 
 pub invariant_of-self : goal.invariant_of-self

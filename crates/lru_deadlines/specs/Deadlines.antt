@@ -1,0 +1,57 @@
+-- A cache whose entries have deadlines: what is answered at a time, and what goes.
+use Rattle.std.specs.Prelude.{◌≡◌, ℕ, ◌-◌, nat_lt, Bool, not, List, ◌++◌, length, take, drop, filter, Option, Some, None, Result, Ok, Err, is_some, if◌then◌else◌}
+use Rattle.std.specs.Borrow.{MutBor}
+use Rattle.lru_cache.specs.declared.cache.Entry.{Entry}
+use Rattle.lru_cache.specs.Cache.{Cached, entry_of, without, used, with_entries, IsShown, UpdatesEntry}
+use Rattle.lru_deadlines.specs.declared.deadlines.Until.{Until}
+
+abbrev pub until : {V : Type 0} → V → ℕ → Until V
+until v deadline = record { value = v; deadline = deadline }
+
+module _ {K V : Type 0} where
+  -- an entry's deadline is past
+  abbrev pub is_past : ℕ → Entry K (Until V) → Bool
+  is_past time e = nat_lt e.value.deadline time
+
+  -- an entry, if there is one and it passes a test
+  abbrev pub where_it : (Entry K (Until V) → Bool) → Option (Entry K (Until V)) → Option (Entry K (Until V))
+  where_it test None = None
+  where_it test (Some e) = if test e then Some e else None
+
+  -- so many of the last entries, or all where there are fewer; and those before them
+  abbrev pub last_of : ℕ → List (Entry K (Until V)) → List (Entry K (Until V))
+  last_of most es = drop (length es - most) es
+
+  abbrev pub before_last : ℕ → List (Entry K (Until V)) → List (Entry K (Until V))
+  before_last most es = take (length es - most) es
+
+  -- of the last entries those go that are past their deadline, and each is shown. The others stay, and so do those before them
+  abbrev pub Sweeps : {F : Type 0} → (F → Entry K (Until V) → F → Type 0) → F → ℕ → ℕ → Cached K (Until V) → Cached K (Until V) → Type 0
+  Sweeps Step visit time most old new =
+      IsShown Step visit (filter (is_past time) (last_of most old.entries))
+      × (new ≡ with_entries old (before_last most old.entries ++ filter (λ e. not (is_past time e)) (last_of most old.entries)))
+
+  -- by what stands for a key: a key that equals it, or what a query matches
+  module _ {Q : Type 0} (eq : K → Q → Bool) where
+    -- the entry of a key, if there is one and it is not past its deadline
+    abbrev pub living : ℕ → List (Entry K (Until V)) → Q → Option (Entry K (Until V))
+    living time es key = where_it (λ e. not (is_past time e)) (entry_of eq es key)
+
+    -- the same where it is past
+    abbrev pub past_of : ℕ → List (Entry K (Until V)) → Q → Option (Entry K (Until V))
+    past_of time es key = where_it (is_past time) (entry_of eq es key)
+
+    -- a key's entry is taken out where it is past its deadline
+    abbrev pub TakesPast : ℕ → Cached K (Until V) → Q → Option (Entry K (Until V)) → Cached K (Until V) → Type 0
+    TakesPast time old key None new = (past_of time old.entries key ≡ None) × (new ≡ old)
+    TakesPast time old key (Some past) new = (past_of time old.entries key ≡ Some past) × (new ≡ with_entries old (without eq old.entries key))
+
+    -- a key's entry goes first, if it has one; one that is past its deadline is taken out, and handed over
+    abbrev pub PromotesLiving : ℕ → Cached K (Until V) → Q → Result Bool (Entry K (Until V)) → Cached K (Until V) → Type 0
+    PromotesLiving time old key (Ok found) new = (past_of time old.entries key ≡ None) × ((found ≡ is_some (entry_of eq old.entries key)) × (new ≡ with_entries old (used eq old.entries key)))
+    PromotesLiving time old key (Err past) new = (past_of time old.entries key ≡ Some past) × (new ≡ with_entries old (without eq old.entries key))
+
+    -- the same, and its value and deadline are lent to a closure, which may change both
+    abbrev pub UpdatesLiving : {R : Type 0} → (MutBor (Until V) → ℕ → R → MutBor (Until V) → Type 0) → ℕ → Cached K (Until V) → Q → Result (Option R) (Entry K (Until V)) → Cached K (Until V) → Type 0
+    UpdatesLiving post time old key (Ok answer) new = (past_of time old.entries key ≡ None) × UpdatesEntry eq post old key answer new
+    UpdatesLiving post time old key (Err past) new = (past_of time old.entries key ≡ Some past) × (new ≡ with_entries old (without eq old.entries key))

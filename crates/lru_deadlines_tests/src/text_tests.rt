@@ -1,0 +1,68 @@
+//! Keys that are texts, asked for by texts.
+use crate::steps::{put, shown, taken};
+use lru_deadlines::deadlines::{DeadlineCache, Until};
+use std::alloc::{AllocError, Global};
+use std::test::Fail;
+
+type Texts = DeadlineCache<Option<String>, u64>;
+
+// Puts a value under a text. Whether nothing was there and nothing goes.
+fn is_put(
+    alloc: Global,
+    cache: &mut Texts,
+    key: &str,
+    value: u64,
+    deadline: u64,
+) -> Result<bool, AllocError> {
+    let name = String::from_str(alloc, key)?;
+    let answer = put(alloc, cache, (Some(name), value), 1, deadline)?;
+    Ok(answer.as_str() == "new, gone:")
+}
+
+// Whether a text is found until its deadline, and no longer.
+fn are_looked_up(cache: &Texts) -> bool {
+    let is_there = cache.contains_by(5, Some("a"))
+        & (cache.peek_by(5, Some("a")).copied() == Some(10))
+        & (cache.deadline_by(5, Some("a")) == Some(5));
+    let is_gone = cache.contains_by(6, Some("a"))
+        | cache.peek_by(6, Some("a")).is_some()
+        | cache.deadline_by(6, Some("a")).is_some();
+    let is_other = cache.contains_by(0, Some("c")) | cache.peek_by(0, None::<&str>).is_some();
+    is_there & !is_gone & !is_other
+}
+
+// Whether a use puts a text first until its deadline, and hands it over then.
+fn are_used(cache: &mut Texts) -> bool {
+    let used = matches!(cache.promote_by(5, Some("a")), Ok(true));
+    let missing = matches!(cache.promote_by(5, Some("c")), Ok(false));
+    let raised = cache.update_by(7, Some("b"), |until: &mut Until<u64>, weight| {
+        until.deadline = 9;
+        (until.value, weight)
+    });
+    let is_raised = matches!(raised, Ok(Some((20, 1))));
+    let is_past = match cache.promote_by(6, Some("a")) {
+        Ok(_) => false,
+        Err(past) => (past.value.value, past.value.deadline) == (10, 5),
+    };
+    used & missing & is_raised & is_past
+}
+
+#[test]
+fn texts_are_asked_for_by_texts(rt: HostRuntime) -> Result<(), Fail> {
+    let alloc = rt.alloc();
+    let mut cache = Texts::new(alloc, 9, 9)?;
+    assert!(rt; is_put(alloc, &mut cache, "a", 10, 5)? & is_put(alloc, &mut cache, "b", 20, 7)?);
+    assert!(rt; are_looked_up(&cache));
+    assert!(rt; are_used(&mut cache));
+    assert_eq!(rt;
+        shown(alloc, &cache)?.as_str(),
+        "1 1: Some(\"b\")=20 1 to 9,"
+    );
+    let removed = cache.remove_by(Some("b"));
+    assert_eq!(rt;
+        taken(alloc, &removed)?.as_str(),
+        "took Some(\"b\")=20 1 to 9,"
+    );
+    assert!(rt; cache.remove_by(Some("b")).is_none());
+    Ok(())
+}
