@@ -34,6 +34,21 @@ pub struct ShardData<K> {
     pub items: Vec<(K, usize)>,
 }
 
+/// What an order came to, once it was closed.
+#[derive(Clone, Copy, Debug, PartialEq, Eq)]
+pub struct Closed {
+    /// The weight of the rows that were left.
+    pub weight: usize,
+    /// How many rows were left.
+    pub len: usize,
+    /// The weight of all rows that were evicted, modulo 2^64.
+    pub evicted_weight: usize,
+    /// How many rows were evicted, modulo 2^64.
+    pub evicted_len: usize,
+    /// How many evicted pairs are lost, modulo 2^64.
+    pub lost_pairs: usize,
+}
+
 /// N shards, each a list of rows of a key and a weight, most recent first, served by a thread of its own. A key's shard is
 /// its hash modulo N. Calls send messages; evicted pairs go to the callback.
 ///
@@ -309,11 +324,18 @@ impl<K: Drop, const N: usize, B: Registry> AsyncLru<K, N, B> {
         self.world.shut(rt);
     }
 
-    /// Shuts down, and waits until all threads have ended their work. Callback workers take the pairs that wait.
-    pub fn close(self, rt: &impl Wait) {
+    /// Waits until nothing is under way: no message waits or is being served, no eviction was asked for that is not done, and
+    /// no worker wants one. Evicted pairs may wait on for callbacks or a receiver. While others send it may wait for long.
+    pub fn wait_until_quiet(&self, rt: &impl Wait) {
+        self.world.wait_until_quiet(rt, self.eviction_workers.len());
+    }
+
+    /// Shuts down, waits until all threads have ended their work, and answers what the order came to. Callback workers take
+    /// the pairs that wait.
+    pub fn close(self, rt: &impl Wait) -> Closed {
         let mut puts = Vec::new(self.alloc);
         let mut takes = Vec::new(self.alloc);
-        self.end(rt, &mut puts, &mut takes);
+        self.end(rt, &mut puts, &mut takes)
     }
 
     // Shuts down, waits for all threads, and gathers the seats that they give back.
@@ -322,7 +344,7 @@ impl<K: Drop, const N: usize, B: Registry> AsyncLru<K, N, B> {
         rt: &impl Wait,
         puts: &mut Vec<PutSeat<B>>,
         takes: &mut Vec<TakeSeat<B>>,
-    ) {
+    ) -> Closed {
         self.shutdown(rt);
         let AsyncLru {
             world,
@@ -344,6 +366,13 @@ impl<K: Drop, const N: usize, B: Registry> AsyncLru<K, N, B> {
             if let Some(Some(seat)) = worker.take(rt) {
                 drop(takes.push(seat));
             }
+        }
+        Closed {
+            weight: world.weight(),
+            len: world.len(),
+            evicted_weight: world.evicted_weight(),
+            evicted_len: world.evicted_len(),
+            lost_pairs: world.outlet.lost(rt),
         }
     }
 

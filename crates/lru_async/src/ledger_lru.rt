@@ -69,7 +69,8 @@ impl<K: Drop, const N: usize, B: Registry> LedgerLru<K, N, B> {
         } = self;
         let mut puts = puts;
         let mut takes = takes;
-        lru.end(rt, &mut puts, &mut takes);
+        // (what was evicted and what is lost stands in the lists that are settled)
+        let _closed = lru.end(rt, &mut puts, &mut takes);
         let puts = all_puts(rt, puts, N);
         let takes = all_takes(rt, takes, takers);
         sole(rt, ledger).settle(puts, takes)

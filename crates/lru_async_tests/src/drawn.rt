@@ -61,6 +61,7 @@ fn gained(rows: usize) -> Change {
         evicted_weight: 0,
         evicted_len: 0,
         refused: 0,
+        heaviest: 1,
     }
 }
 

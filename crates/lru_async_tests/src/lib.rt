@@ -19,3 +19,5 @@ mod running;
 mod served;
 #[cfg(test)]
 mod soak;
+#[cfg(test)]
+mod stays;

@@ -1,8 +1,8 @@
 //! What only running threads show.
 ghost use Rattle.std.specs.Prelude.{◌≡◌};
 
-use crate::callbacks::{Counting, Holding, LOOKS, Meeting, Quiet, is_raised};
-use lru_async::async_lru::AsyncLru;
+use crate::callbacks::{Counting, Holding, Meeting, Quiet, is_raised};
+use lru_async::async_lru::{AsyncLru, Closed};
 use lru_ledger::Settled;
 use lru_ledgers::{Blanks, Registry};
 use std::alloc::Global;
@@ -12,17 +12,6 @@ use std::sync::{Arc, Wait};
 use std::test::Fail;
 use std::thread;
 use std::thread::Threads;
-
-// Whether so many rows are evicted soon.
-fn evicts<B: Registry, const N: usize>(lru: &AsyncLru<u64, N, B>, count: usize) -> bool {
-    for _ in 0..LOOKS {
-        if lru.evicted_len() >= count {
-            return true;
-        }
-        thread::yield_now();
-    }
-    false
-}
 
 // Whether two hundred keys that are admitted while the gate holds all stand there, the last one first.
 fn keeps_all<R: Wait>(rt: &R, lru: &AsyncLru<u64, 1>, gate: &Holding) -> bool {
@@ -100,14 +89,15 @@ fn a_held_shard_holds_up_no_other(rt: HostRuntime) -> Result<(), Fail> {
     Ok(())
 }
 
-// Admits keys 1, 2 and 3 with weight 10, and waits until one is evicted.
+// Admits keys 1, 2 and 3 with weight 10, and waits until nothing is under way. Whether one was evicted then.
 fn fills<B: Registry, R: Wait>(rt: &R, lru: &AsyncLru<u64, 1, B>) -> bool {
     for key in 1..4u64 {
         if lru.admit(rt, key, 10).is_err() {
             return false;
         }
     }
-    evicts(lru, 1)
+    lru.wait_until_quiet(rt);
+    lru.evicted_len() == 1 && lru.weight() == 20
 }
 
 #[test]
@@ -119,13 +109,15 @@ fn evicted_pairs_are_called(rt: HostRuntime) -> Result<(), Fail> {
         panic!(rt; "no threads");
     };
     let filled = fills(&rt, &lru);
-    let evicted = lru.evicted_len();
-    lru.close(&rt);
-    let [first, second, third, others] = counting.counts();
-    let called = first.wrapping_add(second).wrapping_add(third);
-    assert!(rt;
-        filled && called >= evicted && first <= 1 && second <= 1 && third <= 1 && others == 0
-    );
+    let closed = Closed {
+        weight: 20,
+        len: 2,
+        evicted_weight: 10,
+        evicted_len: 1,
+        lost_pairs: 0,
+    };
+    assert_eq!(rt; (filled, lru.close(&rt)), (true, closed));
+    assert_eq!(rt; counting.counts(), [1, 0, 0, 0]);
     Ok(())
 }
 
@@ -140,9 +132,7 @@ fn too_many_rows_are_evicted(rt: HostRuntime) -> Result<(), Fail> {
         panic!(rt; "no threads");
     };
     let filled = fills(&rt, &lru);
-    // a worker that looks before an eviction is counted asks for one more
-    assert!(rt; filled && matches!(lru.shard_weight(&rt, 0), Ok(Some(0..=20))));
-    lru.close(&rt);
+    assert_eq!(rt; (filled, lru.close(&rt).len), (true, 2));
     Ok(())
 }
 
@@ -152,7 +142,8 @@ fn evicts_two<R: Wait>(rt: &R, lru: &AsyncLru<u64, 1>) -> bool {
     let weighs = matches!(lru.shard_weight(rt, 0), Ok(Some(2)));
     let none = lru.evicted_len() == 0;
     lru.trigger_eviction(rt);
-    put && weighs && none && evicts(lru, 2)
+    lru.wait_until_quiet(rt);
+    put && weighs && none && lru.evicted_len() == 2
 }
 
 #[test]
@@ -171,22 +162,12 @@ fn two_callbacks_are_called_at_once(rt: HostRuntime) -> Result<(), Fail> {
     Ok(())
 }
 
-// Whether all rows weigh so much soon.
-fn weighs<const N: usize>(lru: &AsyncLru<u64, N>, weight: usize) -> bool {
-    for _ in 0..LOOKS {
-        if lru.weight() == weight {
-            return true;
-        }
-        thread::yield_now();
-    }
-    false
-}
-
 // Shuts down while the limit is passed and the gate holds the first eviction. One row stays, so that it is passed to the
 // end and the worker has to look at the stop.
 fn shuts<R: Wait>(rt: &R, lru: &AsyncLru<u64, 1>, gate: &Holding) -> [bool; 4] {
     let sent = lru.insert_tail(rt, 1, 10).is_ok() && lru.insert_tail(rt, 2, 10).is_ok();
-    let put = weighs(lru, 20);
+    lru.wait_until_quiet(rt);
+    let put = lru.weight() == 20;
     lru.trigger_eviction(rt);
     let held = is_raised(&gate.held);
     let over = lru.over_limit() && lru.evicted_len() == 0;
@@ -225,10 +206,17 @@ fn pairs_are_lost_once_the_receiver_left(rt: HostRuntime) -> Result<(), Fail> {
         panic!(rt; "no threads");
     };
     receiver.leave(&rt);
-    let evicted = lru.admit(&rt, 1, 1).is_ok() && evicts(&lru, 1);
-    let weighs = matches!(lru.shard_weight(&rt, 0), Ok(Some(0)));
-    assert_eq!(rt; (evicted, weighs, lru.lost_pairs(&rt)), (true, true, 1));
-    lru.close(&rt);
+    let sent = lru.admit(&rt, 1, 1).is_ok();
+    lru.wait_until_quiet(&rt);
+    let closed = Closed {
+        weight: 0,
+        len: 0,
+        evicted_weight: 1,
+        evicted_len: 1,
+        lost_pairs: 1,
+    };
+    assert_eq!(rt; (sent, lru.lost_pairs(&rt)), (true, 1));
+    assert_eq!(rt; lru.close(&rt), closed);
     Ok(())
 }
 
@@ -293,6 +281,6 @@ fn a_ledger_keeps_what_nobody_takes(rt: HostRuntime) -> Result<(), Fail> {
         panic!(rt; "no threads");
     };
     let (count, same) = all_left(&settled);
-    assert!(rt; filled && count >= 1 && same);
+    assert!(rt; filled && count == 1 && same);
     Ok(())
 }

@@ -1,6 +1,6 @@
 -- What a call does not do: it brings in no key of another shard.
-use Rattle.std.proofs.Common.{◌≡◌, ℕ, ◌%◌, ◌<◌, ◌≤◌, ◌-◌, cond, eqb, List, length, Some, None, Ok, Err, refl, sym, ap, ◌∙◌, arith, inl, inr}
-use Rattle.std.specs.Prelude.{Option, Result}
+use Rattle.std.proofs.Common.{◌≡◌, ℕ, ◌%◌, ◌<◌, ◌≤◌, ◌-◌, cond, eqb, List, length, Some, None, Ok, Err, refl, sym, ap, ◌∙◌, arith, inl, inr, [], ◌∷◌}
+use Rattle.std.specs.Prelude.{Option, Result, max}
 use Rattle.std.specs.Option.{option_map_or}
 use Rattle.std.proofs.lemmas.Bool.{cases_eq, cases_lt, ne_eqb}
 use Rattle.std.proofs.lemmas.List.Sums.{sum_by-take-le}
@@ -8,11 +8,16 @@ use Rattle.lru_shard.specs.declared.unit.Cause.{Cause}
 use Rattle.lru_shard.specs.Row.{Row, row_of, times, with_first, without, without_last}
 use Rattle.lru_shard.specs.Shard.{Shard, shard}
 use Rattle.lru_shard.specs.Unit.{SetsWeight, accessed}
-use Rattle.lru_shard.proofs.EditsOf.{Edit}
 use Rattle.lru_shard.proofs.Rows.{times_no, times-without_other, row_of_absent}
 use Rattle.lru_shard.proofs.Edits.{times-without-le, times-with_weight}
 use Rattle.lru_shard.proofs.Pulls.{row_key}
+use Rattle.lru_shard.proofs.EditsOf.{Edit, edits_admit}
 use Rattle.lru_rules.specs.Shards.{AreAtHome}
+use Rattle.lru_batches.specs.declared.admission.Admission.{Admission}
+use Rattle.lru_batches.specs.declared.admission.Fate.{Fate}
+use Rattle.lru_batches.specs.declared.admission.Fate.TheVariants.{Waiting, Admitted, HandedBack}
+use Rattle.lru_batches.specs.Batches.{IsAsked, AdmitsOne, AdmitsEach}
+use Rattle.lru_batches.proofs.Answered.{in_turn}
 
 module _ {T : Type 0} (n s : ℕ) where
   -- a call on a key of this shard
@@ -51,3 +56,24 @@ module _ {T : Type 0} (n s : ℕ) where
 
   pub home_access : (k : ℕ) (a b : Shard T) → b ≡ shard (accessed a.rows k) a.cap → AreAtHome n s a.rows → AreAtHome n s b.rows
   home_access k a b e all = home_row k a b (row_of a.rows k) refl (ap (λ (u : Shard T). u.rows) e) all
+
+  asked_home : (k w : ℕ) (x y : Fate T) (a b : Shard T) → IsAsked s a k w x y b → k % n ≡ s → AreAtHome n s a.rows → AreAtHome n s b.rows
+  asked_home k w (Waiting d) (Waiting e) a b h own all = absurd h
+  asked_home k w (Waiting d) (Admitted at) a b h own all = home_edit k a b (edits_admit a k d (max w 1) (Ok h.1.0) b h.1.1) own all
+  asked_home k w (Waiting d) (HandedBack r) a b h own all = home_edit k a b (edits_admit a k d (max w 1) (Err r) b h) own all
+  asked_home k w (Admitted at) y a b h own all = absurd h
+  asked_home k w (HandedBack r) y a b h own all = absurd h
+
+  one_home : (x y : Admission T) (a b : Shard T) → AdmitsOne n s a x y b → AreAtHome n s a.rows → AreAtHome n s b.rows
+  one_home x y a b h all =
+      elim (in_turn n s a b x y h) [
+        | inl mine ↦ asked_home x.key x.weight x.fate y.fate a b mine.1 mine.0 all
+        | inr others ↦ home_fewer a b (λ j. omega (arith, ap (λ (u : Shard T). times j u.rows) others.1)) all
+      ]
+
+  -- a batch, as far as it is for this shard
+  pub home_each : (batch answered : List (Admission T)) (a b : Shard T) → AdmitsEach n s a batch answered b → AreAtHome n s a.rows → AreAtHome n s b.rows
+  home_each [] [] a b h all = home_fewer a b (λ j. omega (arith, ap (λ (u : Shard T). times j u.rows) h)) all
+  home_each [] (y ∷ answered) a b h all = absurd h
+  home_each (x ∷ batch) [] a b h all = absurd h
+  home_each (x ∷ batch) (y ∷ answered) a b h all = home_each batch answered h.0 b h.1.1 (one_home x y a h.0 h.1.0 all)

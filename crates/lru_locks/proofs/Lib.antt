@@ -2,3 +2,4 @@ pub mod LruCaps
 pub mod Homes
 pub mod Units
 pub mod Sheds
+pub mod Passed

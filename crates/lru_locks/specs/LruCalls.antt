@@ -1,8 +1,12 @@
 -- What the answers of an `Lru` say by themselves, where nothing is known of the shard that other threads may change.
-use Rattle.std.specs.Prelude.{◌≡◌, ℕ, ◌⊎◌, Option, IfSome}
+use Rattle.std.specs.Prelude.{◌≡◌, ℕ, ◌⊎◌, List, Option, IfSome}
 use Rattle.lru_shard.specs.declared.unit.Refused.{Refused}
 use Rattle.lru_shard.specs.declared.unit.Cause.TheVariants.{Weight}
+use Rattle.lru_shard.specs.Shard.{Shard}
 use Rattle.lru_shard.specs.Unit.{raised, started}
+use Rattle.lru_rules.specs.Limits.{cap_of}
+use Rattle.lru_batches.specs.declared.admission.Admission.{Admission}
+use Rattle.lru_batches.specs.Batches.{AdmitsEach}
 
 -- what a refused `update_or_admit` hands back: what was made, where it weighs too much, or nothing
 abbrev pub HandsBack : {T : Type 0} → (T × ℕ → Type 0) → Refused (Option (T × ℕ)) → Type 0
@@ -11,3 +15,10 @@ HandsBack Makes refused = IfSome refused.held (λ made. Makes made × (refused.c
 -- a weight that `increment_weight` may answer: one that was there, raised, or that of a new row
 abbrev pub MayAnswer : ℕ → Option ℕ → ℕ → Type 0
 MayAnswer delta most w = ((was : ℕ) × (w ≡ raised was delta most)) ⊎ (w ≡ started delta most)
+
+-- a batch was asked of shard s of n, whatever rows it had
+pub record IsAskedOf {T : Type 0} (n s : ℕ) (batch answered : List (Admission T)) : Type 0 where
+  pub old : Shard T
+  pub new : Shard T
+  pub cap : old.cap ≡ cap_of n
+  pub asked : AdmitsEach n s old batch answered new

@@ -1,5 +1,6 @@
 //! N shards for many threads, each behind a lock of its own.
 #![tactic(auto)]
 
+mod locked;
 pub mod lru;
 mod shed;

@@ -143,16 +143,20 @@ fn admits_and_evicts_as_a_core(rt: HostRuntime) -> Result<(), Fail> {
     Ok(())
 }
 
-// Rows that came or went: how many, their weight, and the sum of their data, each of which is another.
+/// Rows that came or went: how many, their weight, and the sum of their data, each of which is another.
 #[derive(Clone, Copy, Debug, Drop, PartialEq)]
-struct Tally {
-    len: usize,
-    weight: usize,
-    data: u64,
+pub struct Tally {
+    /// How many.
+    pub len: usize,
+    /// Their weight.
+    pub weight: usize,
+    /// The sum of their data.
+    pub data: u64,
 }
 
 impl Tally {
-    fn none() -> Self {
+    /// None.
+    pub fn none() -> Self {
         Tally {
             len: 0,
             weight: 0,
@@ -160,13 +164,15 @@ impl Tally {
         }
     }
 
-    fn count(&mut self, data: u64, weight: usize) {
+    /// One more.
+    pub fn count(&mut self, data: u64, weight: usize) {
         self.len = self.len.wrapping_add(1);
         self.weight = self.weight.wrapping_add(weight);
         self.data = self.data.wrapping_add(data);
     }
 
-    fn and(self, other: Tally) -> Tally {
+    /// Those and these.
+    pub fn and(self, other: Tally) -> Tally {
         Tally {
             len: self.len.wrapping_add(other.len),
             weight: self.weight.wrapping_add(other.weight),
@@ -197,8 +203,8 @@ fn work<R: Wait>(rt: &R, lru: &Lru<u64, 4>, thread: u64) -> Shift {
     (put, left)
 }
 
-// What is left of it.
-fn rest_of<R: Wait>(rt: &R, lru: &Lru<u64, 4>) -> Tally {
+/// What is left of it.
+pub fn rest_of<R: Wait>(rt: &R, lru: &Lru<u64, 4>) -> Tally {
     let mut rest = Tally::none();
     for shard in 0..4usize {
         lru.iter_for_each(rt, shard, |(data, weight)| rest.count(*data, weight));

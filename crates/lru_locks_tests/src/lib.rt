@@ -4,6 +4,8 @@
 #[cfg(test)]
 mod admissions;
 #[cfg(test)]
+mod batches;
+#[cfg(test)]
 mod closures;
 #[cfg(test)]
 mod draws;

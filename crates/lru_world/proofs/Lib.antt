@@ -1,2 +1,4 @@
 mod Apart
 pub mod Evicted
+mod Heaviest
+mod PastLimits

@@ -1,5 +1,5 @@
 -- A batch of an actor: what is kept of its letters, who is answered what, and what it changed.
-use Rattle.std.specs.Prelude.{◌≡◌, ℕ, ◌-◌, ◌%◌, ◌^◌, Bool, true, false, List, [], ◌∷◌, length, map, sum_by, None, if◌then◌else◌}
+use Rattle.std.specs.Prelude.{◌≡◌, ℕ, ◌-◌, ◌%◌, ◌^◌, Bool, true, false, List, [], ◌∷◌, length, map, sum_by, max, Option, None, Some, if◌then◌else◌}
 use Rattle.lru_shard.specs.Row.{Row, weight_of}
 use Rattle.lru_actors.specs.declared.message.LruMsg.{LruMsg}
 use Rattle.lru_actors.specs.declared.message.LruMsg.TheVariants.{Evict, Promote, PeekLru, Snapshot, QueryWeight}
@@ -9,6 +9,11 @@ use Rattle.lru_letters.specs.declared.letter.Letter.{Letter}
 use Rattle.lru_schedules.specs.Turns.{sent, turns_of, evictions}
 use Rattle.lru_world.specs.declared.actor.Asked.{Asked}
 use Rattle.lru_world.specs.declared.world.Change.{Change}
+
+-- the weight that a hash was set to; 0 where none was set
+abbrev pub weight_told : Option (ℕ × ℕ) → ℕ
+weight_told None = 0
+weight_told (Some p) = p.1
 
 module _ {K : Type 0} where
   abbrev pub is_evict : LruMsg K → Bool
@@ -49,6 +54,14 @@ module _ {K : Type 0} where
   abbrev pub pairs_evicted : List (Row K) → List (LruMsg K) → List (Effect K) → List (K × ℕ)
   pairs_evicted rows msgs effects = evictions rows (turns_of (map (λ m. sent None m) msgs) effects)
 
+  -- the weight that a message gave a row, and the greatest one that a batch gave
+  abbrev pub weight_put : Effect K → ℕ
+  weight_put e = weight_told e.put
+
+  abbrev pub heaviest_put : List (Effect K) → ℕ
+  heaviest_put [] = 0
+  heaviest_put (e ∷ es) = max (weight_put e) (heaviest_put es)
+
   -- how a batch changed a shard, and what it evicted
   pub record IsChange (old : State K) (msgs : List (LruMsg K)) (effects : List (Effect K)) (new : State K) (c : Change) : Type 0 where
     pub weight_before : c.weight_before ≡ weight_of old.shard.rows
@@ -58,3 +71,4 @@ module _ {K : Type 0} where
     pub evicted_weight : c.evicted_weight ≡ sum_by (λ (p : K × ℕ). p.1) (pairs_evicted old.shard.rows msgs effects) % 2 ^ 64
     pub evicted_len : c.evicted_len ≡ length (pairs_evicted old.shard.rows msgs effects) % 2 ^ 64
     pub refused : c.refused ≡ new.refused
+    pub heaviest : c.heaviest ≡ heaviest_put effects

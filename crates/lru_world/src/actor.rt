@@ -1,10 +1,10 @@
 //! The loop of an actor.
-ghost use Rattle.std.specs.Prelude.{◌≡◌, ℕ, Option, ◌%◌, ◌^◌, ◌<◌, ◌≤◌, [], All, map, length, sum_by, vec_len, vec_capacity, nat_eq, true, IfOk, IsTrue};
+ghost use Rattle.std.specs.Prelude.{◌≡◌, ℕ, Option, ◌%◌, ◌^◌, ◌<◌, ◌≤◌, [], All, map, length, count_by, sum_by, vec_len, vec_capacity, nat_eq, true, IfOk, IsTrue};
 ghost use Rattle.std.specs.List.{zip};
 ghost use Rattle.std.specs.HashMap as hash;
 ghost use Rattle.lru_rules.specs.Limits.{cap_of};
 ghost use Rattle.lru_actors.specs.Processing.{ProcessesAll};
-ghost use Rattle.lru_world.specs.Batch.{is_evict, evicts_none, stays_inside, asked_by, replied, weight_taken, rows_taken, IsChange};
+ghost use Rattle.lru_world.specs.Batch.{is_evict, evicts_none, stays_inside, asked_by, replied, weight_taken, rows_taken, weight_put, heaviest_put, IsChange};
 
 use crate::callback::Gate;
 use crate::outlet::Outlet;
@@ -123,11 +123,13 @@ impl<K: Clone + Drop, B: Registry> Actor<K, B> {
         clear(rt, &mut self.effects);
         take_apart(&mut self.letters, &mut self.batch, &mut self.asked);
         self.process(rt, world);
+        world.evictions_done(evictions_in(&self.asked));
         let looks = self.effects.iter().any(|effect| effect.look);
         reply_where_asked(rt, &mut self.effects, &mut self.asked);
         if looks && world.over_limit() {
             world.trigger.raise(rt);
         }
+        world.served(rt, self.shard, count);
         true
     }
 
@@ -258,6 +260,7 @@ impl<K: Clone + Drop, B: Registry> Actor<K, B> {
             evicted_weight,
             evicted_len,
             refused: self.state.refused(),
+            heaviest: heaviest_in(&self.effects),
         }
     }
 }
@@ -376,6 +379,40 @@ fn evicted_in<K: Drop>(effects: &Vec<Effect<K>>, asked: &Vec<Asked<K>>) -> (usiz
         len = len.wrapping_add(taken_len);
     }
     (weight, len)
+}
+
+// How many evictions were asked for.
+fn evictions_in<K: Drop>(asked: &Vec<Asked<K>>) -> usize
+    ensures { result ≡ count_by (λ a. a.evicts) asked.now.items }
+{
+    let mut count = 0;
+    for asked in asked {
+        if asked.evicts {
+            count += 1;
+        }
+    }
+    count
+}
+
+// The greatest weight that a row was given.
+fn heaviest_in<K: Drop>(effects: &Vec<Effect<K>>) -> usize
+    ensures { result ≡ heaviest_put effects.now.items }
+{
+    let mut heaviest = 0usize;
+    for effect in effects {
+        heaviest = heaviest.max(weight_put(effect));
+    }
+    heaviest
+}
+
+// The weight that a message gave a row.
+fn weight_put<K: Drop>(effect: &Effect<K>) -> usize
+    ensures { result ≡ weight_put effect.now }
+{
+    match effect.put {
+        Some((_, weight)) => weight,
+        None => 0,
+    }
 }
 
 // Gives those who asked the replies of their messages' effects. Most batches ask for nothing.

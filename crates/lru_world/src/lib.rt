@@ -3,8 +3,10 @@
 #![tactic(auto)]
 
 pub mod actor;
+pub mod asking;
 pub mod callback;
 pub mod outlet;
+mod rest;
 pub mod trigger;
 pub mod workers;
 pub mod world;

@@ -5,6 +5,8 @@ use std::sync::{Condvar, Mutex, Wait};
 struct Raised {
     // how often, modulo 2^64
     count: u64,
+    // how many workers have nothing to do as long as the count stays
+    resting: usize,
     stopped: bool,
 }
 
@@ -21,6 +23,7 @@ impl Trigger {
         Trigger {
             raised: Mutex::new(Raised {
                 count: 0,
+                resting: 0,
                 stopped: false,
             }),
             changed: Condvar::new(),
@@ -31,6 +34,7 @@ impl Trigger {
     pub fn raise(&self, rt: &impl Wait) {
         let mut raised = self.raised.lock(rt);
         raised.count = raised.count.wrapping_add(1);
+        raised.resting = 0;
         drop(raised);
         self.changed.notify_all();
     }
@@ -39,6 +43,24 @@ impl Trigger {
     pub fn stop(&self, rt: &impl Wait) {
         self.raised.lock(rt).stopped = true;
         self.changed.notify_all();
+    }
+
+    /// A worker has nothing more to do for this count. It waits for another one next.
+    pub fn rests(&self, rt: &impl Wait, seen: u64) {
+        let mut raised = self.raised.lock(rt);
+        if raised.count == seen {
+            raised.resting = raised.resting.wrapping_add(1);
+        }
+    }
+
+    /// The count, while so many workers have nothing to do until it is another one, or once the trigger is stopped.
+    pub fn count_at_rest(&self, rt: &impl Wait, workers: usize) -> Option<u64> {
+        let raised = self.raised.lock(rt);
+        if raised.stopped || raised.resting >= workers {
+            Some(raised.count)
+        } else {
+            None
+        }
     }
 
     /// Waits until the count is another one than this, and answers it; `None` once the trigger is stopped.

@@ -22,6 +22,7 @@ pub fn evict<K: Drop, G: Rng + Drop, R: Wait, B: Registry>(rt: &R, world: &World
 {
     let mut seen = 0;
     for _ in rt.forever() {
+        world.rests(rt, seen);
         let Some(count) = world.trigger.wait(rt, seen) else {
             break;
         };
@@ -30,7 +31,7 @@ pub fn evict<K: Drop, G: Rng + Drop, R: Wait, B: Registry>(rt: &R, world: &World
     }
 }
 
-// Asks for evictions while a limit is passed and no stop is raised.
+// Asks for evictions while a limit is passed and no stop is raised, but for none that those under way may make needless.
 fn evict_while_over<K: Drop, G: Rng, R: Wait, B: Registry>(rt: &R, world: &World<K, B>, rng: &mut G)
     requires { 0 < vec_len world.now.shards }
 {
@@ -38,12 +39,15 @@ fn evict_while_over<K: Drop, G: Rng, R: Wait, B: Registry>(rt: &R, world: &World
         if world.is_stopped() || !world.over_limit() {
             break;
         }
-        ask_one(rt, world, rng);
+        if world.may_ask() {
+            ask_one(rt, world, rng);
+        }
         thread::yield_now();
     }
 }
 
-// Asks the longer one of two drawn shards for an eviction. It may refuse; then the next look asks again.
+// Asks the longer one of two drawn shards for an eviction, with leave to ask for one. It may refuse; then the leave is given
+// back, and the next look asks again.
 fn ask_one<K: Drop, G: Rng, R: Wait, B: Registry>(rt: &R, world: &World<K, B>, rng: &mut G)
     requires { 0 < vec_len world.now.shards }
 {
@@ -56,9 +60,12 @@ fn ask_one<K: Drop, G: Rng, R: Wait, B: Registry>(rt: &R, world: &World<K, B>, r
         (a, b)
     };
     let victim = longer(look_at(world, a), look_at(world, b));
-    let _answer = world.shards[victim]
+    let asked = world.shards[victim]
         .mailbox
         .push_evict(rt, Letter::new(LruMsg::Evict));
+    if asked.is_err() {
+        world.evictions_done(1);
+    }
 }
 
 // A shard that was drawn, and how many rows it is told to have.

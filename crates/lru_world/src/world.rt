@@ -1,7 +1,9 @@
 //! What actors, workers and callers share.
 ghost use Rattle.std.specs.Prelude.{◌≡◌, ◌<◌, vec_len, IfOk};
 
+use crate::asking::{Held, may_ask};
 use crate::outlet::Outlet;
+use crate::rest::Rest;
 use crate::trigger::Trigger;
 use lru_ledgers::Registry;
 use lru_letters::Letter;
@@ -35,6 +37,8 @@ pub struct ShardPlace<K: Drop> {
     pub len: AtomicUsize,
     /// How many messages were refused, modulo 2^64.
     pub refused: AtomicU64,
+    // how many messages the actor is done with, modulo 2^64
+    served: AtomicU64,
 }
 
 impl<K: Drop> ShardPlace<K> {
@@ -45,7 +49,21 @@ impl<K: Drop> ShardPlace<K> {
             map: ShortLock::new(HashMap::with_capacity(alloc, capacity)?),
             len: AtomicUsize::new(0),
             refused: AtomicU64::new(0),
+            served: AtomicU64::new(0),
         })
+    }
+
+    // How many messages were put, modulo 2^64, if the actor is done with all but those that are lost.
+    fn all_served(&self, rt: &impl Wait) -> Option<u64> {
+        // counted after they are taken, so they are read first
+        let served = self.served.load(Ordering::SeqCst);
+        let state = self.mailbox.lend(rt);
+        let pushed = state.pushed();
+        if served.wrapping_add(state.lost()) == pushed {
+            Some(pushed)
+        } else {
+            None
+        }
     }
 
     /// The weight of the row with this hash, if there is one.
@@ -83,6 +101,8 @@ pub struct Change {
     pub evicted_len: usize,
     /// How many messages the shard refused so far, modulo 2^64.
     pub refused: u64,
+    /// The greatest weight that a row was given; 0 where none was given one.
+    pub heaviest: usize,
 }
 
 /// What actors, workers and callers share.
@@ -100,6 +120,12 @@ pub struct World<K: Drop, B: Registry = Brand> {
     len: AtomicUsize,
     evicted_weight: AtomicUsize,
     evicted_len: AtomicUsize,
+    // no row was ever heavier
+    heaviest: AtomicUsize,
+    // how many evictions were asked for, and how many of those are done, modulo 2^64
+    asked: AtomicUsize,
+    done: AtomicUsize,
+    rest: Rest,
     stop: AtomicBool,
 }
 
@@ -131,6 +157,10 @@ impl<K: Drop, B: Registry> World<K, B> {
             len: AtomicUsize::new(0),
             evicted_weight: AtomicUsize::new(0),
             evicted_len: AtomicUsize::new(0),
+            heaviest: AtomicUsize::new(0),
+            asked: AtomicUsize::new(0),
+            done: AtomicUsize::new(0),
+            rest: Rest::new(),
             stop: AtomicBool::new(false),
         })
     }
@@ -140,6 +170,10 @@ impl<K: Drop, B: Registry> World<K, B> {
         requires { shard < vec_len self.now.shards }
     {
         let place = &self.shards[shard];
+        // first of all, so that whoever reads the weight knows how heavy the rows in it may be
+        if change.heaviest > self.heaviest.load(Ordering::SeqCst) {
+            self.heaviest.fetch_max(change.heaviest, Ordering::SeqCst);
+        }
         shift(&self.weight, change.weight_before, change.weight_after);
         shift(&self.len, change.len_before, change.len_after);
         shift(&place.len, change.len_before, change.len_after);
@@ -178,6 +212,92 @@ impl<K: Drop, B: Registry> World<K, B> {
         )
     }
 
+    // What all shards hold. The heaviest row is read last: each row that the weight counts was told before.
+    fn held(&self) -> Held {
+        Held {
+            weight: self.weight(),
+            len: self.len(),
+            heaviest: self.heaviest.load(Ordering::SeqCst),
+        }
+    }
+
+    /// Takes leave to ask for one eviction, where one more may be asked for beside those that are under way. It is given back
+    /// by `evictions_done`: by the actor once it was counted, or by the asker where it was not sent.
+    ///
+    /// Those that are done are read before the weight, which so counts them; and between two looks of two workers the number of
+    /// those asked for moves, so that only one of the two gets leave by what it saw.
+    pub fn may_ask(&self) -> bool {
+        let asked = self.asked.load(Ordering::SeqCst);
+        let pending = asked.wrapping_sub(self.done.load(Ordering::SeqCst));
+        may_ask(&self.limits, &self.held(), pending)
+            && self
+                .asked
+                .compare_exchange(
+                    asked,
+                    asked.wrapping_add(1),
+                    Ordering::SeqCst,
+                    Ordering::SeqCst,
+                )
+                .is_ok()
+    }
+
+    /// So many evictions that were asked for are done: what they took is counted, or they took nothing.
+    pub fn evictions_done(&self, count: usize) {
+        add(&self.done, count);
+    }
+
+    /// So many messages of a shard are done with: they are counted and answered, and the workers are told.
+    pub fn served(&self, rt: &impl Wait, shard: usize, count: usize)
+        requires { shard < vec_len self.now.shards }
+    {
+        self.shards[shard]
+            .served
+            .fetch_add(count as u64, Ordering::SeqCst);
+        self.rest.look_again(rt);
+    }
+
+    /// An eviction worker has asked for all that was wanted when the trigger had this count.
+    pub fn rests(&self, rt: &impl Wait, seen: u64) {
+        self.trigger.rests(rt, seen);
+        self.rest.look_again(rt);
+    }
+
+    /// Waits until no message waits or is being served, no eviction is under way, and so many workers want none. Pairs that
+    /// were evicted may wait on.
+    pub fn wait_until_quiet(&self, rt: &impl Wait, workers: usize) {
+        self.rest.begin();
+        for _ in rt.forever() {
+            let seen = self.rest.changes(rt);
+            if self.is_quiet(rt, workers) {
+                break;
+            }
+            self.rest.wait(rt, seen);
+        }
+        self.rest.end();
+    }
+
+    // Whether there was a moment in this call at which nothing was under way.
+    fn is_quiet(&self, rt: &impl Wait, workers: usize) -> bool {
+        let Some(count) = self.trigger.count_at_rest(rt, workers) else {
+            return false;
+        };
+        // No worker asks for anything until the count moves, and no mailbox gains anything until its number moves.
+        let Some(pushed) = self.all_served(rt) else {
+            return false;
+        };
+        self.all_served(rt) == Some(pushed)
+            && self.trigger.count_at_rest(rt, workers) == Some(count)
+    }
+
+    // How many messages were put, modulo 2^64, if all actors are done with all but those that are lost.
+    fn all_served(&self, rt: &impl Wait) -> Option<u64> {
+        let mut sum = 0u64;
+        for place in &self.shards {
+            sum = sum.wrapping_add(place.all_served(rt)?);
+        }
+        Some(sum)
+    }
+
     /// Whether the stop was raised.
     pub fn is_stopped(&self) -> bool {
         self.stop.load(Ordering::SeqCst)
@@ -190,6 +310,7 @@ impl<K: Drop, B: Registry> World<K, B> {
         for place in &self.shards {
             place.shut(rt);
         }
+        self.rest.look_again(rt);
     }
 }
 

@@ -1,7 +1,8 @@
 //! An order of least recent use over rows that have weights, in N shards under one limit.
 //!
 //! [`linked_list::LinkedList`] is the order of one shard, [`unit::LruUnit`] is one shard,
-//! [`lru_core::LruCore`] is N shards of one owner, and [`Lru`] is N shards for many threads;
+//! [`lru_core::LruCore`] is N shards of one owner, and [`Lru`] is N shards for many threads, with [`batch`] for batches of
+//! admissions to it;
 //! [`calls`] has the calls of a core as values, [`recorded`] an order that keeps the history of its calls, and
 //! [`tiered`] a hot and a cold core. [`totals`] has what orders for threads leave at their end. Each stands in a small
 //! crate beneath; these are the names for users.
@@ -14,6 +15,11 @@ pub use lru_rules::totals;
 pub use lru_runs::{calls, inclusion};
 pub use lru_shard::unit;
 pub use lru_tiers::tiered;
+
+/// Batches of admissions to an [`Lru`].
+pub mod batch {
+    pub use lru_batches::{Admission, Fate};
+}
 
 /// N shards under one limit on their weight, of one owner, and the law of inclusion over two of them.
 pub mod lru_core {

@@ -13,8 +13,8 @@ pub use lru_actors::message::LruMsg;
 pub use lru_actors::process::{choose_victim, process_batch, process_msg};
 /// The shard of an actor.
 pub use lru_actors::state::ShardState;
-/// The order, and the rows of a shard that it saves.
-pub use lru_async::async_lru::{AsyncLru, ShardData};
+/// The order, the rows of a shard that it saves, and what it came to.
+pub use lru_async::async_lru::{AsyncLru, Closed, ShardData};
 /// How it is made.
 pub use lru_async::builder::{AsyncLruBuilder, Settings};
 /// One whose evicted pairs are counted.

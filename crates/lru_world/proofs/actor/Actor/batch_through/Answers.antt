@@ -26,6 +26,7 @@ returns-clause-change g c =
       evicted_weight = c.evicted_in-evicted_weight.ensures.weight ∙ ap (λ n. n % 2 ^ 64) taken.weight;
       evicted_len = c.evicted_in-evicted_weight.ensures.len ∙ ap (λ n. n % 2 ^ 64) taken.len;
       refused = c.refused.ensures;
+      heaviest = c.heaviest_in.ensures;
     }
 
 pub returns-clause-effects : goal.returns-clause-effects
