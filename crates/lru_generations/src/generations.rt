@@ -9,8 +9,8 @@ ghost use Rattle.lru_folder.specs.Files.{Files};
 ghost use Rattle.lru_whole_files.specs.Touching.{TouchesNothing, TouchesOnly};
 ghost use Rattle.lru_checkpoints.specs.Checkpoints.{Shards};
 ghost use Rattle.lru_checkpoints.specs.Generations.{IsNext};
-ghost use Rattle.lru_checkpoints.specs.Loads.{IsFault};
-ghost use Rattle.lru_generations.specs.Before.{before_path, HasBefore, IsForGood, IsOlderFrame, SavesNext};
+ghost use Rattle.lru_checkpoints.specs.Loads.{IsFault, IsRefusedManifest};
+ghost use Rattle.lru_generations.specs.Before.{before_path, before_text, HasBefore, IsForGood, IsOlderFrame, SavesNext};
 ghost use Rattle.lru_generations.specs.Reasons.{IsNextUnsaved};
 
 use crate::before::before_name;
@@ -34,17 +34,26 @@ pub struct Saved {
     pub removed: Result<(), CheckpointError>,
 }
 
-// What the manifest of the checkpoint before tells, or `None` where there is none.
-fn manifest_before<F: Folder>(
+/// What the manifest of the checkpoint before the newest one tells, or `None` where there is none. At every moment all files
+/// are as they were. The errors are those of `load_manifest`.
+pub fn manifest_before<F: Folder>(
     alloc: Global,
     folder: &mut F,
     dir: &str,
     file_name: &str,
 ) -> Result<Option<Manifest>, CheckpointError>
+    // What is read is what stands there.
+    ensures found { F.meaning.keeps folder.old → IfOk result (λ found. IfSome found (λ manifest.
+        get (F.meaning.files folder.old) (before_path dir.now file_name.now) ≡ Some (manifest_bytes manifest))) }
     ensures fits { IfOk result (λ found. IfSome found IsManifest) }
+    ensures missing { F.meaning.keeps folder.old → result ≡ Ok None → get (F.meaning.files folder.old) (before_path dir.now file_name.now) ≡ None }
+
+    // What was written is read, unless memory or the device fails.
     ensures written { F.meaning.keeps folder.old → (manifest : Manifest) → IsManifest manifest
         → get (F.meaning.files folder.old) (before_path dir.now file_name.now) ≡ Some (manifest_bytes manifest)
         → MatchResult result (λ found. found ≡ Some manifest) IsFault }
+
+    ensures refused { F.meaning.keeps folder.old → IfErr result (IsRefusedManifest F.meaning dir.now (before_text file_name.now) folder.old folder.new) }
     ensures touches { F.meaning.keeps folder.old → TouchesNothing F.meaning folder.old folder.new }
     ensures files { F.meaning.keeps folder.old → F.meaning.files folder.new ≡ F.meaning.files folder.old }
     ensures places { F.meaning.keeps folder.old → F.meaning.folders folder.new ≡ F.meaning.folders folder.old }

@@ -1,0 +1,123 @@
+//! `lru_bench_checkpoints [ROWS WHAT FOLDER]`: what it costs to save rows of 8 shards as a checkpoint, and to load it again.
+//!
+//! WHAT is `rows`, which makes so many rows and no more, `save`, which saves them into a folder of the system, which has to
+//! be there, or `load`, which loads what lies in that. A line says how many rows that were, and how long it took. Without
+//! arguments it makes 10 000 rows, and no line says how long.
+#![tactic(auto)]
+
+use lru_checkpoints::loading::load_checkpoint;
+use lru_frames::row::Row;
+use lru_generations::generations::save;
+use lru_host_folder::host_folder::HostFolder;
+use std::alloc::{AllocError, Global};
+use std::env::Env;
+use std::process::ExitCode;
+use std::time::Instant;
+use std::{env, io};
+
+type Shard = Vec<Row<u64, u64>>;
+
+const FEW: u64 = 10_000;
+
+/// What the arguments ask for.
+#[derive(Drop)]
+struct Task {
+    rows: u64,
+    what: String,
+    folder: String,
+}
+
+fn asked(rt: &(impl Env + AllocGlobal)) -> io::Result<Option<Task>> {
+    let mut words = env::args(rt)?.skip(1);
+    let rows = words.next().and_then(|word| word.parse().ok());
+    match (rows, words.next(), words.next()) {
+        (Some(rows), Some(what), Some(folder)) => Ok(Some(Task { rows, what, folder })),
+        _ => Ok(None),
+    }
+}
+
+/// The rows of a shard of eight, of so many in all.
+fn shard(alloc: Global, rows: u64, number: u64) -> Result<Shard, AllocError> {
+    let mut shard = Vec::with_capacity(alloc, (rows / 8) as usize)?;
+    for key in 0..rows {
+        if key % 8 == number {
+            shard.push(Row {
+                key,
+                data: key,
+                weight: 1,
+            })?;
+        }
+    }
+    Ok(shard)
+}
+
+fn shards(alloc: Global, rows: u64) -> Result<[Shard; 8], AllocError> {
+    Ok([
+        shard(alloc, rows, 0)?,
+        shard(alloc, rows, 1)?,
+        shard(alloc, rows, 2)?,
+        shard(alloc, rows, 3)?,
+        shard(alloc, rows, 4)?,
+        shard(alloc, rows, 5)?,
+        shard(alloc, rows, 6)?,
+        shard(alloc, rows, 7)?,
+    ])
+}
+
+/// Saves the rows; whether that was done.
+fn save_rows(rt: HostRuntime, shards: &[Shard; 8], dir: &str) -> io::Result<bool> {
+    let mut folder = HostFolder::new(rt);
+    let start = Instant::now(&rt)?;
+    match save(rt.alloc(), &mut folder, dir, "rows", shards) {
+        Ok(saved) => println!(rt;
+            "generation {}, {} ms",
+            saved.generation,
+            start.elapsed(&rt)?.as_millis()
+        )?,
+        Err(error) => {
+            println!(rt; "not saved: {error}")?;
+            return Ok(false);
+        }
+    }
+    Ok(true)
+}
+
+/// Loads the newest checkpoint; whether that was done.
+fn load_rows(rt: HostRuntime, dir: &str) -> io::Result<bool> {
+    let mut folder = HostFolder::new(rt);
+    let start = Instant::now(&rt)?;
+    match load_checkpoint::<_, u64, u64>(rt.alloc(), &mut folder, dir, "rows") {
+        Ok(loaded) => println!(rt;
+            "generation {}, {} ms",
+            loaded.generation,
+            start.elapsed(&rt)?.as_millis()
+        )?,
+        Err(error) => {
+            println!(rt; "not loaded: {error}")?;
+            return Ok(false);
+        }
+    }
+    Ok(true)
+}
+
+fn main(rt: HostRuntime) -> io::Result<ExitCode> {
+    let Some(task) = asked(&rt)? else {
+        let few = shards(rt.alloc(), FEW)?;
+        println!(rt; "{} rows in the first shard", few[0].len())?;
+        return Ok(ExitCode::SUCCESS);
+    };
+    let is_done = match task.what.as_str() {
+        "load" => load_rows(rt, &task.folder)?,
+        "save" => save_rows(rt, &shards(rt.alloc(), task.rows)?, &task.folder)?,
+        _ => {
+            let made = shards(rt.alloc(), task.rows)?;
+            println!(rt; "{} rows in the first shard", made[0].len())?;
+            true
+        }
+    };
+    Ok(if is_done {
+        ExitCode::SUCCESS
+    } else {
+        ExitCode::from(1)
+    })
+}

@@ -1,0 +1,7 @@
+//! Tests of `lru_captures`: rows come back as they stood, and a save that is held holds up no call.
+#![tactic(auto)]
+
+#[cfg(test)]
+mod held_tests;
+#[cfg(test)]
+mod round_trip_tests;

@@ -1,0 +1,134 @@
+//! Rows captured, saved, loaded and put back.
+use lru_cache::cache::Cache;
+use lru_captures::{caches, cores, locks};
+use lru_checkpoints::errors::CheckpointError;
+use lru_checkpoints::loading::load_checkpoint;
+use lru_cores::lru_core::LruCore;
+use lru_folder::folder::Folder;
+use lru_frames::row::Row;
+use lru_frames::stored::Stored;
+use lru_generations::generations::save;
+use lru_locks::lru::Lru;
+use lru_memory_folder::memory_folder::MemoryFolder;
+use std::alloc::{AllocError, Global};
+use std::sync::Wait;
+use std::test::Fail;
+
+// The shards as a load finds them after a save.
+fn saved_and_loaded<K: Stored, V: Stored>(
+    alloc: Global,
+    shards: &[Vec<Row<K, V>>],
+) -> Result<Vec<Vec<Row<K, V>>>, CheckpointError> {
+    if shards.len() > 4 {
+        return Err(CheckpointError::LastGeneration);
+    }
+    let mut folder = MemoryFolder::new(alloc);
+    if folder.make("d").is_err() {
+        return Err(CheckpointError::Memory);
+    }
+    save(alloc, &mut folder, "d", "c", shards)?;
+    Ok(load_checkpoint(alloc, &mut folder, "d", "c")?.shards)
+}
+
+fn text(alloc: Global, number: u64) -> Result<String, AllocError> {
+    format!(in alloc; "value {number}")
+}
+
+// Whether shard 1 of two has the rows of the keys 5, 1 and 3, the most recent first.
+fn is_as_it_stood(rows: &[Row<u64, String>]) -> bool {
+    let wanted = [
+        (5u64, "value 5", 3usize),
+        (1, "value 1", 1),
+        (3, "value 3", 2),
+    ];
+    (rows.len() == 3)
+        && rows.iter().zip(wanted.iter()).all(|(row, (key, value, weight))| (row.key == *key)
+            & (row.data.as_str() == *value)
+            & (row.weight == *weight))
+}
+
+fn core_comes_back(alloc: Global) -> Result<bool, Fail> {
+    let mut core: LruCore<(u64, String), 2> = LruCore::with_capacity(alloc, 100, 4)?;
+    for (key, weight) in [(3u64, 2usize), (1, 1), (5, 3), (2, 1)] {
+        if core.admit(key, (key, text(alloc, key)?), weight).is_err() {
+            return Ok(false);
+        }
+    }
+    let shards = cores::capture_core(alloc, &core)?;
+    let mut again: LruCore<(u64, String), 2> = LruCore::with_capacity(alloc, 100, 4)?;
+    for rows in saved_and_loaded(alloc, &shards)? {
+        if cores::restore_shard(&mut again, rows).is_err() {
+            return Ok(false);
+        }
+    }
+    let rows = cores::capture_shard(alloc, &again, 1)?;
+    Ok(is_as_it_stood(&rows) & (again.len() == 4) & (again.weight() == 7))
+}
+
+#[test]
+fn a_core_comes_back(rt: HostRuntime) -> Result<(), Fail> {
+    assert!(rt; core_comes_back(rt.alloc())?);
+    Ok(())
+}
+
+fn lru_comes_back<R: Wait>(rt: &R, alloc: Global) -> Result<bool, Fail> {
+    let lru: Lru<(u64, String), 2> = Lru::with_capacity(alloc, 100, 4)?;
+    for (key, weight) in [(3u64, 2usize), (1, 1), (5, 3), (2, 1)] {
+        if lru
+            .admit(rt, key, (key, text(alloc, key)?), weight)
+            .is_err()
+        {
+            return Ok(false);
+        }
+    }
+    let shards = locks::capture_lru(rt, alloc, &lru)?;
+    let again: Lru<(u64, String), 2> = Lru::with_capacity(alloc, 100, 4)?;
+    for rows in saved_and_loaded(alloc, &shards)? {
+        if locks::restore_shard(rt, &again, rows).is_err() {
+            return Ok(false);
+        }
+    }
+    let rows = locks::capture_shard(rt, alloc, &again, 1)?;
+    Ok(is_as_it_stood(&rows) & (again.len() == 4) & (again.weight() == 7))
+}
+
+#[test]
+fn an_order_that_threads_share_comes_back(rt: HostRuntime) -> Result<(), Fail> {
+    assert!(rt; lru_comes_back(&rt, rt.alloc())?);
+    Ok(())
+}
+
+fn cache_comes_back(alloc: Global) -> Result<bool, Fail> {
+    let mut cache: Cache<u64, String> = Cache::new(alloc, 100, 100)?;
+    for (key, weight) in [(3u64, 2usize), (1, 1), (5, 3)] {
+        if cache
+            .put(key, text(alloc, key)?, weight, |_gone| {})
+            .is_err()
+        {
+            return Ok(false);
+        }
+    }
+    let rows = caches::capture_cache(alloc, &cache)?;
+    let shards = [rows];
+    // under a limit of 4 the last of the three goes
+    let mut again: Cache<u64, String> = Cache::new(alloc, 100, 100)?;
+    let mut small: Cache<u64, String> = Cache::new(alloc, 4, 100)?;
+    for rows in saved_and_loaded(alloc, &shards)? {
+        if caches::restore_cache(&mut again, rows).is_err() {
+            return Ok(false);
+        }
+    }
+    for rows in saved_and_loaded(alloc, &shards)? {
+        if caches::restore_cache(&mut small, rows).is_err() {
+            return Ok(false);
+        }
+    }
+    let rows = caches::capture_cache(alloc, &again)?;
+    Ok(is_as_it_stood(&rows) & (small.len() == 2) & (small.weight() == 4) & !small.contains(&3))
+}
+
+#[test]
+fn a_cache_comes_back(rt: HostRuntime) -> Result<(), Fail> {
+    assert!(rt; cache_comes_back(rt.alloc())?);
+    Ok(())
+}

@@ -1,0 +1,4 @@
+pub mod Requests
+pub mod InputRows
+pub mod Texts
+pub mod Outcomes

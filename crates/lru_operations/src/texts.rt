@@ -1,0 +1,310 @@
+//! What the program writes: the text of an outcome. It takes no memory.
+ghost use Rattle.std.specs.Prelude.{◌≡◌, ◌++◌, OnErr, OnOk};
+ghost use Rattle.std.specs.List.{flat_map};
+ghost use Rattle.std.specs.Io.KnownBytes.{Appends};
+ghost use Rattle.lru_folder.specs.TextsFault.{fault_text};
+ghost use Rattle.lru_frames.specs.Errors.{part_text};
+ghost use Rattle.lru_checkpoints.specs.Texts.{file_text, error_text};
+ghost use Rattle.lru_operations.specs.Texts.{heading, refusal_text, misuse_text, row_line, generation_line, rows_text, saved_text, verdict_text, checked_text, bad_line_text, outcome_text, help_text};
+
+use crate::outcome::{Outcome, Verdict};
+use crate::requests::Misuse;
+use lru_checkpoints::errors::{CheckpointError, CheckpointFile};
+use lru_checkpoints::loading::Checkpoint;
+use lru_folder::fault::FolderFault;
+use lru_frames::errors::Part;
+use lru_frames::row::Row;
+use lru_streams::output::Output;
+use lru_streams::pieces::{Piece, write_pieces};
+use std::io;
+
+const ABOUT: &str =
+    "checkpoint_tool saves, shows and checks checkpoints of rows: whole, or refused.\n";
+
+const SAVE: &str =
+    "save DIR FILE   saves the rows of the input as the next checkpoint, KEY VALUE WEIGHT a line, last used last\n";
+
+const SHOW: &str =
+    "show DIR FILE   writes the rows of the newest checkpoint, most recent first, shard by shard\n";
+
+const CHECK: &str =
+    "check DIR FILE  tells of the newest checkpoint and of the one before whether it is whole\n";
+
+fn fault_text(fault: FolderFault) -> &'static str
+    ensures { result.now ≡ fault_text fault }
+{
+    match fault {
+        FolderFault::NotFound => "not found",
+        FolderFault::Memory => "out of memory",
+        FolderFault::Io => "input or output failed",
+    }
+}
+
+fn part_text(part: Part) -> &'static str
+    ensures { result.now ≡ part_text part }
+{
+    match part {
+        Part::Length => "length",
+        Part::Magic => "magic",
+        Part::Version => "version",
+        Part::Check => "check",
+        Part::Header => "header",
+        Part::Rows => "rows",
+    }
+}
+
+fn heading(error: &CheckpointError) -> &'static str
+    ensures { result.now ≡ heading error.now }
+{
+    match error {
+        CheckpointError::Memory => "failed: ",
+        CheckpointError::Folder { .. } => "failed: ",
+        CheckpointError::Missing { .. } => "damaged: ",
+        CheckpointError::Damaged { .. } => "damaged: ",
+        CheckpointError::Other { .. } => "damaged: ",
+        CheckpointError::LastGeneration => "failed: ",
+    }
+}
+
+fn misuse_text(misuse: Misuse) -> &'static str
+    ensures { result.now ≡ misuse_text misuse }
+{
+    match misuse {
+        Misuse::Words => "error: these are not as many words as a command has\n",
+        Misuse::Command => "error: no such command\n",
+        Misuse::FileName => "error: the name of the file has a slash\n",
+    }
+}
+
+fn write_file<W: Output>(writer: &mut W, file: CheckpointFile) -> io::Result<()>
+    ensures text { OnOk result (Appends (W.contents writer.old) (W.contents writer.new) (file_text file)) }
+    ensures failed { OnErr result (W.has_failed writer.new) }
+{
+    match file {
+        CheckpointFile::Manifest => write_pieces(writer, &[Piece::Text("manifest")]),
+        CheckpointFile::Shard(shard) => write_pieces(
+            writer,
+            &[Piece::Text("shard "), Piece::Number(shard)],
+        ),
+    }
+}
+
+// A file, and what is told of it.
+fn write_of_file<W: Output>(
+    writer: &mut W,
+    file: CheckpointFile,
+    what: &str,
+    more: &str,
+) -> io::Result<()>
+    ensures text { OnOk result (Appends (W.contents writer.old) (W.contents writer.new) (file_text file ++ what.now ++ more.now)) }
+    ensures failed { OnErr result (W.has_failed writer.new) }
+{
+    write_file(writer, file)?;
+    write_pieces(writer, &[Piece::Text(what), Piece::Text(more)])
+}
+
+fn write_error<W: Output>(writer: &mut W, error: CheckpointError) -> io::Result<()>
+    ensures text { OnOk result (Appends (W.contents writer.old) (W.contents writer.new) (error_text error)) }
+    ensures failed { OnErr result (W.has_failed writer.new) }
+{
+    match error {
+        CheckpointError::Memory => write_pieces(writer, &[Piece::Text("out of memory")]),
+        CheckpointError::Folder { file, fault } => {
+            write_of_file(writer, file, ": ", fault_text(fault.source))
+        }
+        CheckpointError::Missing { file } => write_of_file(writer, file, ": ", "not there"),
+        CheckpointError::Damaged { file, part } => {
+            write_of_file(writer, file, ": damaged ", part_text(part))
+        }
+        CheckpointError::Other { file } => {
+            write_of_file(writer, file, ": ", "of another checkpoint")
+        }
+        CheckpointError::LastGeneration => {
+            write_pieces(writer, &[Piece::Text("no generation is left")])
+        }
+    }
+}
+
+// The line of a checkpoint that was not saved or not loaded.
+fn write_refusal<W: Output>(writer: &mut W, error: &CheckpointError) -> io::Result<()>
+    ensures text { OnOk result (Appends (W.contents writer.old) (W.contents writer.new) (refusal_text error.now)) }
+    ensures failed { OnErr result (W.has_failed writer.new) }
+{
+    write_pieces(writer, &[Piece::Text(heading(error))])?;
+    write_error(writer, *error)?;
+    write_pieces(writer, &[Piece::Text("\n")])
+}
+
+// The line of a checkpoint whose number is known.
+fn write_broken<W: Output>(
+    writer: &mut W,
+    generation: u64,
+    error: &CheckpointError,
+) -> io::Result<()>
+    ensures text { OnOk result (Appends (W.contents writer.old) (W.contents writer.new) (verdict_text (Verdict.Broken generation error.now))) }
+    ensures failed { OnErr result (W.has_failed writer.new) }
+{
+    write_pieces(
+        writer,
+        &[
+            Piece::Text("generation "),
+            Piece::Number(generation),
+            Piece::Text(" "),
+        ],
+    )?;
+    write_refusal(writer, error)
+}
+
+fn write_verdict<W: Output>(writer: &mut W, verdict: &Verdict) -> io::Result<()>
+    ensures text { OnOk result (Appends (W.contents writer.old) (W.contents writer.new) (verdict_text verdict.now)) }
+    ensures failed { OnErr result (W.has_failed writer.new) }
+{
+    match verdict {
+        Verdict::Whole(generation) => write_pieces(
+            writer,
+            &[
+                Piece::Text("generation "),
+                Piece::Number(*generation),
+                Piece::Text(" whole\n"),
+            ],
+        ),
+        Verdict::Broken(generation, error) => write_broken(writer, *generation, error),
+        Verdict::Unnamed(error) => write_refusal(writer, error),
+    }
+}
+
+// A line for each generation.
+fn write_checked<W: Output>(
+    writer: &mut W,
+    newest: &Verdict,
+    before: &Option<Verdict>,
+) -> io::Result<()>
+    ensures text { OnOk result (Appends (W.contents writer.old) (W.contents writer.new) (checked_text newest.now before.now)) }
+    ensures failed { OnErr result (W.has_failed writer.new) }
+{
+    write_verdict(writer, newest)?;
+    match before {
+        None => Ok(()),
+        Some(before) => {
+            if newest.is_of_same(before) {
+                return Ok(());
+            }
+            write_verdict(writer, before)
+        }
+    }
+}
+
+fn write_row<W: Output>(writer: &mut W, row: &Row<u64, u64>) -> io::Result<()>
+    ensures text { OnOk result (Appends (W.contents writer.old) (W.contents writer.new) (row_line row.now)) }
+    ensures failed { OnErr result (W.has_failed writer.new) }
+{
+    write_pieces(
+        writer,
+        &[
+            Piece::Number(row.key),
+            Piece::Text(" "),
+            Piece::Number(row.data),
+            Piece::Text(" "),
+            Piece::Number(row.weight as u64),
+            Piece::Text("\n"),
+        ],
+    )
+}
+
+fn write_rows<W: Output>(writer: &mut W, rows: &[Row<u64, u64>]) -> io::Result<()>
+    ensures text { OnOk result (Appends (W.contents writer.old) (W.contents writer.new) (flat_map row_line rows.now)) }
+    ensures failed { OnErr result (W.has_failed writer.new) }
+{
+    for row in rows {
+        write_row(writer, row)?;
+    }
+    Ok(())
+}
+
+fn write_shards<W: Output>(writer: &mut W, shards: &[Vec<Row<u64, u64>>]) -> io::Result<()>
+    ensures text { OnOk result (Appends (W.contents writer.old) (W.contents writer.new) (rows_text shards.now)) }
+    ensures failed { OnErr result (W.has_failed writer.new) }
+{
+    for rows in shards {
+        write_rows(writer, rows)?;
+    }
+    Ok(())
+}
+
+fn write_shown<W: Output>(writer: &mut W, checkpoint: &Checkpoint<u64, u64>) -> io::Result<()>
+    ensures text { OnOk result (Appends (W.contents writer.old) (W.contents writer.new) (generation_line checkpoint.now.generation ++ rows_text checkpoint.now.shards.items)) }
+    ensures failed { OnErr result (W.has_failed writer.new) }
+{
+    write_pieces(
+        writer,
+        &[
+            Piece::Text("generation "),
+            Piece::Number(checkpoint.generation),
+            Piece::Text("\n"),
+        ],
+    )?;
+    write_shards(writer, &checkpoint.shards)
+}
+
+fn write_help<W: Output>(writer: &mut W) -> io::Result<()>
+    ensures text { OnOk result (Appends (W.contents writer.old) (W.contents writer.new) help_text) }
+    ensures failed { OnErr result (W.has_failed writer.new) }
+{
+    write_pieces(
+        writer,
+        &[
+            Piece::Text(ABOUT),
+            Piece::Text(SAVE),
+            Piece::Text(SHOW),
+            Piece::Text(CHECK),
+        ],
+    )
+}
+
+fn write_saved<W: Output>(writer: &mut W, generation: u64, rows: u64) -> io::Result<()>
+    ensures text { OnOk result (Appends (W.contents writer.old) (W.contents writer.new) (saved_text generation rows)) }
+    ensures failed { OnErr result (W.has_failed writer.new) }
+{
+    write_pieces(
+        writer,
+        &[
+            Piece::Text("generation "),
+            Piece::Number(generation),
+            Piece::Text(" rows "),
+            Piece::Number(rows),
+            Piece::Text("\n"),
+        ],
+    )
+}
+
+fn write_bad_line<W: Output>(writer: &mut W, number: u64) -> io::Result<()>
+    ensures text { OnOk result (Appends (W.contents writer.old) (W.contents writer.new) (bad_line_text number)) }
+    ensures failed { OnErr result (W.has_failed writer.new) }
+{
+    write_pieces(
+        writer,
+        &[
+            Piece::Text("error: line "),
+            Piece::Number(number),
+            Piece::Text(" is no row\n"),
+        ],
+    )
+}
+
+/// Writes the text of an outcome. It takes no memory; a write that fails has written a beginning of it.
+pub fn write_outcome<W: Output>(writer: &mut W, outcome: &Outcome) -> io::Result<()>
+    ensures text { OnOk result (Appends (W.contents writer.old) (W.contents writer.new) (outcome_text outcome.now)) }
+    ensures failed { OnErr result (W.has_failed writer.new) }
+{
+    match outcome {
+        Outcome::Helped => write_help(writer),
+        Outcome::Misused(misuse) => writer.put(misuse_text(*misuse).as_bytes()),
+        Outcome::Saved { generation, rows } => write_saved(writer, *generation, *rows),
+        Outcome::Shown(checkpoint) => write_shown(writer, checkpoint),
+        Outcome::Checked(newest, before) => write_checked(writer, newest, before),
+        Outcome::BadLine(number) => write_bad_line(writer, *number),
+        Outcome::Unread => writer.put(b"failed: the input was not read\n"),
+        Outcome::Memory => writer.put(b"failed: out of memory\n"),
+        Outcome::Refused(error) => write_refusal(writer, error),
+    }
+}

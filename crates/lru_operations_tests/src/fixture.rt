@@ -1,0 +1,48 @@
+//! The program over a folder in memory.
+use lru_folder::folder::Folder;
+use lru_memory_folder::memory_folder::MemoryFolder;
+use lru_operations::engine::run;
+use std::alloc::{AllocError, Global};
+
+pub(crate) fn words(alloc: Global, line: &str) -> Result<Vec<String>, AllocError> {
+    let mut words = Vec::new(alloc);
+    for word in line.split(' ') {
+        words.push(String::from_str(alloc, word)?)?;
+    }
+    Ok(words)
+}
+
+// A folder without a checkpoint.
+pub(crate) fn empty(alloc: Global) -> Result<MemoryFolder, AllocError> {
+    let mut folder = MemoryFolder::new(alloc);
+    match folder.make("d") {
+        Ok(()) => Ok(folder),
+        Err(_) => Err(AllocError),
+    }
+}
+
+// Whether these words and this input are answered by this status and text.
+pub(crate) fn answers(
+    alloc: Global,
+    folder: &mut MemoryFolder,
+    line: &str,
+    input: &str,
+    status: u8,
+    text: &str,
+) -> Result<bool, AllocError> {
+    let words = words(alloc, line)?;
+    let mut reader = input.as_bytes();
+    let mut writer = Vec::new(alloc);
+    let answer = run(alloc, folder, &words, &mut reader, &mut writer).unwrap_or(9);
+    Ok((answer, writer.as_slice()) == (status, text.as_bytes()))
+}
+
+// Whether the rows are saved as this generation.
+pub(crate) fn saves(
+    alloc: Global,
+    folder: &mut MemoryFolder,
+    input: &str,
+    text: &str,
+) -> Result<bool, AllocError> {
+    answers(alloc, folder, "save d c", input, 0, text)
+}

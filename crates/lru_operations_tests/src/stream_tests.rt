@@ -1,0 +1,85 @@
+//! Reads and writes that fail.
+ghost use Rattle.std.specs.Prelude.{⊤};
+
+use crate::fixture::{answers, empty, words};
+use lru_operations::engine::{run, run_buffered};
+use lru_streams::input::{Input, InputError, read_to_end};
+use std::io;
+use std::io::BufWriter;
+use std::test::Fail;
+
+// An input that no read gives.
+#[derive(Drop)]
+struct Broken {
+    kind: io::ErrorKind,
+}
+
+impl io::Read for Broken {
+    fn read(&mut self, _: &mut [u8]) -> io::Result<usize> {
+        Err(io::Error::from(self.kind))
+    }
+}
+
+impl Input for Broken {
+    ghost has_failed = { λ _. ⊤ };
+
+    fn read_all(&mut self, input: &mut Vec<u8>) -> Result<(), InputError> {
+        read_to_end(self, input)
+    }
+}
+
+/// How the input fails, and what is told.
+static FAILURES: [(io::ErrorKind, &str); 2] = [
+    (io::ErrorKind::TimedOut, "failed: the input was not read\n"),
+    (io::ErrorKind::OutOfMemory, "failed: out of memory\n"),
+];
+
+#[test]
+fn an_input_that_fails_saves_nothing(rt: HostRuntime) -> Result<(), Fail> {
+    let alloc = rt.alloc();
+    let words = words(alloc, "save d c")?;
+    let mut folder = empty(alloc)?;
+    for (kind, text) in FAILURES.iter() {
+        let mut writer = Vec::new(alloc);
+        let mut reader = Broken { kind: *kind };
+        let status = run(alloc, &mut folder, &words, &mut reader, &mut writer).unwrap_or(9);
+        assert!(rt; (status, writer.as_slice()) == (1, text.as_bytes()));
+    }
+    assert!(rt; folder.paths()?.is_empty());
+    Ok(())
+}
+
+#[test]
+fn a_write_that_fails_is_told_and_the_checkpoint_stays(rt: HostRuntime) -> Result<(), Fail> {
+    let alloc = rt.alloc();
+    let words = words(alloc, "save d c")?;
+    let mut folder = empty(alloc)?;
+    let mut reader = b"1 1 1\n".as_slice();
+    let mut room = [0_u8; 3];
+    let mut writer = room.as_mut_slice();
+    assert!(rt; run(alloc, &mut folder, &words, &mut reader, &mut writer).is_err());
+    assert!(rt;
+        answers(
+            alloc,
+            &mut folder,
+            "show d c",
+            "",
+            0,
+            "generation 0\n1 1 1\n"
+        )?
+    );
+    Ok(())
+}
+
+#[test]
+fn what_is_buffered_is_written(rt: HostRuntime) -> Result<(), Fail> {
+    let alloc = rt.alloc();
+    let words = words(alloc, "save d c")?;
+    let mut folder = empty(alloc)?;
+    let mut reader = b"1 1 1\n".as_slice();
+    let writer = BufWriter::new(alloc, Vec::new(alloc))?;
+    let (status, written) = run_buffered(alloc, &mut folder, &words, &mut reader, writer);
+    assert!(rt; status == 0);
+    assert!(rt; written.is_some_and(|text| text.as_slice() == b"generation 0 rows 1\n".as_slice()));
+    Ok(())
+}
