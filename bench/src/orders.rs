@@ -82,3 +82,96 @@ impl Order for Sparse {
         self.cache.iter().map(|(_, data)| data % 2).sum()
     }
 }
+
+/// The texts of all numbers up to the greatest of `keys`, as `crates/lru_bench_half` makes them.
+fn texts_of(keys: &[u64]) -> Vec<String> {
+    let most = keys.iter().max().copied().unwrap_or(0);
+    (0..=most).map(|number| number.wrapping_mul(0x9e37_79b9_7f4a_7c15).to_string()).collect()
+}
+
+/// `hashlink` by texts. A key stands for the text of that number.
+pub struct HashlinkTexts {
+    texts: Vec<String>,
+    cache: hashlink::LruCache<String, u64>,
+}
+
+impl HashlinkTexts {
+    pub fn new(limit: usize, keys: &[u64]) -> Self {
+        HashlinkTexts { texts: texts_of(keys), cache: hashlink::LruCache::new(limit) }
+    }
+
+    fn text(&self, key: u64) -> &str {
+        &self.texts[key as usize]
+    }
+}
+
+impl Order for HashlinkTexts {
+    fn admit(&mut self, key: u64) -> bool {
+        let text = self.text(key).to_owned();
+        self.cache.insert(text, key);
+        true
+    }
+
+    fn promote(&mut self, key: u64) -> bool {
+        self.cache.get(self.texts[key as usize].as_str()).is_some()
+    }
+
+    fn peek(&self, key: u64) -> bool {
+        self.cache.peek(self.text(key)).is_some()
+    }
+
+    fn remove(&mut self, key: u64) -> bool {
+        self.cache.remove(self.texts[key as usize].as_str()).is_some()
+    }
+
+    fn get_or_admit(&mut self, key: u64) -> bool {
+        self.promote(key) || !self.admit(key)
+    }
+
+    fn odd_rows(&self) -> u64 {
+        self.cache.iter().map(|(_, data)| data % 2).sum()
+    }
+}
+
+/// `lru` by texts.
+pub struct SparseTexts {
+    texts: Vec<String>,
+    cache: lru::LruCache<String, u64>,
+    limit: usize,
+}
+
+impl SparseTexts {
+    pub fn new(limit: usize, keys: &[u64]) -> Self {
+        SparseTexts { texts: texts_of(keys), cache: lru::LruCache::unbounded(), limit }
+    }
+}
+
+impl Order for SparseTexts {
+    fn admit(&mut self, key: u64) -> bool {
+        self.cache.put(self.texts[key as usize].clone(), key);
+        if self.cache.len() > self.limit {
+            self.cache.pop_lru();
+        }
+        true
+    }
+
+    fn promote(&mut self, key: u64) -> bool {
+        self.cache.get(self.texts[key as usize].as_str()).is_some()
+    }
+
+    fn peek(&self, key: u64) -> bool {
+        self.cache.peek(self.texts[key as usize].as_str()).is_some()
+    }
+
+    fn remove(&mut self, key: u64) -> bool {
+        self.cache.pop(self.texts[key as usize].as_str()).is_some()
+    }
+
+    fn get_or_admit(&mut self, key: u64) -> bool {
+        self.promote(key) || !self.admit(key)
+    }
+
+    fn odd_rows(&self) -> u64 {
+        self.cache.iter().map(|(_, data)| data % 2).sum()
+    }
+}

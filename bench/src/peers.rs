@@ -1,5 +1,5 @@
 //! The orders that are measured: those of `crates/lru_bench_half`, and peers from Rust.
-use crate::orders::{Order, Sparse};
+use crate::orders::{HashlinkTexts, Order, Sparse, SparseTexts};
 use crate::plan::{Phase, Work};
 use crate::watch;
 
@@ -23,6 +23,9 @@ pub enum Subject {
     Plug(u64),
     Hashlink,
     Lru,
+    /// The two by texts: a key is the number of a text.
+    HashlinkTexts,
+    LruTexts,
 }
 
 impl Subject {
@@ -33,9 +36,12 @@ impl Subject {
             Subject::Plug(8) => "LruCore<_, 8>",
             Subject::Plug(16) => "LruCore<_, 16>",
             Subject::Plug(3) => "Cache",
+            Subject::Plug(4) => "Cache<String, _>",
             Subject::Plug(_) => "toolchain's lru",
             Subject::Hashlink => "hashlink",
             Subject::Lru => "lru",
+            Subject::HashlinkTexts => "hashlink by String",
+            Subject::LruTexts => "lru by String",
         }
     }
 
@@ -61,6 +67,8 @@ impl Subject {
             }
             Subject::Hashlink => walk(&mut hashlink::LruCache::new(limit), plan, keys, &mut counts),
             Subject::Lru => walk(&mut Sparse::new(limit), plan, keys, &mut counts),
+            Subject::HashlinkTexts => walk(&mut HashlinkTexts::new(limit, keys), plan, keys, &mut counts),
+            Subject::LruTexts => walk(&mut SparseTexts::new(limit, keys), plan, keys, &mut counts),
         }
         counts
     }

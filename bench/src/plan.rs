@@ -102,13 +102,14 @@ pub fn even_plan(rows: usize) -> Plan {
 }
 
 /// An order that grows to two to the power of `log` rows and a few: the admits that may be the longest are phases by
-/// themselves. A map of the peers grows where seven eighths of a power of two are taken, an index of places at the power.
+/// themselves. A map of the peers grows where seven eighths of a power of two are taken, an index of places where three
+/// quarters are.
 pub fn growth_plan(log: u32) -> Plan {
     let whole = 1usize << log;
     let mut draws = Draws(14);
     let mut plan = Plan { keys: Vec::new(), phases: Vec::new() };
     let mut at = 0;
-    for centre in [whole / 8 * 7, whole] {
+    for centre in [whole / 4 * 3, whole / 8 * 7, whole] {
         let (from, to) = (centre - 4, centre + 5);
         plan.add("the others", Work::Admit, (at..from).map(|_| draws.next()));
         (from..to).for_each(|_| plan.add("one admit", Work::Admit, std::iter::once(draws.next())));
@@ -118,6 +119,16 @@ pub fn growth_plan(log: u32) -> Plan {
 }
 
 impl Plan {
+    /// The same, with the number of each key in the order in which they first come in its place.
+    pub fn numbered(mut self) -> Self {
+        let mut numbers = std::collections::HashMap::new();
+        for key in &mut self.keys {
+            let next = numbers.len() as u64;
+            *key = *numbers.entry(*key).or_insert(next);
+        }
+        self
+    }
+
     fn add(&mut self, name: &'static str, work: Work, keys: impl Iterator<Item = u64>) {
         let from = self.keys.len();
         self.keys.extend(keys);

@@ -13,19 +13,37 @@ pub enum Work {
     Promote,
     /// Three peeks to a promote.
     Mix,
+    /// A look for the value, which uses the entry.
+    Get,
+    /// Nine of those to a put in place of the key's entry.
+    NineGets,
+    /// A put of an entry that is new, for which another goes.
+    Put,
     AdmitAndEvict,
     /// Of a peer the same; of an `Lru` two calls.
     AdmitThenEvict,
 }
 
 impl Work {
-    pub const ALL: [Work; 5] = [Work::Peek, Work::Promote, Work::Mix, Work::AdmitAndEvict, Work::AdmitThenEvict];
+    pub const ALL: [Work; 8] = [
+        Work::Peek,
+        Work::Promote,
+        Work::Mix,
+        Work::AdmitAndEvict,
+        Work::AdmitThenEvict,
+        Work::Get,
+        Work::NineGets,
+        Work::Put,
+    ];
 
     pub fn name(self) -> &'static str {
         match self {
             Work::Peek => "peek",
             Work::Promote => "promote",
             Work::Mix => "mix",
+            Work::Get => "get",
+            Work::NineGets => "nine gets to a put",
+            Work::Put => "put",
             Work::AdmitAndEvict => "admit and evict",
             Work::AdmitThenEvict => "admit then evict",
         }
@@ -51,8 +69,8 @@ impl Keys {
 
     fn of(&self, work: Work) -> &[u64] {
         match work {
-            Work::Peek | Work::Promote | Work::Mix => &self.drawn,
-            Work::AdmitAndEvict | Work::AdmitThenEvict => &self.new,
+            Work::Peek | Work::Promote | Work::Mix | Work::Get | Work::NineGets => &self.drawn,
+            Work::AdmitAndEvict | Work::AdmitThenEvict | Work::Put => &self.new,
         }
     }
 }
@@ -134,7 +152,9 @@ impl<S: Order, L: Lock<S>, const N: usize> Sharded<S, L, N> {
             Work::Peek => self.peek(key),
             Work::Promote => self.promote(key),
             Work::Mix if place % 4 != 0 => self.peek(key),
-            Work::Mix => self.promote(key),
+            Work::Mix | Work::Get => self.promote(key),
+            Work::NineGets if place % 10 != 0 => self.promote(key),
+            Work::NineGets | Work::Put => self.shard_of(key).write(|shard| shard.admit(key)),
             Work::AdmitAndEvict => self.shard_of(key).write(|shard| shard.admit(key)),
             // (those of the other rows, which are new again)
             Work::AdmitThenEvict => self.shard_of(!key).write(|shard| shard.admit(!key)),

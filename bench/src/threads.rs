@@ -1,5 +1,5 @@
-//! Measures calls by 1, 2 and 4 threads: peers in shards behind the locks of `parking_lot`, and beside them `Lru`, by
-//! the rows that the program `lru_bench` prints, on the same keys.
+//! Measures calls by 1, 2 and 4 threads: peers in shards behind the locks of `parking_lot`, and beside them `Lru` and
+//! `SharedCache`, by the rows that the program `lru_bench` prints, on the same keys.
 #[allow(dead_code)]
 mod draws;
 #[allow(dead_code)]
@@ -26,8 +26,12 @@ struct Row {
 
 fn of_peer<S: Order, L: Lock<S>, const N: usize>(peer: &str, new_shard: fn(usize) -> S, keys: &Keys, to: &mut Vec<Row>) {
     for threads in THREADS {
-        let order = Sharded::<S, L, N>::full(&keys.rows, new_shard);
+        let mut order = Sharded::<S, L, N>::full(&keys.rows, new_shard);
         for work in Work::ALL {
+            // (what came before may have put other rows in their place)
+            if matches!(work, Work::Get) {
+                order = Sharded::full(&keys.rows, new_shard);
+            }
             to.push(Row {
                 rows: keys.rows.len(),
                 work: work.name().to_owned(),
@@ -78,6 +82,15 @@ fn median(mut values: Vec<f64>) -> Option<f64> {
     values.get(values.len() / 2).copied()
 }
 
+/// Whether an order is the project's, and whether threads share it.
+fn is_ours(order: &str) -> bool {
+    order.starts_with("Lru") || is_shared(order)
+}
+
+fn is_shared(order: &str) -> bool {
+    order.starts_with("Lru<") || order.starts_with("SharedCache<")
+}
+
 /// The rows of one number of rows: a line for each order, a column for each call and number of threads.
 struct Table<'a> {
     rows: usize,
@@ -105,7 +118,7 @@ impl<'a> Table<'a> {
 
     /// The best peer's time for what this order does in one of its own.
     fn ratio(&self, order: &str, work: Work, threads: usize) -> Option<f64> {
-        let peers = self.orders.iter().filter(|name| !name.starts_with("Lru"));
+        let peers = self.orders.iter().filter(|name| !is_ours(name));
         let best = peers.filter_map(|peer| self.nanos(peer, work, threads)).min_by(f64::total_cmp)?;
         Some(best / self.nanos(order, work, threads)?)
     }
@@ -132,7 +145,7 @@ impl<'a> Table<'a> {
         for order in &self.orders {
             self.line(order, |work, threads| self.nanos(order, work, threads), 0);
         }
-        for order in self.orders.iter().filter(|name| name.starts_with("Lru<")) {
+        for order in self.orders.iter().filter(|name| is_shared(name)) {
             let name = format!("the best peer's time / that of {order}");
             self.line(&name, |work, threads| self.ratio(order, work, threads), 2);
         }

@@ -1,5 +1,5 @@
-//! `lru_bench [threads] [time]`: what a promote costs in a short and in a long list, and what the calls of `Lru` cost
-//! to 1, 2 and 4 threads, among rows that a core's cache holds and among many more; what messages cost to an
+//! `lru_bench [threads] [time]`: what a promote costs in a short and in a long list, and what the calls of `Lru` and of
+//! a `SharedCache` cost to 1, 2 and 4 threads, among rows that a core's cache holds and among many more; what messages cost to an
 //! actor's shard and to actors on threads, what it costs to record calls, and what touches and spills of two tiers cost.
 //!
 //! It goes through seeded traces and prints what it counted, which is the same at each run. With the
@@ -8,6 +8,7 @@
 #![tactic(auto)]
 
 mod actors;
+mod caches;
 mod lists;
 mod recorded;
 mod senders;
@@ -31,6 +32,8 @@ fn main(rt: HostRuntime) -> io::Result<()> {
     let watch = Watch { is_timed };
     threads::measure(&rt, rt.alloc(), watch, FEW as usize)?;
     threads::measure(&rt, rt.alloc(), watch, MANY as usize)?;
+    caches::measure(&rt, rt.alloc(), watch, FEW as usize)?;
+    caches::measure(&rt, rt.alloc(), watch, MANY as usize)?;
     if is_beside_peers {
         return Ok(());
     }

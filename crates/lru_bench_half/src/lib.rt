@@ -9,6 +9,7 @@ ghost use Rattle.std.specs.Prelude.{◌<◌};
 mod caches;
 mod order;
 mod plan;
+mod texts;
 mod units;
 
 use lru::LruCache;
@@ -17,6 +18,7 @@ use pingora_lru::lru_core::LruCore;
 use pingora_lru::unit::LruUnit;
 use std::alloc::Global;
 use std::num::NonZeroUsize;
+use texts::Texts;
 use units::{Core, Unit};
 
 const UNIT: u64 = 0;
@@ -25,9 +27,11 @@ const TOOLCHAIN: u64 = 2;
 
 const CACHE: u64 = 3;
 
+const TEXTS: u64 = 4;
+
 /// Runs a plan on an empty order with a limit of so many rows, each of weight 1. The order is the shard of
-/// one owner (`subject` 0), a core of 1, 8 or 16 shards (that number), the toolchain's `lru` (2), or a
-/// cache of keys and values (3).
+/// one owner (`subject` 0), a core of 1, 8 or 16 shards (that number), the toolchain's `lru` (2), a
+/// cache of keys and values (3), or one whose keys are texts (4): then a key is the number of a text.
 ///
 /// A phase is three numbers of the plan: what is done, and the first key and the key past the last, as places
 /// in `keys`. What each phase counted goes to `counts`. The answer is the number of phases that ran: fewer
@@ -58,6 +62,10 @@ pub extern "C" fn lru_bench_half_run(
         }
         CACHE => match Cache::<u64, u64>::new(alloc, usize::MAX, limit) {
             Ok(mut cache) => plan::run(alloc, &mut cache, plan, keys, counts),
+            Err(_) => 0,
+        },
+        TEXTS => match Texts::new(alloc, limit, keys) {
+            Ok(mut texts) => plan::run(alloc, &mut texts, plan, keys, counts),
             Err(_) => 0,
         },
         1 => run_core::<1>(alloc, limit, plan, keys, counts),
