@@ -3,6 +3,7 @@
 
 pub mod caches;
 pub mod cores;
+pub mod deadlines;
 pub mod files;
 pub mod keys;
 pub mod shards;

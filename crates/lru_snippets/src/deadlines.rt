@@ -1,0 +1,17 @@
+//! A cache whose entries have deadlines.
+use lru_deadlines::deadlines::DeadlineCache;
+
+pub fn session_of(sessions: &mut DeadlineCache<u64, u64>, id: u64, time: u64) -> Option<u64> {
+    let used = sessions.update(time, &id, |session, _weight| {
+        session.deadline = time.saturating_add(1800);
+        session.value
+    });
+    match used {
+        Ok(user) => user,
+        Err(_past) => None, // the entry, which is out of the cache now
+    }
+}
+
+pub fn tick(sessions: &mut DeadlineCache<u64, u64>, time: u64) {
+    sessions.sweep(time, 8, |_past| {});
+}
