@@ -21,11 +21,12 @@ const ROWS: u64 = 20_000;
 
 // How many evictions may be asked for beside none, where nothing is done meanwhile.
 fn may_be_asked(limits: &Limits, held: &Held) -> usize {
-    let mut pending = 0usize;
-    while pending < 100 && may_ask(limits, held, pending) {
-        pending += 1;
+    for pending in 0..100usize {
+        if !may_ask(limits, held, pending) {
+            return pending;
+        }
     }
-    pending
+    100
 }
 
 #[test]
