@@ -20,6 +20,7 @@ use std::process::ExitCode;
 use std::{env, io};
 
 const FOLDER: &str = ".";
+
 const NAME: &str = "entries";
 
 fn request_of(line: &str) -> Option<(u64, usize)> {
