@@ -1,5 +1,5 @@
 -- Numbers and counted bytes tell where they end.
-use Rattle.std.specs.Prelude.{◌≡◌, ℕ, ◌<◌, ◌^◌, List, ◌++◌, length, take, drop}
+use Rattle.std.specs.Prelude.{◌≡◌, ℕ, ◌<◌, ◌^◌, List, [], ◌++◌, length, take, drop}
 use Rattle.std.specs.Int.{w64, from_le_bytes}
 use Rattle.std.proofs.Common.{refl, sym, ap, ◌∙◌, append_assoc, arith}
 use Rattle.std.proofs.lemmas.List.{take_at, drop_at, length-append}
@@ -32,6 +32,10 @@ pub one_counted : (a b : List ℕ) (x y : List ℕ) → length a < 2 ^ 64 → le
 one_counted a b x y p q h =
     let first = one_word (length a) (length b) (a ++ x) (b ++ y) p q (sym (append_assoc (word (length a)) a x) ∙ h ∙ append_assoc (word (length b)) b y) in
     same_parts a b x y first.0 first.1
+
+-- nothing ends where it begins
+pub one_nothing : (a b : Unit {0}) (x y : List ℕ) → Unit {0} → Unit {0} → [] ++ x ≡ [] ++ y → (a ≡ b) × (x ≡ y)
+one_nothing a b x y p q h = (refl, h)
 
 -- fewer than 8 bytes begin with no number
 pub no_word : (bytes rest : List ℕ) (n : ℕ) → length bytes < 8 → bytes ≡ word n ++ rest → ⊥

@@ -1,7 +1,7 @@
-// Numbers, bytes, text and pairs as bytes.
-ghost use Rattle.std.specs.Prelude.{◌≡◌, ◌<◌, ◌^◌, ◌++◌, length, string_bytes, IsUtf8};
+// Nothing, numbers, bytes, text and pairs as bytes.
+ghost use Rattle.std.specs.Prelude.{◌≡◌, ◌<◌, ◌^◌, ◌++◌, [], length, string_bytes, IsUtf8};
 ghost use Rattle.lru_frames.specs.Words.{word, counted};
-ghost use Rattle.lru_frames.specs.WordLaws.{one_word, one_counted, one_pair};
+ghost use Rattle.lru_frames.specs.WordLaws.{one_word, one_counted, one_nothing, one_pair};
 
 use crate::stored::{Stored, StoredError};
 use crate::words::{put_counted, put_word, take_counted, take_word};
@@ -26,6 +26,25 @@ impl Stored for u64 {
             None => Err(StoredError::Damaged),
             Some(found) => Ok(found),
         }
+    }
+}
+
+/// No data: no bytes. Rows of keys and weights alone have it.
+impl Stored for () {
+    ghost bytes_of = { λ nothing. [] };
+
+    ghost is_value = { λ nothing. Unit {0} };
+
+    ghost is_same = { λ a b. a ≡ b };
+
+    ghost tells_its_end = { one_nothing };
+
+    fn store(&self, _out: &mut Vec<u8>) -> Result<(), AllocError> {
+        Ok(())
+    }
+
+    fn load(_alloc: Global, bytes: &[u8]) -> Result<((), &[u8]), StoredError> {
+        Ok(((), bytes))
     }
 }
 
