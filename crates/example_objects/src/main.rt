@@ -1,20 +1,24 @@
-//! Example: an object store with a budget of bytes, whose order comes back after a restart.
+//! Example: an object store with a budget of bytes that is killed and comes back.
 //!
 //! The input has a command a line: `put ID BYTES` stores an object, after which those used longest ago leave until the
-//! budget, the first argument, is kept; `get ID` uses one; `restart` saves the order into the folder `store`, a file a
-//! shard, and goes on with a new one that is loaded from there, as the next run of a program would.
+//! budget, the first argument, is kept; `get ID` uses one; `save` saves the store as a checkpoint, whole or not at all;
+//! `kill` forgets the store and goes on with what the last checkpoint holds, as the next run does of a program that was
+//! killed. So does the start.
 //!
-//! It shows `LruCore`, `save_core` and `load_core`. It is proved (`put`) that the store keeps its budget. (That a core
-//! that is saved and loaded has its lists again is proved of `snapshot::save_and_load`.)
+//! It shows `LruCore`, `capture_core`, `save`, `load_checkpoint` and `restore_shard`. It is proved (`put`) that the store
+//! keeps its budget. (That the rows that are captured come back in their order is proved of the calls that it shows.)
 //!
-//! A bad line, or no budget: a line that says which, and status 2.
+//! A bad line, or no budget: a line that says which, and status 2. A checkpoint that is damaged, or can't be read: a line
+//! that says so, and status 1; it is left as it is.
 #![tactic(auto)]
 
 mod store;
 
-use log::sink::Console;
-use pingora_lru_files::persistence::HostFolder;
-use pingora_lru_files::snapshot::{load_core, save_core};
+use lru_captures::cores::{capture_core, restore_shard};
+use lru_checkpoints::errors::{CheckpointError, CheckpointFile};
+use lru_checkpoints::loading::load_checkpoint;
+use lru_generations::generations::save;
+use lru_host_folder::host_folder::HostFolder;
 use rand::rngs::StdRng;
 use rand_core::SeedableRng;
 use std::env::Env;
@@ -22,6 +26,10 @@ use std::io::ErrorKind;
 use std::process::ExitCode;
 use std::{env, io};
 use store::{Store, empty_store, put};
+
+const FOLDER: &str = ".";
+
+const NAME: &str = "objects";
 
 fn two_numbers(words: &str) -> Option<(u64, usize)> {
     let (id, bytes) = words.split_once(' ')?;
@@ -42,43 +50,63 @@ fn budget(rt: &(impl Env + AllocGlobal)) -> io::Result<Option<usize>> {
     Ok(words.next().and_then(|word| word.parse().ok()))
 }
 
-/// Saves the order and answers the one that is loaded from its files, with the same budget.
-fn restart(rt: HostRuntime, store: &Store, rng: &mut StdRng) -> io::Result<Store> {
+/// Saves the objects in their order.
+fn keep(rt: HostRuntime, store: &Store) -> io::Result<()> {
+    let shards = capture_core(rt.alloc(), store)?;
     let mut folder = HostFolder::new(rt);
-    match save_core(
-        rt.alloc(),
-        &mut folder,
-        rng,
-        &Console(rt),
-        "store",
-        "order",
-        store,
-    ) {
-        Ok(report) => println!(rt; "saved {} shards", report.saved_shards)?,
-        Err(error) => println!(rt; "not saved: {error}")?,
+    match save(rt.alloc(), &mut folder, FOLDER, NAME, &shards) {
+        Ok(saved) => println!(rt; "saved as generation {}", saved.generation),
+        Err(error) => println!(rt; "not saved: {error}"),
     }
-    let mut back = empty_store(rt.alloc(), store.weight_limit())?;
-    let report = load_core(
-        rt.alloc(),
-        &mut folder,
-        &Console(rt),
-        "store",
-        "order",
-        &mut back,
-    )?;
-    println!(rt;
-        "loaded {} shards, {} objects",
-        report.loaded_shards,
-        back.len()
-    )?;
-    Ok(back)
 }
 
-/// Does what a line asks for; whether it is a good one.
-fn obey(rt: HostRuntime, store: &mut Store, rng: &mut StdRng, line: &str) -> io::Result<bool> {
+/// A store with this budget, of what was saved last, if anything was.
+fn load(rt: HostRuntime, budget: usize) -> Result<Store, CheckpointError> {
+    let mut store = empty_store(rt.alloc(), budget)?;
+    let mut folder = HostFolder::new(rt);
+    let file = CheckpointFile::Manifest;
+    let checkpoint = match load_checkpoint::<_, u64, u64>(rt.alloc(), &mut folder, FOLDER, NAME) {
+        Err(error) if error == (CheckpointError::Missing { file }) => return Ok(store),
+        found => found?,
+    };
+    for rows in checkpoint.shards {
+        if restore_shard(&mut store, rows).is_err() {
+            return Err(CheckpointError::Memory);
+        }
+    }
+    Ok(store)
+}
+
+/// Goes on with what was saved last. Whether it could be loaded.
+fn come_back(rt: HostRuntime, store: &mut Store) -> io::Result<bool> {
+    match load(rt, store.weight_limit()) {
+        Ok(saved) => *store = saved,
+        Err(error) => {
+            println!(rt; "not loaded: {error}")?;
+            return Ok(false);
+        }
+    }
+    println!(rt; "{} objects are here", store.len())?;
+    Ok(true)
+}
+
+/// What became of a line.
+enum Obeyed {
+    Yes,
+    NotLoaded,
+    BadLine,
+}
+
+/// Does what a line asks for.
+fn obey(rt: HostRuntime, store: &mut Store, rng: &mut StdRng, line: &str) -> io::Result<Obeyed> {
     let (name, words) = line.split_once(' ').unwrap_or((line, ""));
     match (name, words.parse::<u64>(), two_numbers(words)) {
-        ("restart", _, _) if words.is_empty() => *store = restart(rt, store, rng)?,
+        ("save", _, _) if words.is_empty() => keep(rt, store)?,
+        ("kill", _, _) if words.is_empty() => {
+            if !come_back(rt, store)? {
+                return Ok(Obeyed::NotLoaded);
+            }
+        }
         ("get", Ok(id), _) => {
             let here = if store.promote(id) { "" } else { "not " };
             println!(rt; "{id} is {here}here")?;
@@ -90,12 +118,12 @@ fn obey(rt: HostRuntime, store: &mut Store, rng: &mut StdRng, line: &str) -> io:
                 Some(cause) => println!(rt; "{id} is refused: {cause:?}")?,
             }
             for (object, bytes) in &done.left {
-                println!(rt; "{} leaves with {bytes}", object.key)?;
+                println!(rt; "{} leaves with {bytes}", object.0)?;
             }
         }
-        _ => return Ok(false),
+        _ => return Ok(Obeyed::BadLine),
     }
-    Ok(true)
+    Ok(Obeyed::Yes)
 }
 
 fn main(rt: HostRuntime) -> io::Result<ExitCode> {
@@ -104,17 +132,24 @@ fn main(rt: HostRuntime) -> io::Result<ExitCode> {
         return Ok(ExitCode::from(2));
     };
     let mut store = empty_store(rt.alloc(), budget)?;
+    if !come_back(rt, &mut store)? {
+        return Ok(ExitCode::from(1));
+    }
     let mut rng = StdRng::seed_from_u64(1);
     let mut number = 0u64;
     for line in rt.lines(rt.alloc()) {
         number = number.saturating_add(1);
-        let is_good = match text_of(line)? {
+        let obeyed = match text_of(line)? {
             Some(line) => obey(rt, &mut store, &mut rng, &line)?,
-            None => false,
+            None => Obeyed::BadLine,
         };
-        if !is_good {
-            println!(rt; "error line {number}")?;
-            return Ok(ExitCode::from(2));
+        match obeyed {
+            Obeyed::Yes => {}
+            Obeyed::NotLoaded => return Ok(ExitCode::from(1)),
+            Obeyed::BadLine => {
+                println!(rt; "error line {number}")?;
+                return Ok(ExitCode::from(2));
+            }
         }
     }
     println!(rt; "{} objects, {} bytes", store.len(), store.weight())?;

@@ -4,24 +4,26 @@ ghost use Rattle.lru_cores.specs.Eviction.{is_over};
 
 use pingora_lru::lru_core::LruCore;
 use pingora_lru::unit::Cause;
-use pingora_lru_files::snapshot::Keyed;
 use rand_core::Rng;
 use std::alloc::{AllocError, Global};
 
-/// Objects in one shard, so in the exact order of use. The value of each stands for its place on the disk.
-pub type Store = LruCore<Keyed, 1>;
+/// An object: its id, and its place on the disk.
+pub type Object = (u64, u64);
+
+/// Objects in one shard, so in the exact order of use.
+pub type Store = LruCore<Object, 1>;
 
 /// What a `put` did.
 #[derive(Debug, Drop)]
 pub struct Done {
     /// Each object that left, with its bytes, in order.
-    pub left: Vec<(Keyed, usize)>,
+    pub left: Vec<(Object, usize)>,
     /// Why the object was not stored, or memory where the evictions found none.
     pub refused: Option<Cause>,
 }
 
 impl Done {
-    fn new(left: Vec<(Keyed, usize)>, refused: Option<Cause>) -> Self
+    fn new(left: Vec<(Object, usize)>, refused: Option<Cause>) -> Self
         ensures { result.refused ≡ refused }
     {
         Done { left, refused }
@@ -37,7 +39,7 @@ pub fn empty_store(alloc: Global, budget: usize) -> Result<Store, AllocError> {
 pub fn put<R: Rng>(alloc: Global, store: &mut Store, rng: &mut R, id: u64, bytes: usize) -> Done
     ensures { IfNone result.refused (IsFalse (is_over store.new)) }
 {
-    let object = Keyed { key: id, value: 0 };
+    let object = (id, 0);
     if let Err(refused) = store.admit(id, object, bytes) {
         return Done::new(Vec::new(alloc), Some(refused.cause));
     }

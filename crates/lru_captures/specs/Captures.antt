@@ -61,5 +61,6 @@ module _ {K V : Type 0} (eq : K → K → Bool) where
       ⊎ ((refused : cached.Refused K V) × ((answer ≡ Err refused) × RefusesEntry old row refused new))
 
 -- One row more was copied, or memory was refused to it or to one before.
-abbrev pub AddsCopy : {V : Type 0} → (V → V → Type 0) → List (Row ℕ V) × Bool → (ℕ × V) × ℕ → List (Row ℕ V) × Bool → Type 0
-AddsCopy {V} IsClone old pair new = ((new.0 ≡ old.0) × (new.1 ≡ true)) ⊎ ((old.1 ≡ false) × ((new.1 ≡ false) × ((row : Row ℕ V) × (IsCopy IsClone pair row × (new.0 ≡ old.0 ++ row ∷ [])))))
+abbrev pub AddsCopy : {K V : Type 0} → (K → K → Type 0) → (V → V → Type 0) → List (Row K V) × Bool → K × V × ℕ → List (Row K V) × Bool → Type 0
+AddsCopy {K} {V} IsCloneKey IsCloneValue old entry new = ((new.0 ≡ old.0) × (new.1 ≡ true))
+    ⊎ ((old.1 ≡ false) × ((new.1 ≡ false) × ((row : Row K V) × (IsEntryCopy IsCloneKey IsCloneValue entry row × (new.0 ≡ old.0 ++ row ∷ [])))))

@@ -3,6 +3,8 @@
 #![tactic(auto)]
 
 pub mod caches;
+mod copies;
 pub mod cores;
 pub mod locks;
 mod rows;
+pub mod shared;

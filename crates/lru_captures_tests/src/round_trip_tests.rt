@@ -1,6 +1,6 @@
 //! Rows captured, saved, loaded and put back.
 use lru_cache::cache::Cache;
-use lru_captures::{caches, cores, locks};
+use lru_captures::{caches, cores, locks, shared};
 use lru_checkpoints::errors::CheckpointError;
 use lru_checkpoints::loading::load_checkpoint;
 use lru_cores::lru_core::LruCore;
@@ -10,6 +10,7 @@ use lru_frames::stored::Stored;
 use lru_generations::generations::save;
 use lru_locks::lru::Lru;
 use lru_memory_folder::memory_folder::MemoryFolder;
+use lru_shared::shared::SharedCache;
 use std::alloc::{AllocError, Global};
 use std::sync::Wait;
 use std::test::Fail;
@@ -130,5 +131,57 @@ fn cache_comes_back(alloc: Global) -> Result<bool, Fail> {
 #[test]
 fn a_cache_comes_back(rt: HostRuntime) -> Result<(), Fail> {
     assert!(rt; cache_comes_back(rt.alloc())?);
+    Ok(())
+}
+
+// Puts back what was saved, each shard's entries. Whether each was let in.
+fn is_put_back<R: Wait>(
+    rt: &R,
+    cache: &SharedCache<u64, String, 2>,
+    shards: Vec<Vec<Row<u64, String>>>,
+) -> bool {
+    for rows in shards {
+        if shared::restore_shard(rt, cache, rows).is_err() {
+            return false;
+        }
+    }
+    true
+}
+
+// Whether two captures hold the same entries in the same order.
+fn are_alike(one: &[Row<u64, String>], other: &[Row<u64, String>]) -> bool {
+    (one.len() == other.len())
+        && one.iter().zip(other.iter()).all(|(row, back)| (row.key == back.key)
+            & (row.data == back.data)
+            & (row.weight == back.weight))
+}
+
+fn shared_comes_back<R: Wait>(rt: &R, alloc: Global) -> Result<bool, Fail> {
+    let cache: SharedCache<u64, String, 2> = SharedCache::new(alloc, 200, 200)?;
+    for (key, weight) in [(3u64, 2usize), (1, 1), (5, 3), (2, 1)] {
+        if cache
+            .put(rt, key, text(alloc, key)?, weight, |_gone| {})
+            .is_err()
+        {
+            return Ok(false);
+        }
+    }
+    let shards = shared::capture_shared(rt, alloc, &cache)?;
+    let again: SharedCache<u64, String, 2> = SharedCache::new(alloc, 200, 200)?;
+    let is_whole = is_put_back(rt, &again, saved_and_loaded(alloc, &shards)?);
+    let (first, second) = (
+        shared::capture_shard(rt, alloc, &again, 0)?,
+        shared::capture_shard(rt, alloc, &again, 1)?,
+    );
+    let is_same = match shards.as_slice() {
+        [one, other] => are_alike(one, &first) & are_alike(other, &second),
+        _ => false,
+    };
+    Ok(is_whole & is_same & (again.len(rt) == 4) & (again.weight(rt) == 7))
+}
+
+#[test]
+fn a_cache_that_threads_share_comes_back(rt: HostRuntime) -> Result<(), Fail> {
+    assert!(rt; shared_comes_back(&rt, rt.alloc())?);
     Ok(())
 }

@@ -223,6 +223,22 @@ impl<K: Hash, V, const N: usize, S: BuildHasher> SharedCache<K, V, N, S> {
         &self.shards[self.shard_by(query)]
     }
 
+    /// Calls a closure with the key, the value and the weight of each entry of a shard, most recent first, under the lock of
+    /// that shard. None is used by that.
+    pub fn iter_for_each<F: FnMut((&K, &V, usize))>(&self, rt: &impl Wait, shard: usize, visit: F)
+        requires shard { shard < N }
+        requires visit { F.IsAlwaysCallable visit }
+    {
+        self.shards[shard].shelf.lock(rt).visit(visit);
+    }
+
+    /// How many entries a shard has, read under its lock.
+    pub fn shard_len(&self, rt: &impl Wait, shard: usize) -> usize
+        requires { shard < N }
+    {
+        self.shards[shard].shelf.lock(rt).len()
+    }
+
     /// Whether a key has an entry.
     pub fn contains(&self, rt: &impl Wait, key: &K) -> bool {
         self.contains_by(rt, key)

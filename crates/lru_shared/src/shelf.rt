@@ -1,7 +1,7 @@
 //! What lies behind the lock of a shard. Its calls are all that is done under the lock.
 ghost use Rattle.std.specs.Prelude.{◌≡◌, ◌<◌, ◌/◌, ◌&&◌, [], not, length, is_some, false, IfOk};
 ghost use Rattle.lru_cache.specs.Cache.{empty, weight_of, entry_of, without, used, with_entries, Puts, UpdatesEntry};
-ghost use Rattle.lru_shared.specs.Shelf.{is_among, left_of, IsCloned, ShowsEntry, noted};
+ghost use Rattle.lru_shared.specs.Shelf.{is_among, left_of, IsCloned, ShowsEntry, VisitsEach, noted};
 
 use lru_cache::cache::{Cache, Entry, Refused};
 use lru_index::hashing::SeededHashes;
@@ -55,6 +55,17 @@ impl<K: Hash, V, S: BuildHasher> Shelf<K, V, S> {
         ensures { result ≡ weight_of self.now.cache.entries }
     {
         self.cache.weight()
+    }
+
+    // Calls a closure with the key, the value and the weight of each entry, most recent first.
+    pub(crate) fn visit<F: FnMut((&K, &V, usize))>(&self, mut visit: F)
+        requires { F.IsAlwaysCallable visit }
+        ensures { VisitsEach (λ p x q. F.step p x tt q) visit self.now.cache.entries }
+    {
+        let mut rest = self.cache.iter();
+        while let Some(entry) = rest.next() {
+            visit(entry);
+        }
     }
 
     // Whether a key has an entry.

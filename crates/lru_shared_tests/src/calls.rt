@@ -168,3 +168,28 @@ fn values_without_a_size(rt: HostRuntime) -> Result<(), Fail> {
     assert!(rt; are_kept_without_size(&rt, rt.alloc())?);
     Ok(())
 }
+
+// Whether each entry of a shard is shown, the one that was used last first.
+fn are_all_shown(rt: &impl Wait, alloc: Global) -> Result<bool, AllocError> {
+    let cache: SharedCache<u64, u64, 1> = SharedCache::new(alloc, 100, 100)?;
+    for (key, value, weight) in [(1u64, 10u64, 2usize), (2, 20, 3), (3, 30, 4)] {
+        if put(rt, &cache, key, value, weight).is_err() {
+            return Ok(false);
+        }
+    }
+    let (mut sum, mut weights) = (0u64, 0usize);
+    cache.iter_for_each(rt, 0, |(key, value, weight)| {
+        sum = sum
+            .wrapping_mul(100)
+            .wrapping_add(*key)
+            .wrapping_add(*value);
+        weights = weights.wrapping_mul(10).wrapping_add(weight);
+    });
+    Ok((cache.shard_len(rt, 0) == 3) & (sum == 332_211) & (weights == 432))
+}
+
+#[test]
+fn each_entry_of_a_shard_is_shown(rt: HostRuntime) -> Result<(), Fail> {
+    assert!(rt; are_all_shown(&rt, rt.alloc())?);
+    Ok(())
+}
