@@ -8,3 +8,4 @@ pub mod cores;
 pub mod locks;
 mod rows;
 pub mod shared;
+pub mod snapshots;

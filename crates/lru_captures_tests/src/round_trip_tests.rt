@@ -1,6 +1,6 @@
 //! Rows captured, saved, loaded and put back.
 use lru_cache::cache::Cache;
-use lru_captures::{caches, cores, locks, shared};
+use lru_captures::{caches, cores, locks, shared, snapshots};
 use lru_checkpoints::errors::CheckpointError;
 use lru_checkpoints::loading::load_checkpoint;
 use lru_cores::lru_core::LruCore;
@@ -183,5 +183,28 @@ fn shared_comes_back<R: Wait>(rt: &R, alloc: Global) -> Result<bool, Fail> {
 #[test]
 fn a_cache_that_threads_share_comes_back(rt: HostRuntime) -> Result<(), Fail> {
     assert!(rt; shared_comes_back(&rt, rt.alloc())?);
+    Ok(())
+}
+
+// Whether the keys and weights of a snapshot are what is loaded, in their order, without data.
+fn snapshot_comes_back(alloc: Global) -> Result<bool, Fail> {
+    let mut snapshot = Vec::new(alloc);
+    snapshot.push((text(alloc, 3)?, 2usize))?;
+    snapshot.push((text(alloc, 1)?, 0))?;
+    let shards = [snapshots::snapshot_rows(alloc, snapshot)?];
+    let loaded: Vec<Vec<Row<String, ()>>> = saved_and_loaded(alloc, &shards)?;
+    let wanted = [("value 3", 2usize), ("value 1", 0)];
+    Ok(
+        (loaded.len() == 1)
+            && loaded.iter().all(|rows| (rows.len() == 2)
+                && rows.iter().zip(wanted.iter()).all(|(row, (key, weight))| (row.key.as_str()
+                    == *key)
+                    & (row.weight == *weight))),
+    )
+}
+
+#[test]
+fn a_snapshot_comes_back(rt: HostRuntime) -> Result<(), Fail> {
+    assert!(rt; snapshot_comes_back(rt.alloc())?);
     Ok(())
 }

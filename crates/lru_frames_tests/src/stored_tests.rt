@@ -25,6 +25,15 @@ fn numbers(rt: HostRuntime) -> Result<(), Fail> {
 }
 
 #[test]
+fn nothing(rt: HostRuntime) -> Result<(), Fail> {
+    let bytes = stored(rt.alloc(), &())?;
+    assert_eq!(rt; bytes.as_slice(), b"ab".as_slice());
+    let (_nothing, rest) = <()>::load(rt.alloc(), &bytes)?;
+    assert_eq!(rt; rest, b"ab".as_slice());
+    Ok(())
+}
+
+#[test]
 fn bytes(rt: HostRuntime) -> Result<(), Fail> {
     let value = Vec::from_slice(rt.alloc(), &[0, 255, 7])?;
     let bytes = stored(rt.alloc(), &value)?;
