@@ -1,11 +1,14 @@
 //! `lru_bench_checkpoints [ROWS WHAT FOLDER]`: what it costs to save rows of 8 shards as a checkpoint, and to load it again.
 //!
 //! WHAT is `rows`, which makes so many rows and no more, `save`, which saves them into a folder of the system, which has to
-//! be there, or `load`, which loads what lies in that. A line says how many rows that were, and how long it took. Without
-//! arguments it makes 10 000 rows, and no line says how long.
+//! be there, `load`, which loads what lies in that, `restore`, which puts it into a core besides, or `fill`, which makes so
+//! many rows and puts them into a core. A line says how many rows that were, and how long it took, of `fill` without the
+//! making. Without arguments it makes 10 000 rows, and no line says how long.
 #![tactic(auto)]
 
+use lru_captures::cores::restore_shard;
 use lru_checkpoints::loading::load_checkpoint;
+use lru_cores::lru_core::LruCore;
 use lru_frames::row::Row;
 use lru_generations::generations::save;
 use lru_host_folder::host_folder::HostFolder;
@@ -16,6 +19,8 @@ use std::time::Instant;
 use std::{env, io};
 
 type Shard = Vec<Row<u64, u64>>;
+
+type Core = LruCore<(u64, u64), 8>;
 
 const FEW: u64 = 10_000;
 
@@ -100,6 +105,46 @@ fn load_rows(rt: HostRuntime, dir: &str) -> io::Result<bool> {
     Ok(true)
 }
 
+/// A core with these rows, where there is memory for them.
+fn core_of(alloc: Global, shards: Vec<Shard>) -> Result<Option<Core>, AllocError> {
+    let mut core = Core::with_capacity(alloc, usize::MAX, 0)?;
+    for rows in shards {
+        if restore_shard(&mut core, rows).is_err() {
+            return Ok(None);
+        }
+    }
+    Ok(Some(core))
+}
+
+/// Loads the newest checkpoint into a core; whether that was done.
+fn restore_rows(rt: HostRuntime, dir: &str) -> io::Result<bool> {
+    let mut folder = HostFolder::new(rt);
+    let start = Instant::now(&rt)?;
+    let loaded = match load_checkpoint::<_, u64, u64>(rt.alloc(), &mut folder, dir, "rows") {
+        Ok(loaded) => loaded,
+        Err(error) => {
+            println!(rt; "not loaded: {error}")?;
+            return Ok(false);
+        }
+    };
+    tell_core(rt, loaded.shards, start)
+}
+
+/// Puts rows into a core, and says how many they are and how long it took from the start; whether that was done.
+fn tell_core(rt: HostRuntime, shards: Vec<Shard>, start: Instant) -> io::Result<bool> {
+    match core_of(rt.alloc(), shards)? {
+        Some(core) => {
+            println!(rt;
+                "{} rows, {} ms",
+                core.len(),
+                start.elapsed(&rt)?.as_millis()
+            )?;
+            Ok(true)
+        }
+        None => Ok(false),
+    }
+}
+
 fn main(rt: HostRuntime) -> io::Result<ExitCode> {
     let Some(task) = asked(&rt)? else {
         let few = shards(rt.alloc(), FEW)?;
@@ -108,6 +153,15 @@ fn main(rt: HostRuntime) -> io::Result<ExitCode> {
     };
     let is_done = match task.what.as_str() {
         "load" => load_rows(rt, &task.folder)?,
+        "restore" => restore_rows(rt, &task.folder)?,
+        "fill" => {
+            let mut made = Vec::with_capacity(rt.alloc(), 8)?;
+            for number in 0..8 {
+                made.push(shard(rt.alloc(), task.rows, number)?)?;
+            }
+            let start = Instant::now(&rt)?;
+            tell_core(rt, made, start)?
+        }
         "save" => save_rows(rt, &shards(rt.alloc(), task.rows)?, &task.folder)?,
         _ => {
             let made = shards(rt.alloc(), task.rows)?;
