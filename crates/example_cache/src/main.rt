@@ -8,8 +8,8 @@
 //! status 2. A checkpoint that was not loaded or saved: a line that says why, and status 1; a damaged one is left as it is.
 #![tactic(auto)]
 
-use lru_cache::cache::{Cache, Cause};
-use lru_captures::caches::capture_cache;
+use lru_cache::cache::Cache;
+use lru_captures::caches::{capture_cache, restore_cache};
 use lru_checkpoints::errors::{CheckpointError, CheckpointFile};
 use lru_checkpoints::loading::load_checkpoint;
 use lru_generations::generations::save;
@@ -44,24 +44,22 @@ fn load(
             Err(_) => return Err(error),
         },
     };
-    for row in checkpoint.shards.iter().flatten() {
+    for rows in checkpoint.shards {
         // Under a smaller budget than the last run's, the entries that were used longest ago go, or one is too heavy.
-        let put = cache.put(row.key, row.data, row.weight, |_gone| {});
-        if put.is_err_and(|refused| refused.cause == Cause::Memory) {
+        if restore_cache(cache, rows).is_err() {
             return Err(CheckpointError::Memory);
         }
     }
     Ok(())
 }
 
-/// Saves the entries, the one that was used longest ago first: put back in this order, they stand as they stood.
+/// Saves the entries, the one that was used last first: put back, they stand as they stood.
 fn keep(
     rt: HostRuntime,
     folder: &mut HostFolder<HostRuntime>,
     cache: &Cache<u64, u64>,
 ) -> io::Result<ExitCode> {
-    let mut rows = capture_cache(rt.alloc(), cache)?;
-    rows.reverse();
+    let rows = capture_cache(rt.alloc(), cache)?;
     match save(rt.alloc(), folder, FOLDER, NAME, &[rows]) {
         Ok(saved) => println!(rt; "saved as generation {}", saved.generation)?,
         Err(error) => {

@@ -1,5 +1,5 @@
 -- Rows copied out of shards, and put back.
-use Rattle.std.specs.Prelude.{◌≡◌, ◌⊎◌, ℕ, Bool, true, false, List, [], ◌∷◌, ◌++◌, ◌-◌, map, Result, Ok, Err, Vec}
+use Rattle.std.specs.Prelude.{◌≡◌, ◌⊎◌, ℕ, suc, cond, Bool, true, false, List, [], ◌∷◌, ◌++◌, ◌-◌, map, Result, Ok, Err, Vec}
 use Rattle.std.specs.declared.alloc.Global.{Global}
 use Rattle.lru_frames.specs.declared.row.Row.{Row}
 use Rattle.lru_shard.specs.declared.unit.Refused.{Refused}
@@ -7,6 +7,7 @@ use Rattle.lru_shard.specs.Row as order
 use Rattle.lru_cores.specs.Core.{Core}
 use Rattle.lru_cores.specs.CoreCalls.{CoreInsertsTail}
 use Rattle.lru_cache.specs.declared.cache.Entry.{Entry}
+use Rattle.lru_cache.specs.declared.cache.Cause.TheVariants.{TooHeavy}
 use Rattle.lru_cache.specs.declared.cache.Refused as cached
 use Rattle.lru_cache.specs.Cache.{Cached, entry, with_entries, without, Leaves, MayRefuse}
 
@@ -54,11 +55,18 @@ module _ {K V : Type 0} (eq : K → K → Bool) where
   abbrev pub RefusesEntry : Cached K V → Row K V → cached.Refused K V → Cached K V → Type 0
   RefusesEntry old row refused new = MayRefuse eq old row.key row.weight refused.cause × ((refused.key ≡ row.key) × ((refused.value ≡ row.data) × (new ≡ old)))
 
-  -- entries are put one after the other, up to the first that is refused
-  abbrev pub PutsEntries : Cached K V → List (Row K V) → Result (Unit {0}) (cached.Refused K V) → Cached K V → Type 0
-  PutsEntries old [] answer new = (answer ≡ Ok tt) × (new ≡ old)
-  PutsEntries old (row ∷ rows) answer new = ((mid : Cached K V) × (PutsEntry old row mid × PutsEntries mid rows answer new))
-      ⊎ ((refused : cached.Refused K V) × ((answer ≡ Err refused) × RefusesEntry old row refused new))
+  -- an entry is put, or left out where it is too heavy by itself, or refused for another cause
+  abbrev pub PutsOrLeaves : Cached K V → Row K V → Result Bool (cached.Refused K V) → Cached K V → Type 0
+  PutsOrLeaves old row (Ok false) new = PutsEntry old row new
+  PutsOrLeaves old row (Ok true) new = MayRefuse eq old row.key row.weight TooHeavy × (new ≡ old)
+  PutsOrLeaves old row (Err refused) new = (refused.cause ≡ TooHeavy → ⊥) × RefusesEntry old row refused new
+
+  -- entries are put one after the other, up to the first that is refused; those that are left out are counted on from a number
+  abbrev pub PutsEntries : Cached K V → List (Row K V) → ℕ → Result ℕ (cached.Refused K V) → Cached K V → Type 0
+  PutsEntries old [] left answer new = (answer ≡ Ok left) × (new ≡ old)
+  PutsEntries old (row ∷ rows) left answer new =
+      ((is_left : Bool) × ((mid : Cached K V) × (PutsOrLeaves old row (Ok is_left) mid × PutsEntries mid rows (cond is_left (suc left) left) answer new)))
+      ⊎ ((refused : cached.Refused K V) × ((answer ≡ Err refused) × PutsOrLeaves old row (Err refused) new))
 
 -- One row more was copied, or memory was refused to it or to one before.
 abbrev pub AddsCopy : {K V : Type 0} → (K → K → Type 0) → (V → V → Type 0) → List (Row K V) × Bool → K × V × ℕ → List (Row K V) × Bool → Type 0

@@ -2,7 +2,7 @@
 ghost use Rattle.std.specs.Prelude.{◌≡◌, ◌<◌, length, IfOk};
 
 use crate::copies::Copies;
-use lru_cache::cache::Refused;
+use lru_cache::cache::{Cause, Refused};
 use lru_frames::row::Row;
 use lru_shared::shared::SharedCache;
 use std::alloc::{AllocError, Global};
@@ -44,32 +44,37 @@ pub fn capture_shared<K: Hash + Clone + Drop, V: Clone + Drop, const N: usize, S
     Ok(shards)
 }
 
-// Puts an entry, and lets go of those that have to go for it.
-fn put_row<K: Hash + Default + Drop, V: Drop, const N: usize, S: BuildHasher>(
+// Puts an entry, unless it is too heavy by itself; whether it is.
+fn is_left_out<K: Hash + Default + Drop, V: Drop, const N: usize, S: BuildHasher>(
     rt: &impl Wait,
     cache: &SharedCache<K, V, N, S>,
     row: Row<K, V>,
-) -> Result<(), Refused<K, V>> {
+) -> Result<bool, Refused<K, V>> {
     match cache.put(rt, row.key, row.data, row.weight, |_gone| {}) {
-        Err(refused) => Err(refused),
-        Ok(_) => Ok(()),
+        Ok(_) => Ok(false),
+        Err(refused) => match refused.cause {
+            Cause::TooHeavy => Ok(true),
+            Cause::Memory | Cause::Full => Err(refused),
+        },
     }
 }
 
 /// Puts entries into the shards of their keys, the last first, so that those that were captured of a shard stand as they stood
 /// in one with as many shards and the same seed. Under smaller limits the entries go that were used longest ago, and are
-/// dropped.
+/// dropped. Those that are too heavy for a shard by themselves are left out: it answers how many they are.
 ///
-/// A refusal is that of `put`: key and value are handed back, the entries behind them are there, and those before are dropped.
+/// A refusal is that of `put` for want of memory, or of a place: key and value are handed back, the entries behind them are
+/// there, and those before are dropped.
 pub fn restore_shard<K: Hash + Default + Drop, V: Drop, const N: usize, S: BuildHasher>(
     rt: &impl Wait,
     cache: &SharedCache<K, V, N, S>,
     mut rows: Vec<Row<K, V>>,
-) -> Result<(), Refused<K, V>> {
+) -> Result<usize, Refused<K, V>> {
     rows.reverse();
+    let mut left_out = 0usize;
     let mut rest = rows.into_iter();
     while let Some(row) = rest.next() {
-        put_row(rt, cache, row)?;
+        left_out = left_out.saturating_add(is_left_out(rt, cache, row)? as usize);
     }
-    Ok(())
+    Ok(left_out)
 }

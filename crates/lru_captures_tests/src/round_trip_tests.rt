@@ -128,6 +128,27 @@ fn cache_comes_back(alloc: Global) -> Result<bool, Fail> {
     Ok(is_as_it_stood(&rows) & (small.len() == 2) & (small.weight() == 4) & !small.contains(&3))
 }
 
+// Under a limit of 2 the entry of 3 is too heavy by itself, and is left out; of the others the last goes.
+fn heavy_is_left_out(alloc: Global) -> Result<bool, Fail> {
+    let mut rows = Vec::new(alloc);
+    for (key, weight) in [(5u64, 3usize), (1, 1), (3, 2)] {
+        rows.push(Row {
+            key,
+            data: text(alloc, key)?,
+            weight,
+        })?;
+    }
+    let mut cache: Cache<u64, String> = Cache::new(alloc, 2, 100)?;
+    let is_told = matches!(caches::restore_cache(&mut cache, rows), Ok(1));
+    Ok(is_told & (cache.len() == 1) & cache.contains(&1))
+}
+
+#[test]
+fn an_entry_that_is_too_heavy_is_left_out(rt: HostRuntime) -> Result<(), Fail> {
+    assert!(rt; heavy_is_left_out(rt.alloc())?);
+    Ok(())
+}
+
 #[test]
 fn a_cache_comes_back(rt: HostRuntime) -> Result<(), Fail> {
     assert!(rt; cache_comes_back(rt.alloc())?);
