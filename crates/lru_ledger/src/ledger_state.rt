@@ -4,7 +4,7 @@ ghost use Rattle.std.specs.VecDeque.{deque_len, deque_capacity};
 ghost use Rattle.lru_ledger.specs.Ledger.{slips_of};
 ghost use Rattle.lru_ledger.specs.Slips.{slips_in, lists_of, AreFresh};
 
-use crate::shares::{PutShare, TakeShare};
+use crate::shares::{PutShare, SideShare, TakeShare};
 use crate::slip::Slip;
 use lru_mailbox::MailError;
 use std::alloc::{AllocError, Global};
@@ -57,8 +57,8 @@ impl<K: Drop> LedgerState<K> {
         ensures { IfOk result (λ made. Makes putters takers made.0 made.1.items made.2.items) }
     {
         let state = LedgerState::without_shares(alloc, putters, takers)?;
-        let puts = put_shares(alloc, putters)?;
-        let takes = take_shares(alloc, takers)?;
+        let puts = fresh_shares(alloc, putters)?;
+        let takes = fresh_shares(alloc, takers)?;
         Ok((state, puts, takes))
     }
 
@@ -236,8 +236,8 @@ impl<K: Drop> LedgerState<K> {
             left,
         } = self.end();
         Settled {
-            puts: gather_puts(put_lists, puts),
-            takes: gather_takes(take_lists, takes),
+            puts: gather(put_lists, puts),
+            takes: gather(take_lists, takes),
             lost,
             left,
         }
@@ -257,37 +257,18 @@ pub struct Settled<K: Drop> {
     pub left: VecDeque<(Slip, K)>,
 }
 
-fn put_shares(alloc: Global, count: usize) -> Result<Vec<PutShare>, AllocError>
+fn fresh_shares<Side>(alloc: Global, count: usize) -> Result<Vec<SideShare<Side>>, AllocError>
     ensures { IfOk result (λ shares. AreFresh count shares.items) }
 {
     let mut shares = Vec::with_capacity(alloc, count)?;
     for _ in 0..count {
-        shares.push_reserved(PutShare::new(alloc));
+        shares.push_reserved(SideShare::new(alloc));
     }
     Ok(shares)
 }
 
-fn take_shares(alloc: Global, count: usize) -> Result<Vec<TakeShare>, AllocError>
-    ensures { IfOk result (λ shares. AreFresh count shares.items) }
-{
-    let mut shares = Vec::with_capacity(alloc, count)?;
-    for _ in 0..count {
-        shares.push_reserved(TakeShare::new(alloc));
-    }
-    Ok(shares)
-}
-
-fn gather_puts(mut lists: Vec<Vec<Slip>>, shares: Vec<PutShare>) -> Vec<Vec<Slip>>
-    requires { vec_len lists + vec_len shares ≤ vec_capacity lists }
-    ensures { lists_of result.items ≡ lists_of lists.items ++ slips_in shares.items }
-{
-    for share in shares {
-        lists.push_reserved(share.into_slips());
-    }
-    lists
-}
-
-fn gather_takes(mut lists: Vec<Vec<Slip>>, shares: Vec<TakeShare>) -> Vec<Vec<Slip>>
+// Puts the slips of each share behind the lists. There is room for them.
+fn gather<Side>(mut lists: Vec<Vec<Slip>>, shares: Vec<SideShare<Side>>) -> Vec<Vec<Slip>>
     requires { vec_len lists + vec_len shares ≤ vec_capacity lists }
     ensures { lists_of result.items ≡ lists_of lists.items ++ slips_in shares.items }
 {

@@ -175,6 +175,7 @@ impl<T: Drop, B: Registry, const N: usize> RecordedLru<T, B, N> {
         ensures value { result ≡ key % N }
         ensures below { result < N }
     {
+        // No step needs the field: where one is read, the proof learns what the type says of itself, here that N is not 0.
         let _shards = &self.shards;
         (key % N as u64) as usize
     }
@@ -194,13 +195,26 @@ impl<T: Drop, B: Registry, const N: usize> RecordedLru<T, B, N> {
         unreachable!()
     }
 
-    // Brings the counters after a call on a shard, while its lock is held.
-    fn count(&self, shard: usize, before: Totals, after: Totals)
+    // Takes the lock of a shard for a call that may change what is counted of it, with what was counted before the call.
+    fn lock_counted(
+        &self,
+        rt: &impl Wait,
+        shard: usize,
+    ) -> (MutexGuard<'_, Recording<T, B, N>>, Totals)
         requires { shard < N }
+        ensures { (mutex_guard_value result.0).journal.number ≡ shard }
     {
+        let recording = self.shard_at(rt, shard);
+        let before = Totals::of(&recording.unit);
+        (recording, before)
+    }
+
+    // Brings the counters after that call, and then lets go of the lock.
+    fn count(&self, recording: MutexGuard<'_, Recording<T, B, N>>, before: Totals) {
+        let after = Totals::of(&recording.unit);
         shift(&self.weight, before.weight, after.weight);
         shift(&self.len, before.len, after.len);
-        shift(&self.lens[shard], before.len, after.len);
+        shift(&self.lens[recording.journal.number], before.len, after.len);
     }
 
     /// Puts a row first in the shard of its key, in place of the key's, and answers that shard. A weight of 0 counts as 1.
@@ -222,10 +236,9 @@ impl<T: Drop, B: Registry, const N: usize> RecordedLru<T, B, N> {
         ensures seat { seat.new.number ≡ seat.old.number }
     {
         let shard = self.shard_of(key);
-        let mut recording = self.shard_at(rt, shard);
-        let before = Totals::of(&recording.unit);
+        let (mut recording, before) = self.lock_counted(rt, shard);
         let answer = recording.admit(&self.tie, seat, key, data, weight);
-        self.count(shard, before, Totals::of(&recording.unit));
+        self.count(recording, before);
         answer?;
         Ok(shard)
     }
@@ -246,11 +259,9 @@ impl<T: Drop, B: Registry, const N: usize> RecordedLru<T, B, N> {
         ensures held { IfErr result (λ r. r.held ≡ «data») }
         ensures seat { seat.new.number ≡ seat.old.number }
     {
-        let shard = self.shard_of(key);
-        let mut recording = self.shard_at(rt, shard);
-        let before = Totals::of(&recording.unit);
+        let (mut recording, before) = self.lock_counted(rt, self.shard_of(key));
         let answer = recording.insert_tail(&self.tie, seat, key, data, weight);
-        self.count(shard, before, Totals::of(&recording.unit));
+        self.count(recording, before);
         answer
     }
 
@@ -271,13 +282,11 @@ impl<T: Drop, B: Registry, const N: usize> RecordedLru<T, B, N> {
         ensures err { IfErr result (λ cause. GetsReceipt seat.old.receipts.items (key % N) (increments key delta max_weight) (refused cause) seat.new.receipts.items) }
         ensures seat { seat.new.number ≡ seat.old.number }
     {
-        let shard = self.shard_of(key);
-        let mut recording = self.shard_at(rt, shard);
-        let before = Totals::of(&recording.unit);
+        let (mut recording, before) = self.lock_counted(rt, self.shard_of(key));
         let answer = recording.increment_weight(
             &self.tie, seat, key, admit_data, delta, max_weight,
         );
-        self.count(shard, before, Totals::of(&recording.unit));
+        self.count(recording, before);
         answer
     }
 
@@ -301,11 +310,9 @@ impl<T: Drop, B: Registry, const N: usize> RecordedLru<T, B, N> {
         ensures err { IfErr result (λ r. (w : _) × (IsMade (Updates (U.post update)) (A.post admit_data) r.cause r.held w × GetsReceipt seat.old.receipts.items (key % N) (Call.UpdateOrAdmit key w) (refused r.cause) seat.new.receipts.items)) }
         ensures seat { seat.new.number ≡ seat.old.number }
     {
-        let shard = self.shard_of(key);
-        let mut recording = self.shard_at(rt, shard);
-        let before = Totals::of(&recording.unit);
+        let (mut recording, before) = self.lock_counted(rt, self.shard_of(key));
         let answer = recording.update_or_admit(&self.tie, seat, key, update, admit_data);
-        self.count(shard, before, Totals::of(&recording.unit));
+        self.count(recording, before);
         answer
     }
 
@@ -322,11 +329,9 @@ impl<T: Drop, B: Registry, const N: usize> RecordedLru<T, B, N> {
         ensures err { IfErr result (λ cause. GetsReceipt seat.old.receipts.items (key % N) (Call.SetWeight key weight) (refused cause) seat.new.receipts.items) }
         ensures seat { seat.new.number ≡ seat.old.number }
     {
-        let shard = self.shard_of(key);
-        let mut recording = self.shard_at(rt, shard);
-        let before = Totals::of(&recording.unit);
+        let (mut recording, before) = self.lock_counted(rt, self.shard_of(key));
         let answer = recording.set_weight(&self.tie, seat, key, weight);
-        self.count(shard, before, Totals::of(&recording.unit));
+        self.count(recording, before);
         answer
     }
 
@@ -367,11 +372,9 @@ impl<T: Drop, B: Registry, const N: usize> RecordedLru<T, B, N> {
         ensures err { OnErr result (seat.new.receipts.items ≡ seat.old.receipts.items) }
         ensures seat { seat.new.number ≡ seat.old.number }
     {
-        let shard = self.shard_of(key);
-        let mut recording = self.shard_at(rt, shard);
-        let before = Totals::of(&recording.unit);
+        let (mut recording, before) = self.lock_counted(rt, self.shard_of(key));
         let answer = recording.remove(&self.tie, seat, key);
-        self.count(shard, before, Totals::of(&recording.unit));
+        self.count(recording, before);
         answer
     }
 
@@ -428,10 +431,9 @@ impl<T: Drop, B: Registry, const N: usize> RecordedLru<T, B, N> {
         ensures err { OnErr result (seat.new.receipts.items ≡ seat.old.receipts.items) }
         ensures seat { seat.new.number ≡ seat.old.number }
     {
-        let mut recording = self.shard_at(rt, shard);
-        let before = Totals::of(&recording.unit);
+        let (mut recording, before) = self.lock_counted(rt, shard);
         let answer = recording.evict(&self.tie, seat, call);
-        self.count(shard, before, Totals::of(&recording.unit));
+        self.count(recording, before);
         answer
     }
 
@@ -462,6 +464,7 @@ impl<T: Drop, B: Registry, const N: usize> RecordedLru<T, B, N> {
         ensures below { result < N }
         ensures undrawn { N ≡ 1 → rng.new ≡ rng.old }
     {
+        // As in `shard_of`: the draws need an N that is not 0.
         let _shards = &self.shards;
         let (a, b) = drawn_shards::<R, N>(rng);
         longer_of(
