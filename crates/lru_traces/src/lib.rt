@@ -1,6 +1,7 @@
 //! Traces of requests, and what caches under limits make of them.
 #![tactic(auto)]
 
+mod help;
 pub mod one_pass;
 pub mod player;
 pub mod plot;

@@ -2,12 +2,13 @@
 //! played under each limit by itself, the other with one that takes one pass.
 ghost use Rattle.lru_traces.specs.Traces.{AreOfSizeOne};
 
+use crate::help::HELP;
 use crate::one_pass::{are_of_size_one, play_all};
 use crate::player::{Request, Tally, play};
 use crate::plot::Plot;
 use crate::progress::Progress;
 use crate::requests::request_of;
-use crate::settings::{Settings, settings_of};
+use crate::settings::{Asked, Settings, asked_of};
 use crate::table::{byte_hit_ratio, hit_ratio};
 use std::io::{BufRead, BufReader};
 use std::process::ExitCode;
@@ -115,13 +116,29 @@ fn play_at_once(
     Ok(Some(rows))
 }
 
-/// Reads the trace of standard input, plays it under the limits of the arguments, prints the table, and draws the plot.
+fn print_help(rt: HostRuntime) -> io::Result<()> {
+    for line in HELP {
+        println!(rt; "{line}")?;
+    }
+    Ok(())
+}
+
+/// Does what the arguments ask for: tells what the program does, or plays the trace of standard input.
 /// The status is 2 for a bad line, bad arguments, and a file that can't be written, and 1 where there is no memory.
 pub fn run(rt: HostRuntime) -> io::Result<ExitCode> {
-    let Some(settings) = settings_of(&rt)? else {
-        println!(rt; "usage: trace_player [--time] [--svg FILE] LIMIT..")?;
-        return Ok(ExitCode::from(2));
-    };
+    match asked_of(&rt)? {
+        Asked::Help => print_help(rt)?,
+        Asked::Play(settings) => return play_input(rt, &settings),
+        Asked::Misused => {
+            println!(rt; "usage: trace_player [--time] [--svg FILE] LIMIT..")?;
+            return Ok(ExitCode::from(2));
+        }
+    }
+    Ok(ExitCode::SUCCESS)
+}
+
+// Reads the trace of standard input, plays it under the limits, prints the table, and draws the plot.
+fn play_input(rt: HostRuntime, settings: &Settings) -> io::Result<ExitCode> {
     let progress = Progress::new(rt);
     let mut input = BufReader::new(rt.alloc(), rt.reader())?;
     let read = read_trace(rt, progress, &mut input)?;
@@ -135,9 +152,9 @@ pub fn run(rt: HostRuntime) -> io::Result<ExitCode> {
     };
     println!(rt; "{} requests", requests.len())?;
     let played = if are_of_size_one(&requests) {
-        play_at_once(rt, progress, &settings, &requests)?
+        play_at_once(rt, progress, settings, &requests)?
     } else {
-        play_each(rt, progress, &settings, &requests)?
+        play_each(rt, progress, settings, &requests)?
     };
     let Some(mut rows) = played else {
         return Ok(ExitCode::from(1));

@@ -3,7 +3,7 @@
 use std::env::Env;
 use std::{env, io};
 
-/// What the arguments ask for.
+/// How the trace is to be played.
 #[derive(Debug, Drop)]
 pub struct Settings {
     /// The limits, in bytes, in the order in which they are given.
@@ -14,8 +14,19 @@ pub struct Settings {
     pub is_timed: bool,
 }
 
-/// The settings of the arguments; `None` where a word is none of them, or there is no limit.
-pub fn settings_of(rt: &(impl Env + AllocGlobal)) -> io::Result<Option<Settings>> {
+/// What the arguments ask for.
+#[derive(Debug, Drop)]
+pub enum Asked {
+    /// To tell what the program does.
+    Help,
+    /// To play the trace.
+    Play(Settings),
+    /// Nothing that the program does: a word is none of its words, or there is no limit.
+    Misused,
+}
+
+/// What the arguments ask for. The first word that asks for help, or that is none of the program's words, decides.
+pub fn asked_of(rt: &(impl Env + AllocGlobal)) -> io::Result<Asked> {
     let mut settings = Settings {
         limits: Vec::new(rt.alloc()),
         svg: None,
@@ -26,19 +37,20 @@ pub fn settings_of(rt: &(impl Env + AllocGlobal)) -> io::Result<Option<Settings>
         if is_path {
             settings.svg = Some(word);
             is_path = false;
-        } else if word.as_str() == "--svg" {
-            is_path = true;
-        } else if word.as_str() == "--time" {
-            settings.is_timed = true;
-        } else {
-            match word.parse() {
+            continue;
+        }
+        match word.as_str() {
+            "--help" | "-h" => return Ok(Asked::Help),
+            "--svg" => is_path = true,
+            "--time" => settings.is_timed = true,
+            limit => match limit.parse() {
                 Ok(limit) => settings.limits.push(limit)?,
-                Err(_) => return Ok(None),
-            }
+                Err(_) => return Ok(Asked::Misused),
+            },
         }
     }
     if is_path || settings.limits.is_empty() {
-        return Ok(None);
+        return Ok(Asked::Misused);
     }
-    Ok(Some(settings))
+    Ok(Asked::Play(settings))
 }

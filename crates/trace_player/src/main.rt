@@ -1,5 +1,5 @@
 //! `trace_player [--time] [--svg FILE] LIMIT..`: plays the trace of standard input through a cache under each of these
-//! limits, and prints how often it had what was asked for.
+//! limits, and prints how often it had what was asked for. `trace_player --help` tells that in short.
 //!
 //! A line of the trace is `KEY SIZE` or `TIME KEY SIZE`. The table has a row for each limit: the share of requests that
 //! found their object, the share of the bytes, how many objects were evicted, and with `--time` the milliseconds that
