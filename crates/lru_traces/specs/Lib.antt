@@ -1,3 +1,4 @@
 pub mod Traces
 pub mod Representation
 pub mod TraceLines
+pub mod Numbers

@@ -1,7 +1,12 @@
 -- The lines of a trace, and the shares of a table.
-use Rattle.std.specs.Prelude.{ℕ, ◌-◌, ◌*◌, ◌/◌, ◌==◌, ◌||◌, ◌&&◌, min, Bool, nat_le, List, [], ◌∷◌, length, take, Option, Some, None, if◌then◌else◌}
+use Rattle.std.specs.Prelude.{ℕ, ◌-◌, ◌*◌, ◌/◌, ◌==◌, ◌||◌, ◌&&◌, min, Bool, nat_le, List, [], ◌∷◌, length, take, Option, Some, None, Result, Ok, Err, if◌then◌else◌}
+use Rattle.std.specs.Str.{is_utf8}
 use Rattle.lru_lines.specs.Lines.{number_of}
 use Rattle.lru_traces.specs.declared.player.Request.{Request}
+use Rattle.lru_traces.specs.declared.numbers.NumberFault.{NumberFault}
+use Rattle.lru_traces.specs.declared.requests.LineFault.{LineFault}
+use Rattle.lru_traces.specs.declared.requests.LineFault.TheVariants.{NotText, TooMany, Key, Size}
+use Rattle.lru_traces.specs.Numbers.{number_read}
 
 -- a space, a tab, or another end of a line or a page
 abbrev pub is_blank : ℕ → Bool
@@ -39,6 +44,29 @@ abbrev pub request_in : List ℕ → Option Request
 request_in line =
     if length (word_of (behind (behind line))) == 0 then requested (word_of line) (word_of (behind line))
     else (if length (word_of (behind (behind (behind line)))) == 0 then requested (word_of (behind line)) (word_of (behind (behind line))) else None)
+
+-- the request of two numbers; where both are none, the key is what is told
+abbrev pub of_numbers : Result ℕ NumberFault → Result ℕ NumberFault → Result Request LineFault
+of_numbers (Ok key) (Ok size) = Ok (record { key = key; size = size })
+of_numbers (Ok key) (Err fault) = Err (Size fault)
+of_numbers (Err fault) size = Err (Key fault)
+
+abbrev pub of_fields : List ℕ → List ℕ → Result Request LineFault
+of_fields key size = of_numbers (number_read key) (number_read size)
+
+-- the same of a line, and what is wrong with one that has none
+abbrev pub words_read : List ℕ → Result Request LineFault
+words_read line =
+    if length (word_of (behind (behind line))) == 0 then of_fields (word_of line) (word_of (behind line))
+    else (if length (word_of (behind (behind (behind line)))) == 0 then of_fields (word_of (behind line)) (word_of (behind (behind line))) else Err TooMany)
+
+-- of a line that is no UTF-8 that is told, whatever else is wrong with it
+abbrev pub told_as_text : List ℕ → Result Request LineFault → Result Request LineFault
+told_as_text line (Ok request) = Ok request
+told_as_text line (Err fault) = Err (if is_utf8 line then fault else NotText)
+
+abbrev pub request_read : List ℕ → Result Request LineFault
+request_read line = told_as_text line (words_read line)
 
 -- a share of a whole in hundredths of a percent, rounded down
 abbrev pub share_of : ℕ → ℕ → Option ℕ

@@ -7,7 +7,7 @@ use crate::one_pass::{are_of_size_one, play_all};
 use crate::player::{Request, Tally, play};
 use crate::plot::Plot;
 use crate::progress::Progress;
-use crate::requests::request_of;
+use crate::requests::{LineFault, read_request};
 use crate::settings::{Asked, Settings, asked_of};
 use crate::table::{byte_hit_ratio, hit_ratio};
 use std::io::{BufRead, BufReader};
@@ -18,12 +18,21 @@ use std::{fs, io};
 // How many lines are read between two writes of the line of progress.
 const LINES_A_STEP: usize = 1000000;
 
-/// The requests of an input, or the number of its first bad line, from 1 on.
+/// The first line of an input that is no request.
+#[derive(Clone, Copy, Debug, PartialEq, Eq)]
+pub struct BadLine {
+    /// Its number, from 1 on.
+    pub number: u64,
+    /// What is wrong with it.
+    pub fault: LineFault,
+}
+
+/// The requests of an input, or its first bad line.
 pub fn read_trace<R: BufRead>(
     rt: HostRuntime,
     progress: Progress,
     input: &mut R,
-) -> io::Result<Result<Vec<Request>, u64>> {
+) -> io::Result<Result<Vec<Request>, BadLine>> {
     let mut line = Vec::new(rt.alloc());
     let mut requests = Vec::new(rt.alloc());
     for number in 1..u64::MAX {
@@ -31,9 +40,9 @@ pub fn read_trace<R: BufRead>(
         if input.read_until(b'\n', &mut line)? == 0 {
             break;
         }
-        match request_of(&line) {
-            Some(request) => requests.push(request)?,
-            None => return Ok(Err(number)),
+        match read_request(&line) {
+            Ok(request) => requests.push(request)?,
+            Err(fault) => return Ok(Err(BadLine { number, fault })),
         }
         if requests.len() % LINES_A_STEP == 0 {
             progress.show(rt, "requests read:", requests.len());
@@ -145,8 +154,8 @@ fn play_input(rt: HostRuntime, settings: &Settings) -> io::Result<ExitCode> {
     progress.clear(rt);
     let requests = match read {
         Ok(requests) => requests,
-        Err(number) => {
-            println!(rt; "error line {number}")?;
+        Err(BadLine { number, fault }) => {
+            println!(rt; "error line {number}: {fault}")?;
             return Ok(ExitCode::from(2));
         }
     };

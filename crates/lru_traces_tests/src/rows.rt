@@ -1,10 +1,11 @@
 // Tables of lines, of shares and of limits, each gone through by one function.
+use lru_traces::numbers::NumberFault;
 use lru_traces::one_pass::{are_of_size_one, play_all};
 use lru_traces::player::{Request, Tally, play};
 use lru_traces::plot::Plot;
-use lru_traces::program::read_trace;
+use lru_traces::program::{BadLine, read_trace};
 use lru_traces::progress::Progress;
-use lru_traces::requests::request_of;
+use lru_traces::requests::{LineFault, read_request, request_of};
 use lru_traces::table::Percent;
 use std::alloc::{AllocError, Global};
 use std::io;
@@ -24,6 +25,20 @@ const LINES: [(&str, Option<Request>); 12] = [
     ("1 x", None),
     ("1 -2", None),
     ("1 2 3 4", None),
+];
+
+// Lines that are no requests, and what is told of each.
+#[rattlefmt::skip]
+const FAULTS: [(&str, &str); 9] = [
+    ("", "no key"),
+    ("5", "no size"),
+    ("x 1", "the key is no number"),
+    ("7 x 1", "the key is no number"),
+    ("1 -2", "the size is no number"),
+    ("18446744073709551616 0", "the key is too large"),
+    ("1 000000000000000000001", "the size is too large"),
+    ("x", "the key is no number"),
+    ("1 2 3 4", "more than a time, a key and a size"),
 ];
 
 #[rattlefmt::skip]
@@ -86,6 +101,26 @@ fn wrong_line(alloc: Global) -> Result<String, AllocError> {
         if request != *wanted {
             return format!(in alloc; "{line}: {request:?}");
         }
+    }
+    Ok(String::new(alloc))
+}
+
+fn wrong_fault(alloc: Global) -> Result<String, AllocError> {
+    for (line, wanted) in &FAULTS {
+        let Err(fault) = read_request(line.as_bytes()) else {
+            return format!(in alloc; "{line}");
+        };
+        let text = format!(in alloc; "{fault}")?;
+        if text.as_str() != *wanted {
+            return format!(in alloc; "{line}: {text}");
+        }
+    }
+    // (a word that is no UTF-8 may be a time)
+    if read_request(b"\xff 1 2").is_err() {
+        return format!(in alloc; "a time that is no text");
+    }
+    if read_request(b"1 \xff") != Err(LineFault::NotText) {
+        return format!(in alloc; "a size that is no text");
     }
     Ok(String::new(alloc))
 }
@@ -168,6 +203,7 @@ fn wrong_picture(alloc: Global) -> Result<String, AllocError> {
 #[test]
 fn plays_and_tells_what_it_should(rt: HostRuntime) -> Result<(), Fail> {
     let mut wrong = wrong_line(rt.alloc())?;
+    wrong.push_str(&wrong_fault(rt.alloc())?)?;
     wrong.push_str(&wrong_share(rt.alloc())?)?;
     wrong.push_str(&wrong_tally(rt.alloc())?)?;
     wrong.push_str(&wrong_pass(rt.alloc())?)?;
@@ -176,15 +212,15 @@ fn plays_and_tells_what_it_should(rt: HostRuntime) -> Result<(), Fail> {
     Ok(())
 }
 
-// Inputs, and what is read: how many requests, or the number of the first bad line.
+// Inputs, and what is read: how many requests, or the number of the first bad line, and what is wrong with it.
 #[rattlefmt::skip]
-const INPUTS: [(&str, Result<usize, u64>); 6] = [
+const INPUTS: [(&str, Result<usize, (u64, LineFault)>); 6] = [
     ("", Ok(0)),
     ("1 2\n2 1\n", Ok(2)),
     ("1 2\n2 1", Ok(2)),
-    ("x", Err(1)),
-    ("1 2\n\n3 4\n", Err(2)),
-    ("1 2\n2 1\n1 -2\nx\n", Err(3)),
+    ("x", Err((1, LineFault::Key(NumberFault::NotDigits)))),
+    ("1 2\n\n3 4\n", Err((2, LineFault::Key(NumberFault::Missing)))),
+    ("1 2\n2 1\n1 -2\nx\n", Err((3, LineFault::Size(NumberFault::NotDigits)))),
 ];
 
 // The place of the first input that is read otherwise.
@@ -192,7 +228,7 @@ fn wrong_input(rt: HostRuntime) -> io::Result<Option<usize>> {
     for (place, (input, wanted)) in INPUTS.iter().enumerate() {
         let read = match read_trace(rt, Progress::new(rt), &mut input.as_bytes())? {
             Ok(requests) => Ok(requests.len()),
-            Err(number) => Err(number),
+            Err(BadLine { number, fault }) => Err((number, fault)),
         };
         if read != *wanted {
             return Ok(Some(place));
@@ -202,7 +238,7 @@ fn wrong_input(rt: HostRuntime) -> io::Result<Option<usize>> {
 }
 
 #[test]
-fn tells_the_number_of_a_bad_line(rt: HostRuntime) -> Result<(), Fail> {
+fn tells_the_first_bad_line(rt: HostRuntime) -> Result<(), Fail> {
     assert!(rt; matches!(wrong_input(rt), Ok(None)));
     Ok(())
 }
