@@ -2,3 +2,4 @@ pub mod Traces
 pub mod Representation
 pub mod TraceLines
 pub mod Numbers
+pub mod Limits

@@ -2,6 +2,7 @@
 #![tactic(auto)]
 
 mod help;
+pub mod limits;
 pub mod numbers;
 pub mod one_pass;
 pub mod player;

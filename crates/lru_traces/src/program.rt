@@ -2,7 +2,7 @@
 //! played under each limit by itself, the other with one that takes one pass.
 ghost use Rattle.lru_traces.specs.Traces.{AreOfSizeOne};
 
-use crate::help::HELP;
+use crate::help::{HELP, USAGE};
 use crate::one_pass::{are_of_size_one, play_all};
 use crate::player::{Request, Tally, play};
 use crate::plot::Plot;
@@ -138,8 +138,9 @@ pub fn run(rt: HostRuntime) -> io::Result<ExitCode> {
     match asked_of(&rt)? {
         Asked::Help => print_help(rt)?,
         Asked::Play(settings) => return play_input(rt, &settings),
-        Asked::Misused => {
-            println!(rt; "usage: trace_player [--time] [--svg FILE] LIMIT..")?;
+        Asked::Misused(misuse) => {
+            println!(rt; "error: {misuse}")?;
+            println!(rt; "{USAGE} (--help tells more)")?;
             return Ok(ExitCode::from(2));
         }
     }

@@ -1,17 +1,54 @@
 // What the arguments ask for.
 
+use crate::limits::{LimitFault, add_limit, limit_of};
 use std::env::Env;
-use std::{env, io};
+use std::fmt::Display;
+use std::{env, fmt, io};
 
 /// How the trace is to be played.
 #[derive(Debug, Drop)]
 pub struct Settings {
-    /// The limits, in bytes, in the order in which they are given.
+    /// The limits, in bytes, in the order in which they are given, each once.
     pub limits: Vec<usize>,
     /// The file for the plot.
     pub svg: Option<String>,
     /// Whether each row tells its time.
     pub is_timed: bool,
+}
+
+/// What is wrong with the arguments.
+#[derive(Debug, Drop)]
+pub enum Misuse {
+    /// There is no limit.
+    NoLimit,
+    /// No file stands behind `--svg`.
+    NoFile,
+    /// A word that begins with `-` is none of the program's.
+    Option(String),
+    /// A word is no limit.
+    Limit(String, LimitFault),
+}
+
+impl Misuse {
+    // That of a word that is none of the program's.
+    fn of_word(word: String, fault: LimitFault) -> Self {
+        if word.as_str().starts_with('-') {
+            Misuse::Option(word)
+        } else {
+            Misuse::Limit(word, fault)
+        }
+    }
+}
+
+impl Display for Misuse {
+    fn fmt<W: fmt::Write>(&self, f: &mut fmt::Formatter<W>) -> fmt::Result {
+        match self {
+            Misuse::NoLimit => f.write_str("no limit is given"),
+            Misuse::NoFile => f.write_str("--svg: no file is given"),
+            Misuse::Option(word) => write!(f, "{word}: there is no such option"),
+            Misuse::Limit(word, fault) => write!(f, "{word}: {fault}"),
+        }
+    }
 }
 
 /// What the arguments ask for.
@@ -21,8 +58,8 @@ pub enum Asked {
     Help,
     /// To play the trace.
     Play(Settings),
-    /// Nothing that the program does: a word is none of its words, or there is no limit.
-    Misused,
+    /// Nothing that the program does.
+    Misused(Misuse),
 }
 
 /// What the arguments ask for. The first word that asks for help, or that is none of the program's words, decides.
@@ -43,14 +80,17 @@ pub fn asked_of(rt: &(impl Env + AllocGlobal)) -> io::Result<Asked> {
             "--help" | "-h" => return Ok(Asked::Help),
             "--svg" => is_path = true,
             "--time" => settings.is_timed = true,
-            limit => match limit.parse() {
-                Ok(limit) => settings.limits.push(limit)?,
-                Err(_) => return Ok(Asked::Misused),
+            limit => match limit_of(limit.as_bytes()) {
+                Ok(limit) => add_limit(&mut settings.limits, limit)?,
+                Err(fault) => return Ok(Asked::Misused(Misuse::of_word(word, fault))),
             },
         }
     }
-    if is_path || settings.limits.is_empty() {
-        return Ok(Asked::Misused);
+    if is_path {
+        return Ok(Asked::Misused(Misuse::NoFile));
+    }
+    if settings.limits.is_empty() {
+        return Ok(Asked::Misused(Misuse::NoLimit));
     }
     Ok(Asked::Play(settings))
 }

@@ -1,4 +1,5 @@
 // Tables of lines, of shares and of limits, each gone through by one function.
+use lru_traces::limits::{LimitFault, add_limit, limit_of};
 use lru_traces::numbers::NumberFault;
 use lru_traces::one_pass::{are_of_size_one, play_all};
 use lru_traces::player::{Request, Tally, play};
@@ -39,6 +40,29 @@ const FAULTS: [(&str, &str); 9] = [
     ("1 000000000000000000001", "the size is too large"),
     ("x", "the key is no number"),
     ("1 2 3 4", "more than a time, a key and a size"),
+];
+
+// Words, and the limit that each is; 2^34 G are 2^64 bytes.
+#[rattlefmt::skip]
+const WORDS: [(&str, Result<usize, LimitFault>); 18] = [
+    ("512", Ok(512)),
+    ("64K", Ok(65536)),
+    ("64k", Ok(65536)),
+    ("1M", Ok(1048576)),
+    ("2m", Ok(2097152)),
+    ("1G", Ok(1073741824)),
+    ("3g", Ok(3221225472)),
+    ("18446744073709551615", Ok(18446744073709551615)),
+    ("18446744073709551616", Err(LimitFault::TooLarge)),
+    ("17179869183G", Ok(18446744072635809792)),
+    ("17179869184G", Err(LimitFault::TooLarge)),
+    ("0", Err(LimitFault::Zero)),
+    ("00M", Err(LimitFault::Zero)),
+    ("", Err(LimitFault::NotNumber)),
+    ("K", Err(LimitFault::NotNumber)),
+    ("1KB", Err(LimitFault::NotNumber)),
+    ("1.5M", Err(LimitFault::NotNumber)),
+    ("-1", Err(LimitFault::NotNumber)),
 ];
 
 #[rattlefmt::skip]
@@ -125,6 +149,23 @@ fn wrong_fault(alloc: Global) -> Result<String, AllocError> {
     Ok(String::new(alloc))
 }
 
+fn wrong_limit(alloc: Global) -> Result<String, AllocError> {
+    for (word, wanted) in &WORDS {
+        let limit = limit_of(word.as_bytes());
+        if limit != *wanted {
+            return format!(in alloc; "{word}: {limit:?}");
+        }
+    }
+    let mut limits = Vec::new(alloc);
+    for limit in [1024, 2, 1024, 3, 2] {
+        add_limit(&mut limits, limit)?;
+    }
+    if limits.as_slice() != [1024, 2, 3].as_slice() {
+        return format!(in alloc; "{limits:?}");
+    }
+    Ok(String::new(alloc))
+}
+
 fn wrong_share(alloc: Global) -> Result<String, AllocError> {
     for (part, whole, wanted) in SHARES {
         let text = format!(in alloc; "{}", Percent { part, whole })?;
@@ -204,6 +245,7 @@ fn wrong_picture(alloc: Global) -> Result<String, AllocError> {
 fn plays_and_tells_what_it_should(rt: HostRuntime) -> Result<(), Fail> {
     let mut wrong = wrong_line(rt.alloc())?;
     wrong.push_str(&wrong_fault(rt.alloc())?)?;
+    wrong.push_str(&wrong_limit(rt.alloc())?)?;
     wrong.push_str(&wrong_share(rt.alloc())?)?;
     wrong.push_str(&wrong_tally(rt.alloc())?)?;
     wrong.push_str(&wrong_pass(rt.alloc())?)?;
