@@ -1,17 +1,19 @@
 -- What is read of a line, with what is wrong with it left out, is its request, if it has one.
-use Rattle.std.proofs.Common.{◌≡◌, ℕ, Bool, true, false, List, length, Some, None, Ok, Err, refl, sym, ap, ◌∙◌}
-use Rattle.std.specs.Prelude.{Option, Result, ◌==◌, if◌then◌else◌, IsUtf8, MatchResult}
+use Rattle.std.proofs.Common.{Bool, Err, List, None, Ok, Some, [], ap, false, length, refl, sym, true, ℕ, ◌++◌, ◌∙◌, ◌∷◌, ◌≡◌}
+use Rattle.std.specs.Prelude.{IsUtf8, MatchResult, Option, Result, if◌then◌else◌, is_some, option_map, ◌==◌}
 use Rattle.std.specs.Result.{result_ok, is_ok}
 use Rattle.std.specs.Str.{is_utf8}
-use Rattle.std.proofs.lemmas.Bool.{false_from_ne_true}
+use Rattle.std.proofs.lemmas.Bool.{false_from_ne_true, cond_both}
 use Rattle.std.proofs.lemmas.Str.{IsUtf8-from_is_utf8, is_utf8-from_IsUtf8}
-use Rattle.lru_lines.specs.Lines.{number_of}
+use Rattle.lru_lines.specs.Lines.{number_of, parts_from, parts_behind, now_of}
+use Rattle.std.specs.Borrow.{Bor}
 use Rattle.lru_traces.specs.declared.player.Request.{Request}
 use Rattle.lru_traces.specs.declared.numbers.NumberFault.{NumberFault}
 use Rattle.lru_traces.specs.declared.requests.LineFault.{LineFault}
 use Rattle.lru_traces.specs.declared.requests.LineFault.TheVariants.{TooMany}
 use Rattle.lru_traces.specs.Numbers.{told_of, number_read}
-use Rattle.lru_traces.specs.TraceLines.{word_of, behind, requested_by, requested, request_in, of_numbers, of_fields, words_read, told_as_text, request_read}
+use Rattle.lru_traces.specs.TraceLines.{word_of, behind, requested_by, requested, request_in, of_numbers, of_fields, words_read, told_as_text, request_read, of_cells}
+use Rattle.lru_traces.specs.declared.requests.Format.TheVariants.{Words}
 
 -- what the validation of a text answers is whether it is UTF-8
 pub text_test : {T E : Type 0} (r : Result T E) (bytes : List ℕ) (P : T → Type 0) (Q : E → Type 0)
@@ -49,5 +51,17 @@ ok_text : (line : List ℕ) (r : Result Request LineFault) → result_ok (told_a
 ok_text line (Ok request) = refl
 ok_text line (Err fault) = refl
 
-pub ok_read : (line : List ℕ) → result_ok (request_read line) ≡ request_in line
+pub ok_read : (line : List ℕ) → result_ok (request_read Words line) ≡ request_in line
 ok_read line = ok_text line (words_read line) ∙ ok_words line
+
+-- a row of more than three cells
+too_many : (time key size : List ℕ) (s : ℕ) (part text : List ℕ) → of_cells (time ∷ key ∷ size ∷ parts_from s part text) ≡ Err TooMany
+too_many time key size s part [] = refl
+too_many time key size s part (b ∷ text) =
+    cond_both (b == s) (part ∷ parts_from s [] text) (parts_from s (part ++ b ∷ []) text) (λ parts. of_cells (time ∷ key ∷ size ∷ parts) ≡ Err TooMany)
+    (λ _. refl) (λ _. too_many time key size s (part ++ b ∷ []) text)
+
+pub four_cells : (time key size : List ℕ) (rest : Option (Bor (List ℕ))) → is_some rest ≡ true
+    → of_cells (time ∷ key ∷ size ∷ parts_behind 44 (option_map now_of rest)) ≡ Err TooMany
+four_cells time key size None e = cc
+four_cells time key size (Some text) e = too_many time key size 44 [] text.now

@@ -7,7 +7,7 @@ use crate::one_pass::{are_of_size_one, play_all};
 use crate::player::{Request, Tally, play};
 use crate::plot::Plot;
 use crate::progress::Progress;
-use crate::requests::{LineFault, read_request};
+use crate::requests::{Format, LineFault, format_of, read_request};
 use crate::settings::{Asked, Settings, asked_of};
 use crate::table::{byte_hit_ratio, hit_ratio};
 use std::io::{BufRead, BufReader};
@@ -27,7 +27,23 @@ pub struct BadLine {
     pub fault: LineFault,
 }
 
-/// The requests of an input, or its first bad line.
+// The request of the next line, `None` of a header. The format is told by the first line.
+fn read_line(format: &mut Option<Format>, line: &[u8]) -> Result<Option<Request>, LineFault> {
+    let known = match *format {
+        Some(known) => known,
+        None => {
+            let told = format_of(line)?;
+            *format = Some(told);
+            if told == Format::Commas {
+                return Ok(None);
+            }
+            told
+        }
+    };
+    read_request(known, line).map(Some)
+}
+
+/// The requests of an input, or its first bad line. The first line tells the format of the others, as `format_of` has it.
 pub fn read_trace<R: BufRead>(
     rt: HostRuntime,
     progress: Progress,
@@ -35,13 +51,15 @@ pub fn read_trace<R: BufRead>(
 ) -> io::Result<Result<Vec<Request>, BadLine>> {
     let mut line = Vec::new(rt.alloc());
     let mut requests = Vec::new(rt.alloc());
+    let mut format = None;
     for number in 1..u64::MAX {
         line.clear();
         if input.read_until(b'\n', &mut line)? == 0 {
             break;
         }
-        match read_request(&line) {
-            Ok(request) => requests.push(request)?,
+        match read_line(&mut format, &line) {
+            Ok(Some(request)) => requests.push(request)?,
+            Ok(None) => continue,
             Err(fault) => return Ok(Err(BadLine { number, fault })),
         }
         if requests.len() % LINES_A_STEP == 0 {

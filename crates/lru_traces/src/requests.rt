@@ -1,12 +1,22 @@
-//! The lines of a trace.
+//! The lines of a trace, in two formats.
 ghost use Rattle.std.specs.Prelude.{◌≡◌};
 ghost use Rattle.std.specs.Str.{is_utf8};
-ghost use Rattle.lru_traces.specs.TraceLines.{is_blank, from_word, from_blank, word_of, behind, of_fields, words_read, request_read, request_in};
+ghost use Rattle.lru_traces.specs.TraceLines.{is_blank, from_word, from_blank, word_of, behind, of_fields, words_read, cell_of, cells_read, line_read, request_read, request_in, format_told};
 
 use crate::numbers::{NumberFault, number_from};
 use crate::player::Request;
+use lru_lines::parts::cut;
 use std::fmt::Display;
 use std::{fmt, str};
+
+/// How the lines of a trace are written.
+#[derive(Clone, Copy, Debug, PartialEq, Eq)]
+pub enum Format {
+    /// `KEY SIZE` or `TIME KEY SIZE`, words between blanks.
+    Words,
+    /// `TIME,KEY,SIZE` behind a header.
+    Commas,
+}
 
 /// Why a line is no request.
 #[derive(Clone, Copy, Debug, PartialEq, Eq)]
@@ -15,6 +25,8 @@ pub enum LineFault {
     NotText,
     /// It has more than a time, a key and a size.
     TooMany,
+    /// It is the first line, and a row with commas where a header has to stand.
+    NoHeader,
     /// This is wrong with its key.
     Key(NumberFault),
     /// Its key is a number, and this is wrong with its size.
@@ -26,6 +38,7 @@ impl Display for LineFault {
         match *self {
             LineFault::NotText => f.write_str("not text"),
             LineFault::TooMany => f.write_str("more than a time, a key and a size"),
+            LineFault::NoHeader => f.write_str("a row with commas, and no header above it"),
             LineFault::Key(fault) => write_number_fault(f, "key", fault),
             LineFault::Size(fault) => write_number_fault(f, "size", fault),
         }
@@ -108,17 +121,59 @@ fn request_of_words(line: &[u8]) -> Result<Request, LineFault>
     request(second, third)
 }
 
+// The word of a cell, empty where it has none; the whole cell, which is then no number, where it has more than one.
+fn word_in(cell: &[u8]) -> &[u8]
+    ensures { result.now ≡ cell_of cell.now }
+{
+    let (word, rest) = first_word(cell);
+    if first_word(rest).0.is_empty() {
+        word
+    } else {
+        cell
+    }
+}
+
+fn request_of_cells(line: &[u8]) -> Result<Request, LineFault>
+    ensures { result ≡ cells_read line.now }
+{
+    let (_, rest) = cut(line, b',');
+    let Some(rest) = rest else {
+        return request(b"", b"");
+    };
+    let (key, rest) = cut(rest, b',');
+    let Some(rest) = rest else {
+        return request(word_in(key), b"");
+    };
+    let (size, rest) = cut(rest, b',');
+    if rest.is_some() {
+        return Err(LineFault::TooMany);
+    }
+    request(word_in(key), word_in(size))
+}
+
+fn request_of_line(format: Format, line: &[u8]) -> Result<Request, LineFault>
+    ensures { result ≡ line_read format line.now }
+{
+    match format {
+        Format::Words => request_of_words(line),
+        Format::Commas => request_of_cells(line),
+    }
+}
+
 fn is_text(line: &[u8]) -> bool
     ensures { result ≡ is_utf8 line.now }
 {
     str::from_utf8(line).is_ok()
 }
 
-/// The request of a line, as `request_of` has it, or why it has none.
-pub fn read_request(line: &[u8]) -> Result<Request, LineFault>
-    ensures { result ≡ request_read line.now }
+/// The request of a line in a format, or why it has none.
+///
+/// In words it is as `request_of` has it. With commas there are three cells, a time, a key and a size; blanks around a cell
+/// are left out, and the time is read past.
+pub fn read_request(format: Format, line: &[u8]) -> Result<Request, LineFault>
+    ensures { result ≡ request_read format line.now }
 {
-    match request_of_words(line) {
+    match request_of_line(format, line) {
         Ok(request) => Ok(request),
         Err(fault) => Err(if is_text(line) {
             fault
@@ -133,5 +188,19 @@ pub fn read_request(line: &[u8]) -> Result<Request, LineFault>
 pub fn request_of(line: &[u8]) -> Option<Request>
     ensures { result ≡ request_in line.now }
 {
-    read_request(line).ok()
+    read_request(Format::Words, line).ok()
+}
+
+/// The format of a trace, as its first line tells: a line with a comma that is no request of words is a header, and commas
+/// follow. `NoHeader` where that line is itself a row with commas.
+pub fn format_of(first: &[u8]) -> Result<Format, LineFault>
+    ensures { result ≡ format_told first.now }
+{
+    if request_of(first).is_some() || !first.contains(&b',') {
+        return Ok(Format::Words);
+    }
+    if read_request(Format::Commas, first).is_ok() {
+        return Err(LineFault::NoHeader);
+    }
+    Ok(Format::Commas)
 }

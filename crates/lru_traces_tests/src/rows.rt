@@ -6,7 +6,7 @@ use lru_traces::player::{Request, Tally, play};
 use lru_traces::plot::Plot;
 use lru_traces::program::{BadLine, read_trace};
 use lru_traces::progress::Progress;
-use lru_traces::requests::{LineFault, read_request, request_of};
+use lru_traces::requests::{Format, LineFault, format_of, read_request, request_of};
 use lru_traces::table::Percent;
 use std::alloc::{AllocError, Global};
 use std::io;
@@ -40,6 +40,31 @@ const FAULTS: [(&str, &str); 9] = [
     ("1 000000000000000000001", "the size is too large"),
     ("x", "the key is no number"),
     ("1 2 3 4", "more than a time, a key and a size"),
+];
+
+// Rows with commas, and the request of each or what is told of it.
+#[rattlefmt::skip]
+const CELLS: [(&str, Result<Request, LineFault>); 10] = [
+    ("5,7,300", Ok(Request { key: 7, size: 300 })),
+    (" 5 , 7\t, 300 \r\n", Ok(Request { key: 7, size: 300 })),
+    (",7,0", Ok(Request { key: 7, size: 0 })),
+    ("a b,7,300", Ok(Request { key: 7, size: 300 })),
+    ("5,7 8,300", Err(LineFault::Key(NumberFault::NotDigits))),
+    ("5,,300", Err(LineFault::Key(NumberFault::Missing))),
+    ("5,7", Err(LineFault::Size(NumberFault::Missing))),
+    ("5,7,", Err(LineFault::Size(NumberFault::Missing))),
+    ("5 7 300", Err(LineFault::Key(NumberFault::Missing))),
+    ("5,7,300,1", Err(LineFault::TooMany)),
+];
+
+// First lines, and the format that each tells.
+#[rattlefmt::skip]
+const FIRST: [(&str, Result<Format, LineFault>); 5] = [
+    ("time,key,size\n", Ok(Format::Commas)),
+    ("5 7 300\n", Ok(Format::Words)),
+    ("5,3 7 300\n", Ok(Format::Words)),
+    ("time key size\n", Ok(Format::Words)),
+    ("5,7,300\n", Err(LineFault::NoHeader)),
 ];
 
 // Words, and the limit that each is; 2^34 G are 2^64 bytes.
@@ -131,7 +156,7 @@ fn wrong_line(alloc: Global) -> Result<String, AllocError> {
 
 fn wrong_fault(alloc: Global) -> Result<String, AllocError> {
     for (line, wanted) in &FAULTS {
-        let Err(fault) = read_request(line.as_bytes()) else {
+        let Err(fault) = read_request(Format::Words, line.as_bytes()) else {
             return format!(in alloc; "{line}");
         };
         let text = format!(in alloc; "{fault}")?;
@@ -140,11 +165,27 @@ fn wrong_fault(alloc: Global) -> Result<String, AllocError> {
         }
     }
     // (a word that is no UTF-8 may be a time)
-    if read_request(b"\xff 1 2").is_err() {
+    if read_request(Format::Words, b"\xff 1 2").is_err() {
         return format!(in alloc; "a time that is no text");
     }
-    if read_request(b"1 \xff") != Err(LineFault::NotText) {
+    if read_request(Format::Words, b"1 \xff") != Err(LineFault::NotText) {
         return format!(in alloc; "a size that is no text");
+    }
+    Ok(String::new(alloc))
+}
+
+fn wrong_cells(alloc: Global) -> Result<String, AllocError> {
+    for (line, wanted) in &CELLS {
+        let read = read_request(Format::Commas, line.as_bytes());
+        if read != *wanted {
+            return format!(in alloc; "{line}: {read:?}");
+        }
+    }
+    for (line, wanted) in &FIRST {
+        let told = format_of(line.as_bytes());
+        if told != *wanted {
+            return format!(in alloc; "{line}: {told:?}");
+        }
     }
     Ok(String::new(alloc))
 }
@@ -245,6 +286,7 @@ fn wrong_picture(alloc: Global) -> Result<String, AllocError> {
 fn plays_and_tells_what_it_should(rt: HostRuntime) -> Result<(), Fail> {
     let mut wrong = wrong_line(rt.alloc())?;
     wrong.push_str(&wrong_fault(rt.alloc())?)?;
+    wrong.push_str(&wrong_cells(rt.alloc())?)?;
     wrong.push_str(&wrong_limit(rt.alloc())?)?;
     wrong.push_str(&wrong_share(rt.alloc())?)?;
     wrong.push_str(&wrong_tally(rt.alloc())?)?;
@@ -256,10 +298,15 @@ fn plays_and_tells_what_it_should(rt: HostRuntime) -> Result<(), Fail> {
 
 // Inputs, and what is read: how many requests, or the number of the first bad line, and what is wrong with it.
 #[rattlefmt::skip]
-const INPUTS: [(&str, Result<usize, (u64, LineFault)>); 6] = [
+const INPUTS: [(&str, Result<usize, (u64, LineFault)>); 11] = [
     ("", Ok(0)),
     ("1 2\n2 1\n", Ok(2)),
     ("1 2\n2 1", Ok(2)),
+    ("time,key,size\n", Ok(0)),
+    ("time,key,size\n5,7,300\n6,8,500", Ok(2)),
+    ("time,key,size\n5,7,300\n6 8 500\n", Err((3, LineFault::Key(NumberFault::Missing)))),
+    ("5,7,300\n6,8,500\n", Err((1, LineFault::NoHeader))),
+    ("7 300\n5,7,300\n", Err((2, LineFault::Key(NumberFault::NotDigits)))),
     ("x", Err((1, LineFault::Key(NumberFault::NotDigits)))),
     ("1 2\n\n3 4\n", Err((2, LineFault::Key(NumberFault::Missing)))),
     ("1 2\n2 1\n1 -2\nx\n", Err((3, LineFault::Size(NumberFault::NotDigits)))),
