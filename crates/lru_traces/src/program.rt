@@ -89,8 +89,8 @@ fn play_each(
 ) -> io::Result<Option<Vec<(usize, Tally)>>> {
     print_head(rt, settings.is_timed)?;
     let mut rows = Vec::new(rt.alloc());
-    for limit in &settings.limits {
-        progress.show(rt, "limit", *limit);
+    for (place, limit) in settings.limits.iter().enumerate() {
+        progress.show_place(rt, "limit", place + 1, settings.limits.len());
         let start = Instant::now(&rt)?;
         let played = play(rt.alloc(), *limit, requests);
         let time = start.elapsed(&rt)?.as_millis();
