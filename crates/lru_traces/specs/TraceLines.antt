@@ -99,6 +99,22 @@ format_told first =
     if is_some (request_in first) || not (list_any (λ byte. byte == 44) first) then Ok Words
     else (if is_ok (request_read Commas first) then Err NoHeader else Ok Commas)
 
+-- the format of the lines behind a line, and its request
+abbrev pub told_on : Format → Result Request LineFault → Result (Format × Option Request) LineFault
+told_on format (Ok request) = Ok (format, Some request)
+told_on format (Err fault) = Err fault
+
+-- of a first line: a header has no request
+abbrev pub first_read : Result Format LineFault → List ℕ → Result (Format × Option Request) LineFault
+first_read (Ok Words) line = told_on Words (request_read Words line)
+first_read (Ok Commas) line = Ok (Commas, None)
+first_read (Err fault) line = Err fault
+
+-- what is read of a line, once the lines before it have told a format, or else of the first line
+abbrev pub next_read : Option Format → List ℕ → Result (Format × Option Request) LineFault
+next_read (Some format) line = told_on format (request_read format line)
+next_read None line = first_read (format_told line) line
+
 -- a share of a whole in hundredths of a percent, rounded down
 abbrev pub share_of : ℕ → ℕ → Option ℕ
 share_of part whole = if whole == 0 then None else Some (min (part * 10000 / whole) 10000)

@@ -7,7 +7,7 @@ use crate::one_pass::{are_of_size_one, play_all};
 use crate::player::{Request, Tally, play};
 use crate::plot::Plot;
 use crate::progress::Progress;
-use crate::requests::{Format, LineFault, format_of, read_request};
+use crate::requests::{LineFault, read_line};
 use crate::settings::{Asked, Settings, asked_of};
 use crate::table::{byte_hit_ratio, hit_ratio};
 use std::io::{BufRead, BufReader};
@@ -27,23 +27,7 @@ pub struct BadLine {
     pub fault: LineFault,
 }
 
-// The request of the next line, `None` of a header. The format is told by the first line.
-fn read_line(format: &mut Option<Format>, line: &[u8]) -> Result<Option<Request>, LineFault> {
-    let known = match *format {
-        Some(known) => known,
-        None => {
-            let told = format_of(line)?;
-            *format = Some(told);
-            if told == Format::Commas {
-                return Ok(None);
-            }
-            told
-        }
-    };
-    read_request(known, line).map(Some)
-}
-
-/// The requests of an input, or its first bad line. The first line tells the format of the others, as `format_of` has it.
+/// The requests of an input, or its first bad line. The first line tells the format, as `read_line` has it.
 pub fn read_trace<R: BufRead>(
     rt: HostRuntime,
     progress: Progress,
@@ -57,9 +41,13 @@ pub fn read_trace<R: BufRead>(
         if input.read_until(b'\n', &mut line)? == 0 {
             break;
         }
-        match read_line(&mut format, &line) {
-            Ok(Some(request)) => requests.push(request)?,
-            Ok(None) => continue,
+        match read_line(format, &line) {
+            Ok((told, request)) => {
+                format = Some(told);
+                if let Some(request) = request {
+                    requests.push(request)?;
+                }
+            }
             Err(fault) => return Ok(Err(BadLine { number, fault })),
         }
         if requests.len() % LINES_A_STEP == 0 {

@@ -1,7 +1,7 @@
 //! The lines of a trace, in two formats.
 ghost use Rattle.std.specs.Prelude.{◌≡◌};
 ghost use Rattle.std.specs.Str.{is_utf8};
-ghost use Rattle.lru_traces.specs.TraceLines.{is_blank, from_word, from_blank, word_of, behind, of_fields, words_read, cell_of, cells_read, line_read, request_read, request_in, format_told};
+ghost use Rattle.lru_traces.specs.TraceLines.{is_blank, from_word, from_blank, word_of, behind, of_fields, words_read, cell_of, cells_read, line_read, request_read, request_in, format_told, told_on, next_read};
 
 use crate::numbers::{NumberFault, number_from};
 use crate::player::Request;
@@ -203,4 +203,28 @@ pub fn format_of(first: &[u8]) -> Result<Format, LineFault>
         return Err(LineFault::NoHeader);
     }
     Ok(Format::Commas)
+}
+
+fn read_on(format: Format, line: &[u8]) -> Result<(Format, Option<Request>), LineFault>
+    ensures { result ≡ told_on format (request_read format line.now) }
+{
+    let request = read_request(format, line)?;
+    Ok((format, Some(request)))
+}
+
+/// The request of a line of a trace, `None` of a header, with the format of the lines behind it. `format` is what the line
+/// before told: the first line has none, and tells it, as `format_of` has it.
+pub fn read_line(
+    format: Option<Format>,
+    line: &[u8],
+) -> Result<(Format, Option<Request>), LineFault>
+    ensures { result ≡ next_read format line.now }
+{
+    match format {
+        Some(format) => read_on(format, line),
+        None => match format_of(line)? {
+            Format::Words => read_on(Format::Words, line),
+            Format::Commas => Ok((Format::Commas, None)),
+        },
+    }
 }
