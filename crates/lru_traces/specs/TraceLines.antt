@@ -48,7 +48,7 @@ request_in line =
     if length (word_of (behind (behind line))) == 0 then requested (word_of line) (word_of (behind line))
     else (if length (word_of (behind (behind (behind line)))) == 0 then requested (word_of (behind line)) (word_of (behind (behind line))) else None)
 
--- the request of two numbers; where both are none, the key is what is told
+-- the request of two numbers, or else what is wrong; where neither is one, that is told of the key
 abbrev pub of_numbers : Result ℕ NumberFault → Result ℕ NumberFault → Result Request LineFault
 of_numbers (Ok key) (Ok size) = Ok (record { key = key; size = size })
 of_numbers (Ok key) (Err fault) = Err (Size fault)
@@ -57,7 +57,7 @@ of_numbers (Err fault) size = Err (Key fault)
 abbrev pub of_fields : List ℕ → List ℕ → Result Request LineFault
 of_fields key size = of_numbers (number_read key) (number_read size)
 
--- the same of a line, and what is wrong with one that has none
+-- the request of a line of words, or else what is wrong with it
 abbrev pub words_read : List ℕ → Result Request LineFault
 words_read line =
     if length (word_of (behind (behind line))) == 0 then of_fields (word_of line) (word_of (behind line))

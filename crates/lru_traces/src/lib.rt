@@ -10,5 +10,5 @@ pub mod plot;
 pub mod program;
 pub mod progress;
 pub mod requests;
-mod settings;
+pub mod settings;
 pub mod table;

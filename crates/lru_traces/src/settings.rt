@@ -1,6 +1,7 @@
-// What the arguments ask for.
+//! What the arguments ask for.
 
 use crate::limits::{LimitFault, add_limit, limit_of};
+use std::alloc::{AllocError, Global};
 use std::env::Env;
 use std::fmt::Display;
 use std::{env, fmt, io};
@@ -62,15 +63,24 @@ pub enum Asked {
     Misused(Misuse),
 }
 
-/// What the arguments ask for. The first word that asks for help, or that is none of the program's words, decides.
+/// What the arguments of the program ask for, as `asked_by` has it.
 pub fn asked_of(rt: &(impl Env + AllocGlobal)) -> io::Result<Asked> {
+    let mut words = Vec::new(rt.alloc());
+    for word in env::args(rt)?.skip(1) {
+        words.push(word)?;
+    }
+    Ok(asked_by(rt.alloc(), words)?)
+}
+
+/// What these words ask for. The first one that asks for help, or that is none of the program's, decides.
+pub fn asked_by(alloc: Global, words: Vec<String>) -> Result<Asked, AllocError> {
     let mut settings = Settings {
-        limits: Vec::new(rt.alloc()),
+        limits: Vec::new(alloc),
         svg: None,
         is_timed: false,
     };
     let mut is_path = false;
-    for word in env::args(rt)?.skip(1) {
+    for word in words {
         if is_path {
             settings.svg = Some(word);
             is_path = false;

@@ -7,6 +7,7 @@ use lru_traces::plot::Plot;
 use lru_traces::program::{BadLine, read_trace};
 use lru_traces::progress::Progress;
 use lru_traces::requests::{Format, LineFault, format_of, read_request, request_of};
+use lru_traces::settings::{Asked, asked_by};
 use lru_traces::table::Percent;
 use std::alloc::{AllocError, Global};
 use std::io;
@@ -40,6 +41,21 @@ const FAULTS: [(&str, &str); 9] = [
     ("1 000000000000000000001", "the size is too large"),
     ("x", "the key is no number"),
     ("1 2 3 4", "more than a time, a key and a size"),
+];
+
+// Words that the program is called with, and what they ask for: limits, the file of a plot, whether times are told.
+#[rattlefmt::skip]
+const ARGUMENTS: [(&str, &str); 10] = [
+    ("512 64k 512", "[512, 65536] None false"),
+    ("--svg --help 1 --time", "[1] Some(\"--help\") true"),
+    ("1 --help x", "help"),
+    ("-h", "help"),
+    ("1 --svg", "--svg: no file is given"),
+    ("--time", "no limit is given"),
+    ("1 0k", "0k: a limit of 0 keeps nothing, it has to be at least 1"),
+    ("1 x --help", "x: a limit is a number of bytes, such as 512, 64K, 1M or 1G"),
+    ("1 --fast", "--fast: there is no such option"),
+    ("99999999999999999999", "99999999999999999999: the limit is too large"),
 ];
 
 // Rows with commas, and the request of each or what is told of it.
@@ -174,6 +190,33 @@ fn wrong_fault(alloc: Global) -> Result<String, AllocError> {
     Ok(String::new(alloc))
 }
 
+fn told_of(alloc: Global, asked: &Asked) -> Result<String, AllocError> {
+    match asked {
+        Asked::Help => format!(in alloc; "help"),
+        Asked::Play(settings) => {
+            format!(in alloc;
+                "{:?} {:?} {}",
+                settings.limits, settings.svg, settings.is_timed
+            )
+        }
+        Asked::Misused(misuse) => format!(in alloc; "{misuse}"),
+    }
+}
+
+fn wrong_arguments(alloc: Global) -> Result<String, AllocError> {
+    for (line, wanted) in &ARGUMENTS {
+        let mut words = Vec::new(alloc);
+        for word in line.split(' ') {
+            words.push(String::from_str(alloc, word)?)?;
+        }
+        let told = told_of(alloc, &asked_by(alloc, words)?)?;
+        if told.as_str() != *wanted {
+            return format!(in alloc; "{line}: {told}");
+        }
+    }
+    Ok(String::new(alloc))
+}
+
 fn wrong_cells(alloc: Global) -> Result<String, AllocError> {
     for (line, wanted) in &CELLS {
         let read = read_request(Format::Commas, line.as_bytes());
@@ -286,6 +329,7 @@ fn wrong_picture(alloc: Global) -> Result<String, AllocError> {
 fn plays_and_tells_what_it_should(rt: HostRuntime) -> Result<(), Fail> {
     let mut wrong = wrong_line(rt.alloc())?;
     wrong.push_str(&wrong_fault(rt.alloc())?)?;
+    wrong.push_str(&wrong_arguments(rt.alloc())?)?;
     wrong.push_str(&wrong_cells(rt.alloc())?)?;
     wrong.push_str(&wrong_limit(rt.alloc())?)?;
     wrong.push_str(&wrong_share(rt.alloc())?)?;
