@@ -5,3 +5,4 @@ pub mod Distances
 pub mod Order
 pub mod Refused
 pub mod Noted
+pub mod Reading

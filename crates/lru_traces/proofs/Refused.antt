@@ -1,8 +1,8 @@
 -- When a cache under a limit is refused an object: its rows weigh no more than the limit, and each weighs something.
-use Rattle.std.proofs.Common.{◌≡◌, ℕ, ◌+◌, ◌-◌, ◌^◌, ◌<◌, ◌≤◌, max, min, Bool, true, false, cond, ltb, leb, ◌&&◌, List, [], ◌∷◌, length, refl, sym, ap, subst, ◌∙◌, arith, Some, None, Ok, Err, inl, inr}
-use Rattle.std.specs.Prelude.{Option, Result, if◌then◌else◌, nat_le, nat_lt, IsTrue}
-use Rattle.std.proofs.lemmas.Bool.{ltb-true, leb-true, cond_both, and_parts, cases_Bool, cases_lt, le-ltb}
-use Rattle.lru_shard.specs.Row.{Row, row, row_of, weight_of, without, with_first}
+use Rattle.std.proofs.Common.{◌≡◌, ℕ, ◌+◌, ◌-◌, ◌<◌, ◌≤◌, max, cond, ltb, leb, ◌&&◌, [], ◌∷◌, length, sym, ap, subst, ◌∙◌, arith, Some, None, Err, inl, inr}
+use Rattle.std.specs.Prelude.{Option, nat_le, nat_lt}
+use Rattle.std.proofs.lemmas.Bool.{leb-true, cond_both, and_parts, cases_Bool, cases_lt, le-ltb}
+use Rattle.lru_shard.specs.Row.{Row, row, weight_of, without, with_first}
 use Rattle.lru_shard.specs.Shard.{Shard, Size, size_of, and_row, most_rows, refusal, MayRefuse}
 use Rattle.lru_shard.specs.Unit.{RefusesNew, UpdatesRow}
 use Rattle.lru_shard.specs.declared.unit.RefusedUpdate.{RefusedUpdate}

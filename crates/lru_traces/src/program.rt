@@ -2,12 +2,13 @@
 //! played under each limit by itself, the other with one that takes one pass.
 ghost use Rattle.lru_traces.specs.Traces.{AreOfSizeOne};
 
+use crate::help::{HELP, USAGE};
 use crate::one_pass::{are_of_size_one, play_all};
 use crate::player::{Request, Tally, play};
 use crate::plot::Plot;
 use crate::progress::Progress;
-use crate::requests::request_of;
-use crate::settings::{Settings, settings_of};
+use crate::requests::{LineFault, read_line};
+use crate::settings::{Asked, Settings, asked_of};
 use crate::table::{byte_hit_ratio, hit_ratio};
 use std::io::{BufRead, BufReader};
 use std::process::ExitCode;
@@ -17,22 +18,37 @@ use std::{fs, io};
 // How many lines are read between two writes of the line of progress.
 const LINES_A_STEP: usize = 1000000;
 
-/// The requests of an input, or the number of its first bad line, from 1 on.
+/// The first line of an input that is no request.
+#[derive(Clone, Copy, Debug, PartialEq, Eq)]
+pub struct BadLine {
+    /// Its number, from 1 on.
+    pub number: u64,
+    /// What is wrong with it.
+    pub fault: LineFault,
+}
+
+/// The requests of an input, or its first bad line. The first line tells the format, as `read_line` has it.
 pub fn read_trace<R: BufRead>(
     rt: HostRuntime,
     progress: Progress,
     input: &mut R,
-) -> io::Result<Result<Vec<Request>, u64>> {
+) -> io::Result<Result<Vec<Request>, BadLine>> {
     let mut line = Vec::new(rt.alloc());
     let mut requests = Vec::new(rt.alloc());
+    let mut format = None;
     for number in 1..u64::MAX {
         line.clear();
         if input.read_until(b'\n', &mut line)? == 0 {
             break;
         }
-        match request_of(&line) {
-            Some(request) => requests.push(request)?,
-            None => return Ok(Err(number)),
+        match read_line(format, &line) {
+            Ok((told, request)) => {
+                format = Some(told);
+                if let Some(request) = request {
+                    requests.push(request)?;
+                }
+            }
+            Err(fault) => return Ok(Err(BadLine { number, fault })),
         }
         if requests.len() % LINES_A_STEP == 0 {
             progress.show(rt, "requests read:", requests.len());
@@ -61,8 +77,8 @@ fn play_each(
 ) -> io::Result<Option<Vec<(usize, Tally)>>> {
     print_head(rt, settings.is_timed)?;
     let mut rows = Vec::new(rt.alloc());
-    for limit in &settings.limits {
-        progress.show(rt, "limit", *limit);
+    for (place, limit) in settings.limits.iter().enumerate() {
+        progress.show_place(rt, "limit", place + 1, settings.limits.len());
         let start = Instant::now(&rt)?;
         let played = play(rt.alloc(), *limit, requests);
         let time = start.elapsed(&rt)?.as_millis();
@@ -115,29 +131,46 @@ fn play_at_once(
     Ok(Some(rows))
 }
 
-/// Reads the trace of standard input, plays it under the limits of the arguments, prints the table, and draws the plot.
+fn print_help(rt: HostRuntime) -> io::Result<()> {
+    for line in HELP {
+        println!(rt; "{line}")?;
+    }
+    Ok(())
+}
+
+/// Does what the arguments ask for: tells what the program does, or plays the trace of standard input.
 /// The status is 2 for a bad line, bad arguments, and a file that can't be written, and 1 where there is no memory.
 pub fn run(rt: HostRuntime) -> io::Result<ExitCode> {
-    let Some(settings) = settings_of(&rt)? else {
-        println!(rt; "usage: trace_player [--time] [--svg FILE] LIMIT..")?;
-        return Ok(ExitCode::from(2));
-    };
+    match asked_of(&rt)? {
+        Asked::Help => print_help(rt)?,
+        Asked::Play(settings) => return play_input(rt, &settings),
+        Asked::Misused(misuse) => {
+            println!(rt; "error: {misuse}")?;
+            println!(rt; "{USAGE} (--help tells more)")?;
+            return Ok(ExitCode::from(2));
+        }
+    }
+    Ok(ExitCode::SUCCESS)
+}
+
+// Reads the trace of standard input, plays it under the limits, prints the table, and draws the plot.
+fn play_input(rt: HostRuntime, settings: &Settings) -> io::Result<ExitCode> {
     let progress = Progress::new(rt);
     let mut input = BufReader::new(rt.alloc(), rt.reader())?;
     let read = read_trace(rt, progress, &mut input)?;
     progress.clear(rt);
     let requests = match read {
         Ok(requests) => requests,
-        Err(number) => {
-            println!(rt; "error line {number}")?;
+        Err(BadLine { number, fault }) => {
+            println!(rt; "error line {number}: {fault}")?;
             return Ok(ExitCode::from(2));
         }
     };
     println!(rt; "{} requests", requests.len())?;
     let played = if are_of_size_one(&requests) {
-        play_at_once(rt, progress, &settings, &requests)?
+        play_at_once(rt, progress, settings, &requests)?
     } else {
-        play_each(rt, progress, &settings, &requests)?
+        play_each(rt, progress, settings, &requests)?
     };
     let Some(mut rows) = played else {
         return Ok(ExitCode::from(1));

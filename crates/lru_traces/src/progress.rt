@@ -24,6 +24,13 @@ impl Progress {
         }
     }
 
+    /// Writes the line anew: which one of how many is under way, the first being 1.
+    pub fn show_place(self, rt: HostRuntime, what: &str, place: usize, count: usize) {
+        if self.is_shown {
+            let _ = eprint!(rt; "\r{what} {place} of {count}\x1b[K");
+        }
+    }
+
     /// Wipes the line.
     pub fn clear(self, rt: HostRuntime) {
         if self.is_shown {

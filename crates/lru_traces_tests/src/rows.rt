@@ -1,10 +1,13 @@
 // Tables of lines, of shares and of limits, each gone through by one function.
+use lru_traces::limits::{LimitFault, add_limit, limit_of};
+use lru_traces::numbers::NumberFault;
 use lru_traces::one_pass::{are_of_size_one, play_all};
 use lru_traces::player::{Request, Tally, play};
 use lru_traces::plot::Plot;
-use lru_traces::program::read_trace;
+use lru_traces::program::{BadLine, read_trace};
 use lru_traces::progress::Progress;
-use lru_traces::requests::request_of;
+use lru_traces::requests::{Format, LineFault, format_of, read_request, request_of};
+use lru_traces::settings::{Asked, asked_by};
 use lru_traces::table::Percent;
 use std::alloc::{AllocError, Global};
 use std::io;
@@ -24,6 +27,83 @@ const LINES: [(&str, Option<Request>); 12] = [
     ("1 x", None),
     ("1 -2", None),
     ("1 2 3 4", None),
+];
+
+// Lines that are no requests, and what is told of each.
+#[rattlefmt::skip]
+const FAULTS: [(&str, &str); 9] = [
+    ("", "no key"),
+    ("5", "no size"),
+    ("x 1", "the key is no number"),
+    ("7 x 1", "the key is no number"),
+    ("1 -2", "the size is no number"),
+    ("18446744073709551616 0", "the key is too large"),
+    ("1 000000000000000000001", "the size is too large"),
+    ("x", "the key is no number"),
+    ("1 2 3 4", "more than a time, a key and a size"),
+];
+
+// Words that the program is called with, and what they ask for: limits, the file of a plot, whether times are told.
+#[rattlefmt::skip]
+const ARGUMENTS: [(&str, &str); 10] = [
+    ("512 64k 512", "[512, 65536] None false"),
+    ("--svg --help 1 --time", "[1] Some(\"--help\") true"),
+    ("1 --help x", "help"),
+    ("-h", "help"),
+    ("1 --svg", "--svg: no file is given"),
+    ("--time", "no limit is given"),
+    ("1 0k", "0k: a limit of 0 keeps nothing, it has to be at least 1"),
+    ("1 x --help", "x: a limit is a number of bytes, such as 512, 64K, 1M or 1G"),
+    ("1 --fast", "--fast: there is no such option"),
+    ("99999999999999999999", "99999999999999999999: the limit is too large"),
+];
+
+// Rows with commas, and the request of each or what is told of it.
+#[rattlefmt::skip]
+const CELLS: [(&str, Result<Request, LineFault>); 10] = [
+    ("5,7,300", Ok(Request { key: 7, size: 300 })),
+    (" 5 , 7\t, 300 \r\n", Ok(Request { key: 7, size: 300 })),
+    (",7,0", Ok(Request { key: 7, size: 0 })),
+    ("a b,7,300", Ok(Request { key: 7, size: 300 })),
+    ("5,7 8,300", Err(LineFault::Key(NumberFault::NotDigits))),
+    ("5,,300", Err(LineFault::Key(NumberFault::Missing))),
+    ("5,7", Err(LineFault::Size(NumberFault::Missing))),
+    ("5,7,", Err(LineFault::Size(NumberFault::Missing))),
+    ("5 7 300", Err(LineFault::Key(NumberFault::Missing))),
+    ("5,7,300,1", Err(LineFault::TooMany)),
+];
+
+// First lines, and the format that each tells.
+#[rattlefmt::skip]
+const FIRST: [(&str, Result<Format, LineFault>); 5] = [
+    ("time,key,size\n", Ok(Format::Commas)),
+    ("5 7 300\n", Ok(Format::Words)),
+    ("5,3 7 300\n", Ok(Format::Words)),
+    ("time key size\n", Ok(Format::Words)),
+    ("5,7,300\n", Err(LineFault::NoHeader)),
+];
+
+// Words, and the limit that each is; 2^34 G are 2^64 bytes.
+#[rattlefmt::skip]
+const WORDS: [(&str, Result<usize, LimitFault>); 18] = [
+    ("512", Ok(512)),
+    ("64K", Ok(65536)),
+    ("64k", Ok(65536)),
+    ("1M", Ok(1048576)),
+    ("2m", Ok(2097152)),
+    ("1G", Ok(1073741824)),
+    ("3g", Ok(3221225472)),
+    ("18446744073709551615", Ok(18446744073709551615)),
+    ("18446744073709551616", Err(LimitFault::TooLarge)),
+    ("17179869183G", Ok(18446744072635809792)),
+    ("17179869184G", Err(LimitFault::TooLarge)),
+    ("0", Err(LimitFault::Zero)),
+    ("00M", Err(LimitFault::Zero)),
+    ("", Err(LimitFault::NotNumber)),
+    ("K", Err(LimitFault::NotNumber)),
+    ("1KB", Err(LimitFault::NotNumber)),
+    ("1.5M", Err(LimitFault::NotNumber)),
+    ("-1", Err(LimitFault::NotNumber)),
 ];
 
 #[rattlefmt::skip]
@@ -86,6 +166,86 @@ fn wrong_line(alloc: Global) -> Result<String, AllocError> {
         if request != *wanted {
             return format!(in alloc; "{line}: {request:?}");
         }
+    }
+    Ok(String::new(alloc))
+}
+
+fn wrong_fault(alloc: Global) -> Result<String, AllocError> {
+    for (line, wanted) in &FAULTS {
+        let Err(fault) = read_request(Format::Words, line.as_bytes()) else {
+            return format!(in alloc; "{line}");
+        };
+        let text = format!(in alloc; "{fault}")?;
+        if text.as_str() != *wanted {
+            return format!(in alloc; "{line}: {text}");
+        }
+    }
+    // (a word that is no UTF-8 may be a time)
+    if read_request(Format::Words, b"\xff 1 2").is_err() {
+        return format!(in alloc; "a time that is no text");
+    }
+    if read_request(Format::Words, b"1 \xff") != Err(LineFault::NotText) {
+        return format!(in alloc; "a size that is no text");
+    }
+    Ok(String::new(alloc))
+}
+
+fn told_of(alloc: Global, asked: &Asked) -> Result<String, AllocError> {
+    match asked {
+        Asked::Help => format!(in alloc; "help"),
+        Asked::Play(settings) => {
+            format!(in alloc;
+                "{:?} {:?} {}",
+                settings.limits, settings.svg, settings.is_timed
+            )
+        }
+        Asked::Misused(misuse) => format!(in alloc; "{misuse}"),
+    }
+}
+
+fn wrong_arguments(alloc: Global) -> Result<String, AllocError> {
+    for (line, wanted) in &ARGUMENTS {
+        let mut words = Vec::new(alloc);
+        for word in line.split(' ') {
+            words.push(String::from_str(alloc, word)?)?;
+        }
+        let told = told_of(alloc, &asked_by(alloc, words)?)?;
+        if told.as_str() != *wanted {
+            return format!(in alloc; "{line}: {told}");
+        }
+    }
+    Ok(String::new(alloc))
+}
+
+fn wrong_cells(alloc: Global) -> Result<String, AllocError> {
+    for (line, wanted) in &CELLS {
+        let read = read_request(Format::Commas, line.as_bytes());
+        if read != *wanted {
+            return format!(in alloc; "{line}: {read:?}");
+        }
+    }
+    for (line, wanted) in &FIRST {
+        let told = format_of(line.as_bytes());
+        if told != *wanted {
+            return format!(in alloc; "{line}: {told:?}");
+        }
+    }
+    Ok(String::new(alloc))
+}
+
+fn wrong_limit(alloc: Global) -> Result<String, AllocError> {
+    for (word, wanted) in &WORDS {
+        let limit = limit_of(word.as_bytes());
+        if limit != *wanted {
+            return format!(in alloc; "{word}: {limit:?}");
+        }
+    }
+    let mut limits = Vec::new(alloc);
+    for limit in [1024, 2, 1024, 3, 2] {
+        add_limit(&mut limits, limit)?;
+    }
+    if limits.as_slice() != [1024, 2, 3].as_slice() {
+        return format!(in alloc; "{limits:?}");
     }
     Ok(String::new(alloc))
 }
@@ -168,6 +328,10 @@ fn wrong_picture(alloc: Global) -> Result<String, AllocError> {
 #[test]
 fn plays_and_tells_what_it_should(rt: HostRuntime) -> Result<(), Fail> {
     let mut wrong = wrong_line(rt.alloc())?;
+    wrong.push_str(&wrong_fault(rt.alloc())?)?;
+    wrong.push_str(&wrong_arguments(rt.alloc())?)?;
+    wrong.push_str(&wrong_cells(rt.alloc())?)?;
+    wrong.push_str(&wrong_limit(rt.alloc())?)?;
     wrong.push_str(&wrong_share(rt.alloc())?)?;
     wrong.push_str(&wrong_tally(rt.alloc())?)?;
     wrong.push_str(&wrong_pass(rt.alloc())?)?;
@@ -176,15 +340,20 @@ fn plays_and_tells_what_it_should(rt: HostRuntime) -> Result<(), Fail> {
     Ok(())
 }
 
-// Inputs, and what is read: how many requests, or the number of the first bad line.
+// Inputs, and what is read: how many requests, or the number of the first bad line, and what is wrong with it.
 #[rattlefmt::skip]
-const INPUTS: [(&str, Result<usize, u64>); 6] = [
+const INPUTS: [(&str, Result<usize, (u64, LineFault)>); 11] = [
     ("", Ok(0)),
     ("1 2\n2 1\n", Ok(2)),
     ("1 2\n2 1", Ok(2)),
-    ("x", Err(1)),
-    ("1 2\n\n3 4\n", Err(2)),
-    ("1 2\n2 1\n1 -2\nx\n", Err(3)),
+    ("time,key,size\n", Ok(0)),
+    ("time,key,size\n5,7,300\n6,8,500", Ok(2)),
+    ("time,key,size\n5,7,300\n6 8 500\n", Err((3, LineFault::Key(NumberFault::Missing)))),
+    ("5,7,300\n6,8,500\n", Err((1, LineFault::NoHeader))),
+    ("7 300\n5,7,300\n", Err((2, LineFault::Key(NumberFault::NotDigits)))),
+    ("x", Err((1, LineFault::Key(NumberFault::NotDigits)))),
+    ("1 2\n\n3 4\n", Err((2, LineFault::Key(NumberFault::Missing)))),
+    ("1 2\n2 1\n1 -2\nx\n", Err((3, LineFault::Size(NumberFault::NotDigits)))),
 ];
 
 // The place of the first input that is read otherwise.
@@ -192,7 +361,7 @@ fn wrong_input(rt: HostRuntime) -> io::Result<Option<usize>> {
     for (place, (input, wanted)) in INPUTS.iter().enumerate() {
         let read = match read_trace(rt, Progress::new(rt), &mut input.as_bytes())? {
             Ok(requests) => Ok(requests.len()),
-            Err(number) => Err(number),
+            Err(BadLine { number, fault }) => Err((number, fault)),
         };
         if read != *wanted {
             return Ok(Some(place));
@@ -202,7 +371,7 @@ fn wrong_input(rt: HostRuntime) -> io::Result<Option<usize>> {
 }
 
 #[test]
-fn tells_the_number_of_a_bad_line(rt: HostRuntime) -> Result<(), Fail> {
+fn tells_the_first_bad_line(rt: HostRuntime) -> Result<(), Fail> {
     assert!(rt; matches!(wrong_input(rt), Ok(None)));
     Ok(())
 }

@@ -1,4 +1,5 @@
-//! The program `trace_player` once more: its stored run is over a trace whose sizes are all 1, which takes one pass.
+//! The program `trace_player` once more: its stored run is over a trace with commas whose sizes are all 1,
+//! which takes one pass.
 #![tactic(auto)]
 
 use lru_traces::program;

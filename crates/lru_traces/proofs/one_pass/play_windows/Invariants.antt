@@ -1,4 +1,4 @@
-use Rattle.std.proofs.Common.{◌≡◌, ℕ, List, map, take, nat_eq}
+use Rattle.std.proofs.Common.{◌≡◌, ℕ, List, map, take}
 use Rattle.std.specs.List.Sorted.{IsNonDecreasing}
 use Rattle.lru_traces.specs.Representation.Windows.{place_of, empty_window, summed}
 use Rattle.lru_traces.proofs.Places.{Noted}
