@@ -80,7 +80,7 @@ fn ask(rt: HostRuntime, cache: &mut Cache<u64, u64>, key: u64, size: usize) -> i
     let value = key.rotate_left(7);
     match cache.put(key, value, size, |_gone| {}) {
         Ok(_) => println!(rt; "{key}: miss, {value}")?,
-        Err(refused) => println!(rt; "{key}: miss, {value}, not kept: {:?}", refused.cause)?,
+        Err(refused) => println!(rt; "{key}: miss, {value}, not kept: {}", refused.cause)?,
     }
     Ok(false)
 }

@@ -115,7 +115,7 @@ fn obey(rt: HostRuntime, store: &mut Store, rng: &mut StdRng, line: &str) -> io:
             let done = put(rt.alloc(), store, rng, id, bytes);
             match done.refused {
                 None => println!(rt; "{id} is stored")?,
-                Some(cause) => println!(rt; "{id} is refused: {cause:?}")?,
+                Some(cause) => println!(rt; "{id} is refused: {cause}")?,
             }
             for (object, bytes) in &done.left {
                 println!(rt; "{} leaves with {bytes}", object.0)?;

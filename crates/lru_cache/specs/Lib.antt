@@ -1,2 +1,3 @@
 pub mod Cache
 pub mod Representation
+pub mod Causes

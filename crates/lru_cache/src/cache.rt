@@ -13,6 +13,9 @@ use lru_list::linked_list::LinkedListIter;
 use lru_rows::iter::RowsEntries;
 use lru_rows::rows::{NoPlace, Rows};
 use std::alloc::{AllocError, Global};
+use std::error::Error;
+use std::fmt;
+use std::fmt::Display;
 use std::hash::{BuildHasher, Hash};
 use std::marker::Model;
 
@@ -37,6 +40,23 @@ pub enum Cause {
     /// There are 4294967293 entries, and there can be no more.
     Full = 3,
 }
+
+impl Display for Cause {
+    ghost use Rattle.std.specs.Prelude.{Some};
+    ghost use Rattle.lru_cache.specs.Causes.{cause_text};
+
+    ghost output = { λ cause. Some (cause_text cause) };
+
+    fn fmt<W: fmt::Write>(&self, f: &mut fmt::Formatter<W>) -> fmt::Result {
+        match self {
+            Cause::Memory => f.write_str("out of memory"),
+            Cause::TooHeavy => f.write_str("too heavy"),
+            Cause::Full => f.write_str("full"),
+        }
+    }
+}
+
+impl Error for Cause {}
 
 /// A refused entry: why, and its key and value, handed back.
 #[derive(Debug, Drop)]

@@ -2,3 +2,4 @@ pub mod Row
 pub mod Shard
 pub mod Unit
 pub mod Representation
+pub mod Causes

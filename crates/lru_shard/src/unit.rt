@@ -8,6 +8,9 @@ use lru_list::linked_list::{LinkedListIter, MOST_ITEMS};
 use lru_rows::iter::RowsIter;
 use lru_rows::rows::Rows;
 use std::alloc::{AllocError, Global};
+use std::error::Error;
+use std::fmt;
+use std::fmt::Display;
 use std::iter::FusedIterator;
 use std::marker::Model;
 
@@ -21,6 +24,23 @@ pub enum Cause {
     /// The shard has as many rows as it may have.
     Length = 3,
 }
+
+impl Display for Cause {
+    ghost use Rattle.std.specs.Prelude.{Some};
+    ghost use Rattle.lru_shard.specs.Causes.{cause_text};
+
+    ghost output = { λ cause. Some (cause_text cause) };
+
+    fn fmt<W: fmt::Write>(&self, f: &mut fmt::Formatter<W>) -> fmt::Result {
+        match self {
+            Cause::Memory => f.write_str("out of memory"),
+            Cause::Weight => f.write_str("too heavy for the shard"),
+            Cause::Length => f.write_str("the shard is full"),
+        }
+    }
+}
+
+impl Error for Cause {}
 
 impl Cause {
     /// The number of this cause.
