@@ -227,6 +227,7 @@ impl<K: Hash + Eq + Clone + Drop + Send + Sync + 'static, const N: usize, B: Reg
 
     // The weight that the map of weights has for a hash.
     fn weight_of(&self, rt: &impl Wait, hash: u64) -> Option<usize> {
+        // Read for the proof alone, which learns from it what the type says of itself.
         let _world = &self.world;
         self.world.shards[shard_of(hash, N)].weight_of(rt, hash)
     }

@@ -159,6 +159,7 @@ impl<T, const N: usize> LruCore<T, N> {
         ensures value { result ≡ N }
         ensures valid { IsCore N self.now }
     {
+        // Read for the proof alone, which learns from it what the type says of itself (here and below).
         let _units = &self.units;
         N
     }

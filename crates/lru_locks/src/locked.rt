@@ -48,6 +48,7 @@ impl<T, const N: usize> Locked<T, N> {
         ensures { IsOwn N self.number result }
     {
         let Locked { unit, .. } = self;
+        // Read for the proof alone, which learns from it what the type says of itself (here and below).
         let _weight = unit.used_weight();
         unit
     }

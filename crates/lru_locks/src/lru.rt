@@ -305,6 +305,7 @@ impl<T, const N: usize> Lru<T, N> {
         ensures value { result ≡ key % N }
         ensures below { result < N }
     {
+        // Read for the proof alone, which learns from it what the type says of itself (here and below).
         let _units = &self.units;
         (key % N as u64) as usize
     }

@@ -102,6 +102,7 @@ fn place<T: Drop, B: Registry, const N: usize>(
     } = journal;
     tie.join(book, token);
     tie.look(book, names);
+    // Read for the proof alone, which learns from it what the type says of itself.
     let _weight = unit.used_weight();
     let kept = Kept {
         number,

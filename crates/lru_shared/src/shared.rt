@@ -205,6 +205,7 @@ impl<K: Hash, V, const N: usize, S: BuildHasher> SharedCache<K, V, N, S> {
         ensures value { result ≡ hash % 4294967296 % N }
         ensures below { result < N }
     {
+        // Read for the proof alone, which learns from it what the type says of itself.
         let _shards = &self.shards;
         (hash % LOW) as usize % N
     }

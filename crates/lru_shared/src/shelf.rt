@@ -114,6 +114,7 @@ impl<K: Hash, V, S: BuildHasher> Shelf<K, V, S> {
         ensures cache { self.new.cache ≡ with_entries self.old.cache (used Q.stands_for self.old.cache.entries query) }
         ensures making { self.new.making.items ≡ self.old.making.items }
     {
+        // Read for the proof alone, which learns from it what the type says of itself.
         let _len = self.cache.len();
         match self
             .cache

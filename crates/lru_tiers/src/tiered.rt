@@ -183,6 +183,7 @@ impl<T: Drop, const N: usize> TieredCore<T, N> {
         ensures err { IfErr result (λ cause. StopsSpilling self.old (R.stream rng.old) cause self.new (R.stream rng.new)) }
     {
         while self.is_hot_over() {
+            // Read for the proof alone, which learns from it what the type says of itself.
             let _hot = &self.hot;
             let (a, b) = drawn_shards::<R, N>(rng);
             if let Err(cause) = self.spill_step(a, b) {
