@@ -2,6 +2,10 @@
 ghost use Rattle.std.specs.Prelude.{◌≡◌};
 ghost use Rattle.lru_async.specs.Refusals.{number_of, number_of_build, SameCause};
 
+use std::error::Error;
+use std::fmt;
+use std::fmt::Display;
+
 /// Why a message was not sent, or not answered. It hands back what was given by value.
 #[derive(Debug, Drop)]
 pub enum SendRefused<T> {
@@ -9,6 +13,20 @@ pub enum SendRefused<T> {
     Memory(T),
     /// Number 2: after a shutdown no message is taken.
     Closed(T),
+}
+
+impl<T> Display for SendRefused<T> {
+    ghost use Rattle.std.specs.Prelude.{Some};
+    ghost use Rattle.lru_async.specs.Refusals.{text_of};
+
+    ghost output = { λ refused. Some (text_of refused) };
+
+    fn fmt<W: fmt::Write>(&self, f: &mut fmt::Formatter<W>) -> fmt::Result {
+        match self {
+            SendRefused::Memory(_) => f.write_str("out of memory"),
+            SendRefused::Closed(_) => f.write_str("closed"),
+        }
+    }
 }
 
 impl<T> SendRefused<T> {
@@ -45,6 +63,23 @@ pub enum BuildError {
     /// Number 3: nobody would call the callback.
     NoCallbackWorkers,
 }
+
+impl Display for BuildError {
+    ghost use Rattle.std.specs.Prelude.{Some};
+    ghost use Rattle.lru_async.specs.Refusals.{text_of_build};
+
+    ghost output = { λ error. Some (text_of_build error) };
+
+    fn fmt<W: fmt::Write>(&self, f: &mut fmt::Formatter<W>) -> fmt::Result {
+        match self {
+            BuildError::Memory => f.write_str("out of memory"),
+            BuildError::Thread => f.write_str("no thread"),
+            BuildError::NoCallbackWorkers => f.write_str("no callback workers"),
+        }
+    }
+}
+
+impl Error for BuildError {}
 
 impl BuildError {
     /// The number of this refusal.
