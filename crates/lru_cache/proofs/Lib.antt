@@ -1,9 +1,7 @@
 pub mod Entries
 pub mod Views
-pub mod Shrunk
 pub mod Placing
 pub mod Putting
-pub mod PutBack
 pub mod Retained
 pub mod Drained
 pub mod Settled

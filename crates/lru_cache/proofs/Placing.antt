@@ -7,10 +7,13 @@ use Rattle.std.proofs.lemmas.List.{length-append, map-append}
 use Rattle.lru_rows.specs.declared.rows.NoPlace.{NoPlace}
 use Rattle.lru_rows.specs.declared.rows.NoPlace.TheVariants.{Memory, Full}
 use Rattle.lru_rows.specs.Rows.{Placed, placed, Recency, recency, row_of, most_rows, LacksPlace}
-use Rattle.lru_cache.specs.declared.cache.Entry.{Entry}
-use Rattle.lru_cache.specs.Cache.{Clears, IsShown, with_entries, Cached, entry, entry_of, Fit, HasPlace, Leaves, Limits, PutsFirst}
-use Rattle.lru_cache.specs.Representation.{entry_in, entries_in, cached_in, IsKept, RowsFit, Shrinks}
-use Rattle.lru_cache.proofs.Entries.{weight-entries, length-entries, entry-row}
+use Rattle.lru_entries.specs.declared.entry.Entry.{Entry}
+use Rattle.lru_cache.specs.Cache.{Clears, with_entries, Cached, entry_of, Fit, HasPlace, Leaves, Limits, PutsFirst}
+use Rattle.lru_entries.specs.Entries.{IsShown, entry, entry_in, entries_in}
+use Rattle.lru_cache.specs.Representation.{cached_in, IsKept}
+use Rattle.lru_entries.specs.Partings.{RowsFit, Shrinks}
+use Rattle.lru_entries.proofs.Rows.{weight-entries, length-entries}
+use Rattle.lru_cache.proofs.Entries.{entry-row}
 use Rattle.lru_cache.proofs.Views.{entries_are}
 
 none_of : {A B : Type 0} (f : A → B) (o : Option A) → option_map f o ≡ None → o ≡ None

@@ -5,14 +5,15 @@ use Rattle.std.specs.Option.{option_map_or}
 use Rattle.std.proofs.lemmas.Bool.{false≢true}
 use Rattle.std.proofs.lemmas.List.{length-append}
 use Rattle.std.proofs.lemmas.List.Sums.{sum_by-cons, sum_by-append}
-use Rattle.lru_cache.specs.declared.cache.Entry.{Entry}
+use Rattle.lru_entries.specs.declared.entry.Entry.{Entry}
 use Rattle.lru_cache.specs.declared.cache.Refused.{Refused}
 use Rattle.lru_cache.specs.declared.cache.Cause.{Cause}
 use Rattle.lru_cache.specs.declared.cache.Cause.TheVariants.{TooHeavy, Full, Memory}
-use Rattle.lru_cache.specs.Cache.{Cached, entry, entry_of, without, weight_of, Fit, IsCache, HasPlace, MakesPlace, MayRefuse, Leaves, PutsFirst, Puts, with_entries, used}
+use Rattle.lru_cache.specs.Cache.{Cached, entry_of, without, Fit, IsCache, HasPlace, MakesPlace, MayRefuse, Leaves, PutsFirst, Puts, with_entries, used}
+use Rattle.lru_entries.specs.Entries.{entry, weight_of}
 use Rattle.lru_rows.specs.Rows.{Recency}
 use Rattle.lru_cache.specs.Representation.{cached_in}
-use Rattle.lru_cache.proofs.Entries.{by_bool}
+use Rattle.lru_entries.proofs.Rows.{by_bool}
 
 pub none_is : {A : Type 0} (o : Option A) → is_some o ≡ false → o ≡ None
 none_is None e = refl

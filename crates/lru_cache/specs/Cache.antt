@@ -1,21 +1,17 @@
 -- A cache: its entries, most recent first, under two limits.
-use Rattle.std.specs.Prelude.{◌≡◌, ℕ, ◌+◌, ◌-◌, ◌<◌, ◌≤◌, ◌⊎◌, max, min, not, Bool, true, false, List, [], ◌∷◌, ◌++◌, length, map, filter, find, reverse, sum_by, count_by, Option, Some, None, Result, Ok, Err, refl, IsSome}
+use Rattle.std.specs.Prelude.{◌≡◌, ℕ, ◌+◌, ◌-◌, ◌<◌, ◌≤◌, ◌⊎◌, max, min, not, Bool, true, false, List, [], ◌∷◌, ◌++◌, length, map, filter, find, reverse, count_by, Option, Some, None, Result, Ok, Err, refl, IsSome}
 use Rattle.std.specs.Option.{option_map_or}
 use Rattle.std.specs.List.{FoldsTo}
 use Rattle.std.specs.Coded.{Coded, code_by, coded×, coded_ℕ, coded_list}
 use Rattle.std.specs.Borrow.{Bor, MutBor}
 use Rattle.lru_rows.specs.Rows.{most_rows, Updates}
-use Rattle.lru_cache.specs.declared.cache.Entry.{Entry}
+use Rattle.lru_entries.specs.declared.entry.Entry.{Entry}
+use Rattle.lru_entries.specs.Entries.{entry_code, entry, weight_of, IsShown, Asks, kept_of, gone_of}
 use Rattle.lru_cache.specs.declared.cache.Refused.{Refused}
 use Rattle.lru_cache.specs.declared.cache.NotPut.{NotPut}
 use Rattle.lru_cache.specs.declared.cache.NotPut.TheVariants.{Unmade, Refused as EntryRefused}
 use Rattle.lru_cache.specs.declared.cache.Cause.{Cause}
 use Rattle.lru_cache.specs.declared.cache.Cause.TheVariants.{TooHeavy, Full, Memory}
-
-abbrev pub entry_code : {K V : Type 0} → Coded K → Coded V → Coded (Entry K V)
-entry_code {K} {V} key value =
-    code_by (K × (V × ℕ)) (coded× key (coded× value coded_ℕ)) (λ e. (e.key, (e.value, e.weight)))
-    (λ p. record { key = p.0; value = p.1.0; weight = p.1.1 }) (λ _. refl)
 
 -- the entries, most recent first; for how many there is memory; and how heavy and how many they may be
 pub record Cached (K V : Type 0) : Type 0 where
@@ -31,15 +27,9 @@ cached_code {K} {V} key value =
     (λ p. record { entries = p.0; places = p.1.0; most_weight = p.1.1.0; most_entries = p.1.1.1 }) (λ _. refl)
 
 module _ {K V : Type 0} where
-  abbrev pub entry : K → V → ℕ → Entry K V
-  entry k v w = record { key = k; value = v; weight = w }
-
   -- no entries
   abbrev pub empty : ℕ → ℕ → Cached K V
   empty most_weight most_entries = record { entries = []; places = 0; most_weight = most_weight; most_entries = most_entries }
-
-  abbrev pub weight_of : List (Entry K V) → ℕ
-  weight_of es = sum_by (λ e. e.weight) es
 
   -- entries of at most this weight, and of at most this number
   abbrev pub Fit : ℕ → ℕ → List (Entry K V) → Type 0
@@ -68,10 +58,6 @@ module _ {K V : Type 0} where
     pub parts : es ≡ front ++ gone
     pub fits : Fit w n front
     pub needed : (e : Entry K V) (rest : List (Entry K V)) → gone ≡ e ∷ rest → Fit w n (front ++ e ∷ []) → ⊥
-
-  -- a closure was called with these entries, the last first
-  abbrev pub IsShown : {F : Type 0} → (F → Entry K V → F → Type 0) → F → List (Entry K V) → Type 0
-  IsShown {F} Step visit gone = (left : F) × FoldsTo Step visit (reverse gone) left
 
   -- there is a place for an entry of this weight: one is free, or another entry has to go for it
   abbrev pub HasPlace : Cached K V → ℕ → Type 0
@@ -129,18 +115,6 @@ module _ {K V : Type 0} where
   IsLast es None = es ≡ []
   IsLast es (Some e) = (front : List (Entry K V)) × (es ≡ front ++ e ∷ [])
 
-  -- a test that is given a key, a value and a weight answered this for an entry
-  pub record Asks {F : Type 0} (step : F → Bor K → Bor V → ℕ → Bool → F → Type 0) (keep : F) (e : Entry K V) (answer : Bool) (next : F) : Type 0 where
-    pub key : Bor K
-    pub value : Bor V
-    pub shows_key : key.now ≡ e.key
-    pub shows_value : value.now ≡ e.value
-    pub called : step keep key value e.weight answer next
-
-  -- the entries of which a test answered true
-  abbrev pub kept_of : List (Entry K V × Bool) → List (Entry K V)
-  kept_of asked = map (λ a. a.0) (filter (λ a. a.1) asked)
-
   -- a test was asked of each entry, the last first, and those stay of which it answered true
   pub record Retains {F : Type 0} (step : F → Bor K → Bor V → ℕ → Bool → F → Type 0) (keep : F) (old new : Cached K V) : Type 0 where
     pub asked : List (Entry K V × Bool)
@@ -148,10 +122,6 @@ module _ {K V : Type 0} where
     pub all : map (λ a. a.0) asked ≡ old.entries
     pub called : FoldsTo (λ p a q. Asks step p a.0 a.1 q) keep (reverse asked) left
     pub kept : new ≡ with_entries old (kept_of asked)
-
-  -- the entries of which a test answered false
-  abbrev pub gone_of : List (Entry K V × Bool) → List (Entry K V)
-  gone_of asked = map (λ a. a.0) (filter (λ a. not a.1) asked)
 
   -- a test was asked of so many of the last entries, or of all, the last first. Those stay of which it answered true, and the others were shown to a closure, in that order
   pub record RetainsLast {F G : Type 0} (step : F → Bor K → Bor V → ℕ → Bool → F → Type 0) (keep : F) (Step : G → Entry K V → G → Type 0) (visit : G) (most : ℕ) (old new : Cached K V) : Type 0 where

@@ -2,11 +2,13 @@
 ghost use Rattle.std.specs.Prelude.{◌≡◌, ◌+◌, ◌<◌, ◌≤◌, None, length, map, is_some, nat_eq, IfOk};
 ghost use Rattle.std.specs.Option.{option_map, option_copied};
 ghost use Rattle.lru_rows.specs.Rows.{most_rows};
-ghost use Rattle.lru_cache.specs.Cache.{empty, weight_of, entry_of, without, used, demoted, parts_of, with_entries, Puts, PutsWeighed, PutsFirst, HasPlace, MakesPlace, PopsLast, PopsFirst, IsLast, entry, Limits, Clears, Drains, Retains, RetainsLast, UpdatesEntry, Reweighs, Settles, UsesOrPuts, IsCache};
+ghost use Rattle.lru_cache.specs.Cache.{empty, entry_of, without, used, demoted, parts_of, with_entries, Puts, PutsWeighed, PutsFirst, HasPlace, MakesPlace, PopsLast, PopsFirst, IsLast, Limits, Clears, Drains, Retains, RetainsLast, UpdatesEntry, Reweighs, Settles, UsesOrPuts, IsCache};
+ghost use Rattle.lru_entries.specs.Entries.{weight_of, entry};
 
-use crate::draining::drain;
-use crate::keeping::{retain, retain_last};
-use crate::shrinking::{fits, shrink};
+use lru_entries::draining::drain;
+pub use lru_entries::entry::Entry;
+use lru_entries::keeping::{retain, retain_last};
+use lru_entries::shrinking::{fits, shrink};
 use lru_index::hashing::SeededHashes;
 use lru_index::keys::Query;
 use lru_list::linked_list::LinkedListIter;
@@ -18,17 +20,6 @@ use std::fmt;
 use std::fmt::Display;
 use std::hash::{BuildHasher, Hash};
 use std::marker::Model;
-
-/// A key with its value and its weight.
-#[derive(Debug, Drop)]
-pub struct Entry<K, V> {
-    /// The key.
-    pub key: K,
-    /// The value.
-    pub value: V,
-    /// The weight.
-    pub weight: usize,
-}
 
 /// Why an entry was refused. The number of a cause is its value.
 #[derive(Clone, Copy, Debug, PartialEq, Eq)]

@@ -2,6 +2,3 @@
 #![tactic(auto)]
 
 pub mod cache;
-mod draining;
-mod keeping;
-mod shrinking;

@@ -6,10 +6,11 @@ use Rattle.lru_shard.specs.declared.unit.Refused.{Refused}
 use Rattle.lru_shard.specs.Row as order
 use Rattle.lru_cores.specs.Core.{Core}
 use Rattle.lru_cores.specs.CoreCalls.{CoreInsertsTail}
-use Rattle.lru_cache.specs.declared.cache.Entry.{Entry}
+use Rattle.lru_entries.specs.declared.entry.Entry.{Entry}
 use Rattle.lru_cache.specs.declared.cache.Cause.TheVariants.{TooHeavy}
 use Rattle.lru_cache.specs.declared.cache.Refused as cached
-use Rattle.lru_cache.specs.Cache.{Cached, entry, with_entries, without, Leaves, MayRefuse}
+use Rattle.lru_cache.specs.Cache.{Cached, with_entries, without, Leaves, MayRefuse}
+use Rattle.lru_entries.specs.Entries.{entry}
 
 -- lists of one length whose items are so one by one
 abbrev pub AreEach : {A B : Type 0} → (A → B → Type 0) → List A → List B → Type 0

@@ -1,7 +1,8 @@
 //! A cache of one owner, whose entries have deadlines.
 ghost use Rattle.std.specs.Prelude.{◌≡◌, length, map, is_some, nat_eq, nat_lt, IfOk};
 ghost use Rattle.std.specs.Option.{option_map, option_copied};
-ghost use Rattle.lru_cache.specs.Cache.{empty, weight_of, entry_of, without, with_entries, parts_of, IsCache, Puts, PopsLast, Clears};
+ghost use Rattle.lru_cache.specs.Cache.{empty, entry_of, without, with_entries, parts_of, IsCache, Puts, PopsLast, Clears};
+ghost use Rattle.lru_entries.specs.Entries.{weight_of};
 ghost use Rattle.lru_deadlines.specs.Deadlines.{until, living, PromotesLiving, UpdatesLiving, TakesPast, Sweeps};
 
 use lru_cache::cache::{Cache, Entry, Refused};

@@ -4,7 +4,7 @@ use Rattle.std.specs.Prelude.{Option, Bool, Result, is_some, IfSome, IfErr}
 use Rattle.std.specs.Option.{option_map, option_map_or}
 use Rattle.std.specs.Borrow.{Bor, MutBor}
 use Rattle.std.proofs.lemmas.Bool.{false≢true}
-use Rattle.lru_cache.specs.declared.cache.Entry.{Entry}
+use Rattle.lru_entries.specs.declared.entry.Entry.{Entry}
 use Rattle.lru_shared.specs.declared.shared.NotGot.{NotGot}
 use Rattle.lru_shared.specs.declared.shared.NotGot.TheVariants.{Memory, Unmade, Refused as Unput}
 use Rattle.lru_cache.specs.Cache.{Cached, entry_of, UpdatesEntry}

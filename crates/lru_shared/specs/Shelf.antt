@@ -2,7 +2,7 @@
 use Rattle.std.specs.Prelude.{◌≡◌, ℕ, Bool, not, nat_eq, List, [], ◌∷◌, ◌++◌, filter, map, Option, Some, None, Result, Ok, Err}
 use Rattle.std.specs.List.{list_any, FoldsTo}
 use Rattle.std.specs.Borrow.{Bor}
-use Rattle.lru_cache.specs.declared.cache.Entry.{Entry}
+use Rattle.lru_entries.specs.declared.entry.Entry.{Entry}
 use Rattle.lru_cache.specs.Cache.{entry_of, parts_of}
 
 -- whether a hash is among those of the keys whose values are being made

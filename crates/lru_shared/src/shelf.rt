@@ -1,6 +1,7 @@
 //! What lies behind the lock of a shard. Its calls are all that is done under the lock.
 ghost use Rattle.std.specs.Prelude.{◌≡◌, ◌<◌, ◌/◌, ◌&&◌, [], not, length, is_some, false, IfOk};
-ghost use Rattle.lru_cache.specs.Cache.{empty, weight_of, entry_of, without, used, with_entries, Puts, UpdatesEntry};
+ghost use Rattle.lru_cache.specs.Cache.{empty, entry_of, without, used, with_entries, Puts, UpdatesEntry};
+ghost use Rattle.lru_entries.specs.Entries.{weight_of};
 ghost use Rattle.lru_shared.specs.Shelf.{is_among, left_of, IsCloned, ShowsEntry, VisitsEach, noted};
 
 use lru_cache::cache::{Cache, Entry, Refused};

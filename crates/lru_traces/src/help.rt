@@ -9,7 +9,7 @@ pub const HELP: [&str; 10] = [
     USAGE,
     "  LIMIT         the most bytes that the cache may have: 512, 64K, 1M or 1G, and so on, where 1K is 1024; at least 1",
     "  --time        tells the milliseconds, of each limit or of the one pass for all",
-    "  --svg FILE    also draws the shares of hits into this file",
+    "  --svg FILE    also draws the shares of hits into this file; - stands for the standard output",
     "  --help, -h    writes this text",
     "A line of the trace is KEY SIZE or TIME KEY SIZE: words between blanks, numbers for key and size; the time is read past.",
     "Or its first line is a header with commas, such as time,key,size, and each line behind that is TIME,KEY,SIZE.",

@@ -5,7 +5,7 @@ ghost use Rattle.lru_traces.specs.Traces.{AreOfSizeOne};
 use crate::help::{HELP, USAGE};
 use crate::one_pass::{are_of_size_one, play_all};
 use crate::player::{Request, Tally, play};
-use crate::plot::Plot;
+use crate::plot::{Counted, Plot};
 use crate::progress::Progress;
 use crate::requests::{LineFault, read_line};
 use crate::settings::{Asked, Settings, asked_of};
@@ -167,20 +167,32 @@ fn play_input(rt: HostRuntime, settings: &Settings) -> io::Result<ExitCode> {
         }
     };
     println!(rt; "{} requests", requests.len())?;
-    let played = if are_of_size_one(&requests) {
-        play_at_once(rt, progress, settings, &requests)?
+    let (played, counted) = if are_of_size_one(&requests) {
+        let played = play_at_once(rt, progress, settings, &requests)?;
+        (played, Counted::Objects)
     } else {
-        play_each(rt, progress, settings, &requests)?
+        let played = play_each(rt, progress, settings, &requests)?;
+        (played, Counted::Bytes)
     };
     let Some(mut rows) = played else {
         return Ok(ExitCode::from(1));
     };
     if let Some(path) = &settings.svg {
-        let text = format!(in rt.alloc(); "{}", Plot::new(&mut rows))?;
-        if let Err(error) = fs::write(&rt, path, text.as_str()) {
-            println!(rt; "{path}: {error}")?;
-            return Ok(ExitCode::from(2));
-        }
+        let text = format!(in rt.alloc(); "{}", Plot::new(&mut rows, counted))?;
+        return draw(rt, path, text.as_str());
+    }
+    Ok(ExitCode::SUCCESS)
+}
+
+// Writes a plot into a file, or where its name is `-` behind the table.
+fn draw(rt: HostRuntime, path: &str, text: &str) -> io::Result<ExitCode> {
+    if path == "-" {
+        print!(rt; "{text}")?;
+        return Ok(ExitCode::SUCCESS);
+    }
+    if let Err(error) = fs::write(&rt, path, text) {
+        println!(rt; "{path}: {error}")?;
+        return Ok(ExitCode::from(2));
     }
     Ok(ExitCode::SUCCESS)
 }

@@ -3,7 +3,7 @@ use lru_traces::limits::{LimitFault, add_limit, limit_of};
 use lru_traces::numbers::NumberFault;
 use lru_traces::one_pass::{are_of_size_one, play_all};
 use lru_traces::player::{Request, Tally, play};
-use lru_traces::plot::Plot;
+use lru_traces::plot::{Counted, Plot};
 use lru_traces::program::{BadLine, read_trace};
 use lru_traces::progress::Progress;
 use lru_traces::requests::{Format, LineFault, format_of, read_request, request_of};
@@ -146,17 +146,23 @@ const TALLIES: [(u64, u64); 7] = [(4, 0), (0, 0), (1, 5), (0, 7), (2, 3), (1, 5)
 // Limits in no order, and of 8 requests with 19 bytes how many hits and of how many bytes.
 type Drawn = [(usize, u64, u64); 4];
 
-// What is drawn between 60 and 580 from left to right, and for 100 to 0 percent between 40 and 340 down.
+// What is drawn between 70 and 590 from left to right, and between 60 and 360 down, and what else the picture says.
 //
 // From 2 to 100 it is 50 times, so by logarithms: those of 2, 4, 6 and 100 to the base 2 are 1024, 2048, 2647 and 6803 parts of
-// 1024, and 520 * 1024 / 5779 is 92, 520 * 1623 / 5779 is 146. From 1 to 41 a step of 1 is 13 wide. Shares stand 300 * 12.5 / 100 =
-// 37 above the lowest, 75, 150 and so on; of bytes 10.52 percent are 31, 15.78 are 47, 42.10 are 126.
+// 1024, and 520 * 1024 / 5779 is 92, 520 * 1623 / 5779 is 146. From 1 to 41 a step of 1 is 13 wide, and from 10 to 40 one of 10 is
+// 173 and a third. Those of 1024, 3000, 2^20 and 3 * 2^30 are 10240, 11827, 20480 and 32343: 0, 37, 240 and 520 of 520.
+// From 0 to 50 percent in steps of 10, 12.5 are 75 of 300; bytes of 10.52 percent are 63, 15.78 are 94, 42.10 are 252. From 0 to 100
+// in steps of 20 they are 37, 31, 47 and 126. From 50 to 65 in steps of 5, 62.5 percent are 250, 52.63 are 52 and 57.89 are 157.
 #[rattlefmt::skip]
-const PICTURES: [(Drawn, &str, &str); 2] = [
+const PICTURES: [(Drawn, &str, &str, &str); 4] = [
     ([(100, 4, 8), (2, 0, 0), (6, 2, 3), (4, 1, 2)],
-        "points=\"60,340 152,303 206,265 580,190 \"", "points=\"60,340 152,309 206,293 580,214 \""),
+        "points=\"70,360 162,285 216,210 590,60 \"", "points=\"70,360 162,297 216,266 590,108 \"", "on a logarithmic scale"),
     ([(3, 1, 3), (1, 0, 2), (41, 8, 19), (21, 4, 8)],
-        "points=\"60,340 86,303 320,190 580,40 \"", "points=\"60,309 86,293 320,214 580,40 \""),
+        "points=\"70,360 96,323 330,210 590,60 \"", "points=\"70,329 96,313 330,234 590,60 \"", "in percent</text>"),
+    ([(10, 4, 10), (20, 5, 11), (30, 4, 11), (40, 5, 10)],
+        "points=\"70,360 243,110 416,360 590,110 \"", "points=\"70,308 243,203 416,203 590,308 \"", "(the axis begins at 50)"),
+    ([(1024, 0, 0), (3000, 0, 0), (1048576, 0, 0), (3221225472, 0, 0)],
+        "points=\"70,360 107,360 310,360 590,360 \"", "points=\"70,360 107,360 310,360 590,360 \"", ">2.92K</text>"),
 ];
 
 // What stands first in the table and is read otherwise, as a text; empty where all is as it should be.
@@ -306,23 +312,31 @@ fn wrong_pass(alloc: Global) -> Result<String, AllocError> {
 }
 
 fn wrong_picture(alloc: Global) -> Result<String, AllocError> {
-    for (drawn, hits, bytes) in PICTURES {
-        let mut rows = drawn.map(|(limit, hits, hit_bytes)| {
-            let tally = Tally {
-                requests: 8,
-                hits,
-                bytes: 19,
-                hit_bytes,
-                evictions: 0,
-            };
-            (limit, tally)
-        });
-        let text = format!(in alloc; "{}", Plot::new(&mut rows))?;
-        if !text.contains(hits) || !text.contains(bytes) {
+    for (drawn, hits, bytes, said) in PICTURES {
+        let mut rows = drawn.map(tallied);
+        let text = format!(in alloc; "{}", Plot::new(&mut rows, Counted::Bytes))?;
+        if !text.contains(hits) || !text.contains(bytes) || !text.contains(said) {
+            return Ok(text);
+        }
+        // Where all sizes are 1, the share of bytes is that of requests.
+        let text = format!(in alloc; "{}", Plot::new(&mut rows, Counted::Objects))?;
+        if !text.contains("limit in objects") || text.contains("byte") {
             return Ok(text);
         }
     }
     Ok(String::new(alloc))
+}
+
+// A limit and what it made of 8 requests for 19 bytes: so many hits, for so many bytes.
+fn tallied((limit, hits, hit_bytes): (usize, u64, u64)) -> (usize, Tally) {
+    let tally = Tally {
+        requests: 8,
+        hits,
+        bytes: 19,
+        hit_bytes,
+        evictions: 0,
+    };
+    (limit, tally)
 }
 
 #[test]
