@@ -1,3 +1,4 @@
 pub mod Orders
 pub mod Refusals
 pub mod Sends
+pub mod Logged

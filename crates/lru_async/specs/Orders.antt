@@ -1,10 +1,13 @@
 -- What is known of an order served by actors, whatever its threads do.
 use Rattle.std.specs.Prelude.{◌≡◌, ℕ, None, vec_len}
 use Rattle.std.specs.Arc.{arc_value}
-use Rattle.lru_desks.specs.declared.tie.Registry.{Ghosts}
+use Rattle.std.specs.declared.clone.Clone as clone
+use Rattle.lru_desks.specs.declared.tie.Registry as registry
+use Rattle.lru_logs.specs.declared.tie.Archive as archive
 use Rattle.lru_world.specs.declared.world.Limits.{Limits}
 use Rattle.lru_async.specs.declared.async_lru.AsyncLru.{AsyncLru}
 use Rattle.lru_async.specs.declared.ledger_lru.LedgerLru.{LedgerLru}
+use Rattle.lru_async.specs.declared.logged_lru.LoggedLru.{LoggedLru}
 use Rattle.lru_async.specs.declared.builder.Settings.{Settings}
 
 -- what a builder goes by that was told a limit on the weight alone
@@ -16,14 +19,18 @@ abbrev pub limits_told : Settings → Limits
 limits_told settings = record { weight_limit = settings.weight_limit; len_watermark = settings.len_watermark }
 
 -- what an order has
-abbrev pub limits_of : {K : Type 0} {N : ℕ} {B : Type 0} {R : Ghosts B} → AsyncLru K N B R → Limits
+abbrev pub limits_of : {K : Type 0} {N : ℕ} {B : Type 0} {C : clone.Ghosts K} {R : registry.Ghosts B} {A : archive.Ghosts B} → AsyncLru K N B C R A → Limits
 limits_of lru = (arc_value lru.world).limits
 
 -- as many eviction workers and callback workers were started as a builder was told
-pub record HasWorkers {K : Type 0} {N : ℕ} {B : Type 0} {R : Ghosts B} (lru : AsyncLru K N B R) (settings : Settings) : Type 0 where
+pub record HasWorkers {K : Type 0} {N : ℕ} {B : Type 0} {C : clone.Ghosts K} {R : registry.Ghosts B} {A : archive.Ghosts B} (lru : AsyncLru K N B C R A) (settings : Settings) : Type 0 where
   pub evicting : vec_len lru.eviction_workers ≡ settings.num_eviction_workers
   pub calling : vec_len lru.callback_workers ≡ settings.num_callback_workers
 
 -- the order of one whose evicted pairs are counted
-abbrev pub order_of : {K : Type 0} {N : ℕ} {B : Type 0} {R : Ghosts B} → LedgerLru K N B R → AsyncLru K N B R
+abbrev pub order_of : {K : Type 0} {N : ℕ} {B : Type 0} {C : clone.Ghosts K} {R : registry.Ghosts B} {A : archive.Ghosts B} → LedgerLru K N B C R A → AsyncLru K N B C R A
 order_of ledger = ledger.lru
+
+-- and that of one that keeps logs
+abbrev pub logged_order : {K : Type 0} {N : ℕ} {B : Type 0} {C : clone.Ghosts K} {R : registry.Ghosts B} {A : archive.Ghosts B} → LoggedLru K N B C R A → AsyncLru K N B C R A
+logged_order logged = logged.lru

@@ -23,18 +23,6 @@ module _ {K : Type 0} where
   key_in (InsertTail _ key _) = Some key
   key_in _ = None
 
-  -- a mailbox refuses what is put by `push` for want of memory, or since it is closed
-  abbrev pub IsMailRefusal : MailError (Letter K) → Type 0
-  IsMailRefusal (mail.Memory _) = Unit {0}
-  IsMailRefusal (mail.Closed _) = Unit {0}
-  IsMailRefusal (mail.Waiting _) = ⊥
-
-  -- and so the message is refused
-  abbrev pub refused_by : MailError (Letter K) → Option (SendRefused (LruMsg K))
-  refused_by (mail.Memory letter) = Some (Memory letter.message)
-  refused_by (mail.Closed letter) = Some (Closed letter.message)
-  refused_by (mail.Waiting _) = None
-
   -- a question is answered, or there was no memory for the answer, or the message was left behind
   abbrev pub answered_by : Option (Reply K) → Result (Option (Reply K)) (SendRefused (Unit {0}))
   answered_by None = Err (Closed tt)
@@ -42,3 +30,16 @@ module _ {K : Type 0} where
   answered_by (Some (reply.Weight w)) = Ok (Some (reply.Weight w))
   answered_by (Some (reply.Lru found)) = Ok (Some (reply.Lru found))
   answered_by (Some (reply.Rows pairs)) = Ok (Some (reply.Rows pairs))
+
+module _ {K T : Type 0} where
+  -- a mailbox refuses what is put by `push` for want of memory, or since it is closed
+  abbrev pub IsMailRefusal : MailError (Letter K T) → Type 0
+  IsMailRefusal (mail.Memory _) = Unit {0}
+  IsMailRefusal (mail.Closed _) = Unit {0}
+  IsMailRefusal (mail.Waiting _) = ⊥
+
+  -- and so the message is refused
+  abbrev pub refused_by : MailError (Letter K T) → Option (SendRefused (LruMsg K))
+  refused_by (mail.Memory letter) = Some (Memory letter.message)
+  refused_by (mail.Closed letter) = Some (Closed letter.message)
+  refused_by (mail.Waiting _) = None

@@ -8,8 +8,8 @@ use crate::builder::AsyncLruBuilder;
 use crate::launching::cell_and_clone;
 use crate::refusals::SendRefused;
 use crate::sends::{
-    Addressed, admission, answer_of, increment, key_back, promotion, refusal_of, removal, shard_of,
-    tail_row,
+    Addressed, admission, answer_of, increment, key_back, promotion, refusal_of, removal, reply_in,
+    shard_of, tail_row,
 };
 use log::{Log, error};
 use lru_actors::effect::Reply;
@@ -17,6 +17,7 @@ use lru_actors::key::hash_key;
 use lru_actors::message::LruMsg;
 use lru_ledgers::{PutSeat, Registry, TakeSeat};
 use lru_letters::{Letter, ReplyCell};
+use lru_logs::tie::Archive;
 use lru_world::callback::NoGate;
 use lru_world::world::World;
 use std::alloc::Global;
@@ -54,7 +55,7 @@ pub struct Closed {
 ///
 /// One that is dropped without `close` leaves its threads waiting.
 #[derive(Drop)]
-pub struct AsyncLru<K: Drop, const N: usize, B: Registry = Brand> {
+pub struct AsyncLru<K: Clone + Drop, const N: usize, B: Registry + Archive = Brand> {
     pub(crate) world: Arc<World<K, B>, Global>,
     pub(crate) alloc: Global,
     // each thread's cell, which it fills as its last step
@@ -65,11 +66,11 @@ pub struct AsyncLru<K: Drop, const N: usize, B: Registry = Brand> {
     ghost shards: { vec_len (arc_value world).shards ≡ N },
 }
 
-impl<K: Hash + Eq + Clone + Drop + Send + Sync + 'static, const N: usize, B: Registry> AsyncLru<
-    K,
-    N,
-    B,
-> {
+impl<
+    K: Hash + Eq + Clone + Drop + Send + Sync + 'static,
+    const N: usize,
+    B: Registry + Archive,
+> AsyncLru<K, N, B> {
     ghost use Rattle.lru_async.specs.Orders.{untold};
 
     /// A builder of an order with a limit on its weight.
@@ -133,7 +134,7 @@ impl<K: Hash + Eq + Clone + Drop + Send + Sync + 'static, const N: usize, B: Reg
             .mailbox
             .push(rt, Letter::asking(message, theirs))
         {
-            Ok(()) => answer_of(cell.take(rt)),
+            Ok(()) => answer_of(reply_in(cell.take(rt))),
             Err(refused) => Err(refusal_of(refused).bare()),
         }
     }
@@ -311,7 +312,7 @@ impl<K: Hash + Eq + Clone + Drop + Send + Sync + 'static, const N: usize, B: Reg
     }
 }
 
-impl<K: Drop, const N: usize, B: Registry> AsyncLru<K, N, B> {
+impl<K: Clone + Drop, const N: usize, B: Registry + Archive> AsyncLru<K, N, B> {
     ghost use Rattle.lru_async.specs.Orders.{limits_of};
 
     /// Wakes the eviction workers, which ask for evictions while a limit is passed.

@@ -1,15 +1,19 @@
 //! How an order served by actors is made.
 ghost use Rattle.std.specs.Prelude.{◌≡◌, ◌<◌, Err, Some, IfOk};
 ghost use Rattle.std.specs.Arc.{arc_value};
-ghost use Rattle.lru_async.specs.Orders.{limits_of, limits_told, order_of, untold};
+ghost use Rattle.lru_async.specs.Orders.{limits_of, limits_told, logged_order, order_of, untold};
 ghost use Rattle.lru_async.specs.declared.refusals.BuildError.TheVariants.{NoCallbackWorkers};
 
 use crate::async_lru::AsyncLru;
 use crate::launching::launch;
 use crate::ledger_lru::LedgerLru;
+use crate::logged_lru::LoggedLru;
 use crate::receiver::EvictionReceiver;
 use crate::refusals::BuildError;
+use lru_actors::message::LruMsg;
 use lru_ledgers::{Blanks, LedgerBox, PutSeat, Registry, TakeSeat};
+use lru_logs::tie::{Archive, Blank};
+use lru_logs::voice::Voice;
 use lru_mailboxes::Mailbox;
 use lru_world::callback::{AsyncEvictionCallback, Gate, NoGate};
 use lru_world::outlet::Outlet;
@@ -166,7 +170,7 @@ impl<
         let puts: Vec<PutSeat<Brand>> = Vec::new(alloc);
         let takes: Vec<TakeSeat<Brand>> = Vec::new(alloc);
         let outlet = Outlet::Mailbox(Mailbox::new(alloc));
-        launch::<K, C, N, G, R, Brand>(rt, alloc, self, outlet, puts, takes)
+        launch::<K, C, N, G, R, Brand>(rt, alloc, self, None, outlet, puts, takes)
     }
 
     /// Starts the threads, and gives a receiver of evicted pairs. Callback workers, if there are any, go on beside it.
@@ -183,15 +187,45 @@ impl<
         let puts: Vec<PutSeat<Brand>> = Vec::new(alloc);
         let takes: Vec<TakeSeat<Brand>> = Vec::new(alloc);
         let outlet = Outlet::Mailbox(Mailbox::new(alloc));
-        let lru = launch::<K, C, N, G, R, Brand>(rt, alloc, self, outlet, puts, takes)?;
+        let lru = launch::<K, C, N, G, R, Brand>(rt, alloc, self, None, outlet, puts, takes)?;
         lru.with_receiver(&rt, alone)
+    }
+
+    /// Starts the threads of an order that keeps a log of each shard's messages, by a blank for N shards: who calls it by a
+    /// `Caller` learns what its answers saw. Without callback workers it is refused.
+    pub fn build_with_logs<
+        R: Threads + Wait + Copy + Send + 'static,
+        B: Registry + Archive + Send + Sync + 'static,
+    >(self, rt: R, blank: Blank<LruMsg<K>>) -> Result<LoggedLru<K, N, B>, BuildError>
+        requires some { 0 < N }
+        requires ready { C.ready (arc_value self.callback) }
+        requires table { blank.tie.table.shared.table_id ≡ B.log }
+        requires counts { (blank.tie.table.shared.key ≡ N) × (B.shards ≡ N) }
+        ensures refused { self.settings.num_callback_workers ≡ 0 → result ≡ Err NoCallbackWorkers }
+        ensures limits { IfOk result (λ logged. limits_of (logged_order logged) ≡ limits_told self.settings) }
+    {
+        let callers = self.settings.num_callback_workers;
+        if callers == 0 {
+            return Err(BuildError::NoCallbackWorkers);
+        }
+        let alloc = self.alloc;
+        let Blank { tie, token } = blank;
+        let Ok(tie) = Arc::new(alloc, tie) else {
+            return Err(BuildError::Memory);
+        };
+        let logs = Some(Voice::new(tie, token));
+        let puts: Vec<PutSeat<B>> = Vec::new(alloc);
+        let takes: Vec<TakeSeat<B>> = Vec::new(alloc);
+        let outlet = Outlet::Mailbox(Mailbox::new(alloc));
+        let lru = launch::<K, C, N, G, R, B>(rt, alloc, self, logs, outlet, puts, takes)?;
+        Ok(LoggedLru::new(lru))
     }
 
     /// Starts the threads round a box that counts every evicted pair: it is made of blanks for N who put, the actors, and as
     /// many who take as there are callback workers. Without callback workers the pairs are left in the box.
     pub fn build_with_ledger<
         R: Threads + Wait + Copy + Send + 'static,
-        B: Registry + Send + Sync + 'static,
+        B: Registry + Archive + Send + Sync + 'static,
     >(self, rt: R, blanks: Blanks) -> Result<LedgerLru<K, N, B>, BuildError>
         requires some { 0 < N }
         requires ready { C.ready (arc_value self.callback) }
@@ -210,7 +244,7 @@ impl<
         let room_for_puts = Vec::with_capacity(alloc, N)?;
         let room_for_takes = Vec::with_capacity(alloc, takers)?;
         let outlet = Outlet::Ledger(Arc::try_clone(&ledger)?);
-        let lru = launch::<K, C, N, G, R, B>(rt, alloc, self, outlet, puts, takes)?;
+        let lru = launch::<K, C, N, G, R, B>(rt, alloc, self, None, outlet, puts, takes)?;
         Ok(LedgerLru::new(lru, ledger, takers, room_for_puts, room_for_takes))
     }
 }

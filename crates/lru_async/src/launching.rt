@@ -1,5 +1,9 @@
 //! How the threads of an order are started.
-ghost use Rattle.std.specs.Prelude.{◌≡◌, ◌+◌, ◌%◌, ◌^◌, ◌<◌, vec_len, IfOk, OnOk};
+ghost use Rattle.std.specs.Prelude.{◌≡◌, ◌+◌, ◌%◌, ◌^◌, ◌<◌, [], vec_len, IfOk, OnOk, IsSome};
+ghost use Rattle.std.specs.Option.{ForSome};
+ghost use Rattle.lru_logs.specs.Logs.{hand, blank_logs, blank_fronts};
+ghost use Rattle.lru_inbox.specs.Inboxes.{taken_in};
+ghost use Rattle.lru_world.specs.Replying.{AreTakers, HasNothing};
 ghost use Rattle.std.specs.Arc.{arc_value};
 ghost use Rattle.lru_async.specs.Orders.{limits_of, limits_told, HasWorkers};
 
@@ -8,12 +12,16 @@ use crate::builder::AsyncLruBuilder;
 use crate::receiver::EvictionReceiver;
 use crate::refusals::BuildError;
 use crate::threads::{Placed, start_actor, start_callback_worker, start_eviction_worker};
+use lru_actors::message::LruMsg;
+use lru_inbox::Taker;
 use lru_ledgers::{PutSeat, Registry, TakeSeat};
 use lru_letters::ReplyCell;
+use lru_logs::tie::Archive;
+use lru_logs::voice::Voice;
 use lru_world::actor::Actor;
 use lru_world::callback::{AsyncEvictionCallback, Gate};
 use lru_world::outlet::Outlet;
-use lru_world::world::{Limits, World};
+use lru_world::world::{Limits, World, next_taker};
 use std::alloc::{AllocError, Global};
 use std::hash::Hash;
 use std::sync::{Arc, Wait};
@@ -44,17 +52,20 @@ pub(crate) fn launch<
     const N: usize,
     G: Gate + Drop + 'static,
     R: Threads + Wait + Copy + Send + 'static,
-    B: Registry + Send + Sync + 'static,
+    B: Registry + Archive + Send + Sync + 'static,
 >(
     rt: R,
     alloc: Global,
     builder: AsyncLruBuilder<K, C, N, G>,
+    logs: Option<Voice<LruMsg<K>, B>>,
     outlet: Outlet<K, B>,
     puts: Vec<PutSeat<B>>,
     takes: Vec<TakeSeat<B>>,
 ) -> Result<AsyncLru<K, N, B>, BuildError>
     requires some { 0 < N }
     requires ready { C.ready (arc_value builder.callback) }
+    requires logs { ForSome logs (λ v. v.token.me ≡ (hand (blank_logs 0 N) (blank_fronts 0 N) [], [])) }
+    requires shards { IsSome logs → B.shards ≡ N }
     ensures limits { IfOk result (λ lru. limits_of lru ≡ limits_told builder.settings) }
     ensures workers { IfOk result (λ lru. HasWorkers lru builder.settings) }
 {
@@ -63,7 +74,8 @@ pub(crate) fn launch<
         weight_limit: settings.weight_limit,
         len_watermark: settings.len_watermark,
     };
-    let world = World::new(alloc, N, settings.capacity, limits, outlet)?;
+    let mut logs = logs;
+    let world = World::new(alloc, &mut logs, N, settings.capacity, limits, outlet)?;
     let Ok(world) = Arc::new(alloc, world) else {
         return Err(BuildError::Memory);
     };
@@ -74,7 +86,7 @@ pub(crate) fn launch<
         eviction_workers: Vec::with_capacity(alloc, settings.num_eviction_workers)?,
         callback_workers: Vec::with_capacity(alloc, settings.num_callback_workers)?,
     };
-    if let Err(refused) = start::<K, C, N, G, R, B>(rt, &mut lru, &builder, puts, takes) {
+    if let Err(refused) = start::<K, C, N, G, R, B>(rt, &mut lru, &builder, logs, puts, takes) {
         lru.close(&rt);
         return Err(refused);
     }
@@ -88,22 +100,25 @@ fn start<
     const N: usize,
     G: Gate + Drop + 'static,
     R: Threads + Wait + Copy + Send + 'static,
-    B: Registry + Send + Sync + 'static,
+    B: Registry + Archive + Send + Sync + 'static,
 >(
     rt: R,
     lru: &mut AsyncLru<K, N, B>,
     builder: &AsyncLruBuilder<K, C, N, G>,
+    logs: Option<Voice<LruMsg<K>, B>>,
     puts: Vec<PutSeat<B>>,
     takes: Vec<TakeSeat<B>>,
 ) -> Result<(), BuildError>
     requires ready { C.ready (arc_value builder.now.callback) }
+    requires logs { AreTakers 0 N logs }
+    requires shards { IsSome logs → B.shards ≡ N }
     requires evicting { vec_len lru.old.eviction_workers ≡ 0 }
     requires calling { vec_len lru.old.callback_workers ≡ 0 }
     ensures world { lru.new.world ≡ lru.old.world }
     ensures workers { OnOk result (HasWorkers lru.new builder.now.settings) }
 {
     let settings = builder.settings;
-    lru.start_actors(rt, settings.capacity, &builder.gate, puts)?;
+    lru.start_actors(rt, logs, settings.capacity, &builder.gate, puts)?;
     lru.start_eviction_workers(rt, settings.num_eviction_workers, settings.seed)?;
     lru.start_callback_workers(rt, &builder.callback, settings.num_callback_workers, takes)
 }
@@ -111,23 +126,28 @@ fn start<
 impl<
     K: Hash + Eq + Clone + Drop + Send + Sync + 'static,
     const N: usize,
-    B: Registry + Send + Sync + 'static,
+    B: Registry + Archive + Send + Sync + 'static,
 > AsyncLru<K, N, B> {
     fn start_actors<G: Gate + Drop + 'static, R: Threads + Wait + Copy + Send + 'static>(
         &mut self,
         rt: R,
+        logs: Option<Voice<LruMsg<K>, B>>,
         capacity: usize,
         gate: &Option<Arc<G, Global>>,
         puts: Vec<PutSeat<B>>,
     ) -> Result<(), BuildError>
+        requires logs { AreTakers 0 N logs }
+        requires shards { IsSome logs → B.shards ≡ N }
         ensures world { self.new.world ≡ self.old.world }
         ensures workers { vec_len self.new.eviction_workers ≡ vec_len self.old.eviction_workers }
         ensures others { vec_len self.new.callback_workers ≡ vec_len self.old.callback_workers }
     {
+        let mut logs = logs;
         let mut puts = puts;
         puts.reverse();
         for shard in 0..N {
-            self.start_actor(rt, shard, capacity, gate, puts.pop())?;
+            let taker = next_taker(&mut logs, shard, N)?;
+            self.start_actor(rt, taker, capacity, gate, puts.pop())?;
         }
         Ok(())
     }
@@ -135,18 +155,19 @@ impl<
     fn start_actor<G: Gate + Drop + 'static, R: Threads + Wait + Copy + Send + 'static>(
         &mut self,
         rt: R,
-        shard: usize,
+        taker: Taker<K, B>,
         capacity: usize,
         gate: &Option<Arc<G, Global>>,
         seat: Option<PutSeat<B>>,
     ) -> Result<(), BuildError>
-        requires { shard < N }
+        requires nothing { HasNothing (taken_in taker.voice) }
+        requires shards { IsSome taker.voice → B.shards ≡ N }
         ensures world { self.new.world ≡ self.old.world }
         ensures workers { vec_len self.new.eviction_workers ≡ vec_len self.old.eviction_workers }
         ensures others { vec_len self.new.callback_workers ≡ vec_len self.old.callback_workers }
     {
         self.actors.reserve(1)?;
-        let actor = Actor::new(self.alloc, shard, N, capacity, seat)?;
+        let actor = Actor::new(self.alloc, taker, N, capacity, seat)?;
         let gate = match gate {
             Some(gate) => Some(Arc::try_clone(gate)?),
             None => None,
@@ -210,7 +231,7 @@ impl<
     }
 }
 
-impl<K: Drop, const N: usize, B: Registry> AsyncLru<K, N, B> {
+impl<K: Clone + Drop, const N: usize, B: Registry + Archive> AsyncLru<K, N, B> {
     // With a receiver of its evicted pairs.
     pub(crate) fn with_receiver(
         self,

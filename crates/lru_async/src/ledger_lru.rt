@@ -7,13 +7,14 @@ use crate::async_lru::AsyncLru;
 use crate::seats_back::{all_puts, all_takes, sole};
 use lru_ledger::Settled;
 use lru_ledgers::{LedgerBox, PutSeat, Registry, TakeSeat};
+use lru_logs::tie::Archive;
 use std::alloc::Global;
 use std::marker::Brand;
 use std::sync::{Arc, Wait};
 
 /// An [`AsyncLru`] whose evicted pairs go through a box: once it is closed, each of them was taken, is lost or is left.
 #[derive(Drop)]
-pub struct LedgerLru<K: Drop, const N: usize, B: Registry = Brand> {
+pub struct LedgerLru<K: Clone + Drop, const N: usize, B: Registry + Archive = Brand> {
     lru: AsyncLru<K, N, B>,
     ledger: Arc<LedgerBox<K, B>, Global>,
     takers: usize,
@@ -24,7 +25,7 @@ pub struct LedgerLru<K: Drop, const N: usize, B: Registry = Brand> {
     ghost takers_are: { B.takers ≡ takers },
 }
 
-impl<K: Drop, const N: usize, B: Registry> LedgerLru<K, N, B> {
+impl<K: Clone + Drop, const N: usize, B: Registry + Archive> LedgerLru<K, N, B> {
     ghost use Rattle.lru_async.specs.Orders.{order_of};
 
     pub(crate) fn new(

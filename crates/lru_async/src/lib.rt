@@ -6,6 +6,7 @@ pub mod async_lru;
 pub mod builder;
 mod launching;
 pub mod ledger_lru;
+pub mod logged_lru;
 pub mod receiver;
 pub mod refusals;
 mod seats_back;

@@ -1,5 +1,5 @@
 //! The messages that the calls of an order send, each with the shard that it is for; and what a refusal hands back.
-ghost use Rattle.std.specs.Prelude.{◌≡◌, ◌%◌, ◌<◌, Some, IsSome};
+ghost use Rattle.std.specs.Prelude.{◌≡◌, ◌%◌, ◌<◌, Some, IsSome, option_map};
 ghost use Rattle.lru_actors.specs.Keys.{hash_of};
 ghost use Rattle.lru_actors.specs.declared.message.LruMsg.TheVariants.{Admit, IncrementWeight, Promote, Remove, InsertTail};
 ghost use Rattle.lru_async.specs.Refusals.{held_in, SameCause};
@@ -9,7 +9,9 @@ use crate::refusals::SendRefused;
 use lru_actors::effect::Reply;
 use lru_actors::key::hash_key;
 use lru_actors::message::LruMsg;
+use lru_inbox::Told;
 use lru_letters::Letter;
+use lru_logs::tie::Archive;
 use lru_mailbox::MailError;
 use std::hash::Hash;
 
@@ -99,7 +101,9 @@ pub(crate) fn removal<K: Drop>(hash: u64, shards: usize) -> Addressed<K>
 }
 
 // Why a message was not sent, by why its mailbox refused the letter.
-pub(crate) fn refusal_of<K: Drop>(refused: MailError<Letter<K>>) -> SendRefused<LruMsg<K>>
+pub(crate) fn refusal_of<K: Drop, T: Drop>(
+    refused: MailError<Letter<K, T>>,
+) -> SendRefused<LruMsg<K>>
     requires { IsMailRefusal refused }
     ensures { Some result ≡ refused_by refused }
 {
@@ -132,6 +136,16 @@ fn key_of<K: Drop>(message: LruMsg<K>) -> K
         | LruMsg::IncrementWeight { key, .. }
         | LruMsg::InsertTail { key, .. } => key,
         _ => unreachable!(),
+    }
+}
+
+// The reply that a question was told, if it was.
+pub(crate) fn reply_in<K: Clone + Drop, B: Archive>(told: Option<Told<K, B>>) -> Option<Reply<K>>
+    ensures { result ≡ option_map (λ t. t.reply) told }
+{
+    match told {
+        Some(told) => Some(told.reply),
+        None => None,
     }
 }
 

@@ -73,7 +73,8 @@ fn two_shards(alloc: Global, first: usize, second: usize) -> Result<World<u64>, 
         weight_limit: 0,
         len_watermark: None,
     };
-    let world = World::new(alloc, 2, 0, limits, Outlet::Mailbox(Mailbox::new(alloc)))?;
+    let outlet = Outlet::Mailbox(Mailbox::new(alloc));
+    let world = World::new(alloc, &mut None, 2, 0, limits, outlet)?;
     world.count(0, &gained(first));
     world.count(1, &gained(second));
     Ok(world)
@@ -84,8 +85,8 @@ fn sent<R: Wait>(rt: &R, world: &World<u64>) -> (u64, u64)
     requires { vec_len world.now.shards ≡ 2 }
 {
     (
-        world.shards[0].mailbox.pushed(rt),
-        world.shards[1].mailbox.pushed(rt),
+        world.shards[0].mailbox.put_and_lost(rt).0,
+        world.shards[1].mailbox.put_and_lost(rt).0,
     )
 }
 

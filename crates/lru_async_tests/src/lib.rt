@@ -10,6 +10,8 @@ mod drawn;
 #[cfg(test)]
 mod limits;
 #[cfg(test)]
+mod logged;
+#[cfg(test)]
 mod replays;
 #[cfg(test)]
 mod rows;

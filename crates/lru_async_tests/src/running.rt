@@ -5,6 +5,7 @@ use crate::callbacks::{Counting, Holding, Meeting, Quiet, is_raised};
 use lru_async::async_lru::{AsyncLru, Closed};
 use lru_ledger::Settled;
 use lru_ledgers::{Blanks, Registry};
+use lru_logs::tie::Archive;
 use std::alloc::Global;
 use std::marker::Brand;
 use std::sync::atomic::Ordering;
@@ -90,7 +91,7 @@ fn a_held_shard_holds_up_no_other(rt: HostRuntime) -> Result<(), Fail> {
 }
 
 // Admits keys 1, 2 and 3 with weight 10, and waits until nothing is under way. Whether one was evicted then.
-fn fills<B: Registry, R: Wait>(rt: &R, lru: &AsyncLru<u64, 1, B>) -> bool {
+fn fills<B: Registry + Archive, R: Wait>(rt: &R, lru: &AsyncLru<u64, 1, B>) -> bool {
     for key in 1..4u64 {
         if lru.admit(rt, key, 10).is_err() {
             return false;
@@ -252,12 +253,10 @@ fn all_left(settled: &Settled<u64>) -> (usize, bool) {
 }
 
 // Fills an order whose pairs nobody takes, and closes it.
-fn untaken<B: Registry + Send + Sync + 'static, R: Threads + Wait + Copy + Send + Sync + 'static>(
-    rt: R,
-    alloc: Global,
-    quiet: Arc<Quiet, Global>,
-    blanks: Blanks,
-) -> Option<(bool, Settled<u64>)>
+fn untaken<
+    B: Registry + Archive + Send + Sync + 'static,
+    R: Threads + Wait + Copy + Send + Sync + 'static,
+>(rt: R, alloc: Global, quiet: Arc<Quiet, Global>, blanks: Blanks) -> Option<(bool, Settled<u64>)>
     requires tables { (blanks.puts.tie.table.shared.table_id ≡ B.puts) × (blanks.takes.tie.table.shared.table_id ≡ B.takes) }
     requires counts { (B.putters ≡ 1) × (B.takers ≡ 0) }
     requires blanks { (blanks.putters ≡ 1) × (blanks.takers ≡ 0) }

@@ -4,6 +4,7 @@ ghost use Rattle.std.specs.Arc.{arc_value};
 
 use lru_actors::effect::Reply;
 use lru_actors::message::LruMsg;
+use lru_inbox::{Taker, Told};
 use lru_letters::{Letter, ReplyCell};
 use lru_mailboxes::Mailbox;
 use lru_world::actor::Actor;
@@ -11,12 +12,13 @@ use lru_world::callback::{Gate, NoGate};
 use lru_world::outlet::Outlet;
 use lru_world::world::{Limits, World};
 use std::alloc::{AllocError, Global};
+use std::marker::Brand;
 use std::sync::atomic::{AtomicUsize, Ordering};
 use std::sync::{Arc, Wait};
 use std::test::Fail;
 
 /// What someone who asked looks into.
-type Cell = Arc<ReplyCell<Reply<u64>>, Global>;
+type Cell = Arc<ReplyCell<Told<u64, Brand>>, Global>;
 
 // A world of one shard, whose limits are not passed.
 fn one_shard(alloc: Global) -> Result<World<u64>, AllocError>
@@ -26,7 +28,8 @@ fn one_shard(alloc: Global) -> Result<World<u64>, AllocError>
         weight_limit: 1000,
         len_watermark: None,
     };
-    World::new(alloc, 1, 0, limits, Outlet::Mailbox(Mailbox::new(alloc)))
+    let outlet = Outlet::Mailbox(Mailbox::new(alloc));
+    World::new(alloc, &mut None, 1, 0, limits, outlet)
 }
 
 // Serves what waits in the only shard, and then nothing more.
@@ -39,7 +42,7 @@ fn serve<G: Gate, R: Wait>(
     requires { vec_len world.now.shards ≡ 1 }
 {
     world.shards[0].mailbox.close(rt);
-    let actor = Actor::new(alloc, 0, 1, 0, None)?;
+    let actor = Actor::new(alloc, Taker::new(0, None), 1, 0, None)?;
     let _seat = actor.run(rt, world, gate);
     Ok(())
 }
@@ -65,8 +68,8 @@ fn ask<R: Wait>(rt: &R, world: &World<u64>, alloc: Global) -> Result<Cell, Fail>
 
 // The weight that was answered.
 fn weight<R: Wait>(rt: &R, cell: &Cell) -> Option<usize> {
-    match cell.take(rt) {
-        Some(Reply::Weight(weight)) => Some(weight),
+    match cell.take(rt)?.reply {
+        Reply::Weight(weight) => Some(weight),
         _ => None,
     }
 }

@@ -4,6 +4,7 @@ ghost use Rattle.std.specs.Prelude.{◌≡◌};
 use lru_async::async_lru::AsyncLru;
 use lru_ledger::{Settled, Slip};
 use lru_ledgers::{Blanks, Registry};
+use lru_logs::tie::Archive;
 use lru_world::callback::AsyncEvictionCallback;
 use rand::RngExt;
 use rand::rngs::StdRng;
@@ -36,7 +37,11 @@ impl AsyncEvictionCallback<u64> for Adding {
 }
 
 // Fifty thousand drawn sends. Whether each was taken.
-fn draw_sends<B: Registry, R: Wait>(rt: &R, lru: &AsyncLru<u64, 4, B>, seed: u64) -> bool {
+fn draw_sends<B: Registry + Archive, R: Wait>(
+    rt: &R,
+    lru: &AsyncLru<u64, 4, B>,
+    seed: u64,
+) -> bool {
     let mut rng = StdRng::seed_from_u64(seed);
     let mut taken = true;
     for _ in 0..50_000u32 {
@@ -55,7 +60,7 @@ fn draw_sends<B: Registry, R: Wait>(rt: &R, lru: &AsyncLru<u64, 4, B>, seed: u64
 }
 
 // Four senders at once.
-fn four_send<B: Registry + Send + Sync, R: Threads + Wait + Sync>(
+fn four_send<B: Registry + Archive + Send + Sync, R: Threads + Wait + Sync>(
     rt: &R,
     lru: &AsyncLru<u64, 4, B>,
 ) -> bool {
@@ -93,12 +98,10 @@ fn all_sums(lists: &Vec<Vec<Slip>>) -> (usize, usize, usize) {
 }
 
 // Sends under a limit, and closes. Whether each send was taken, and what is settled; nothing where there are no threads.
-fn soaked<B: Registry + Send + Sync + 'static, R: Threads + Wait + Copy + Send + Sync + 'static>(
-    rt: R,
-    alloc: Global,
-    adding: Arc<Adding, Global>,
-    blanks: Blanks,
-) -> Option<(bool, Settled<u64>)>
+fn soaked<
+    B: Registry + Archive + Send + Sync + 'static,
+    R: Threads + Wait + Copy + Send + Sync + 'static,
+>(rt: R, alloc: Global, adding: Arc<Adding, Global>, blanks: Blanks) -> Option<(bool, Settled<u64>)>
     requires tables { (blanks.puts.tie.table.shared.table_id ≡ B.puts) × (blanks.takes.tie.table.shared.table_id ≡ B.takes) }
     requires counts { (B.putters ≡ 4) × (B.takers ≡ 2) }
     requires blanks { (blanks.putters ≡ 4) × (blanks.takers ≡ 2) }

@@ -2,21 +2,20 @@
 ghost use Rattle.std.specs.Prelude.{◌≡◌, Some, None};
 
 use crate::reply_cell::ReplyCell;
-use lru_actors::effect::Reply;
 use lru_actors::message::LruMsg;
 use std::alloc::Global;
 use std::sync::Arc;
 
-/// A message for an actor, and where it asks for something the cell for its reply. Who sends it makes the cell.
+/// A message for an actor, and where it asks for something the cell for what it is told. Who sends it makes the cell.
 #[derive(Drop)]
-pub struct Letter<K: Drop> {
+pub struct Letter<K: Drop, T: Drop> {
     /// The message.
     pub message: LruMsg<K>,
-    /// The cell for its reply.
-    pub cell: Option<Arc<ReplyCell<Reply<K>>, Global>>,
+    /// The cell for what it is told.
+    pub cell: Option<Arc<ReplyCell<T>, Global>>,
 }
 
-impl<K: Drop> Letter<K> {
+impl<K: Drop, T: Drop> Letter<K, T> {
     /// A message that asks for nothing.
     pub fn new(message: LruMsg<K>) -> Self
         ensures { (result.message ≡ message) × (result.cell ≡ None) }
@@ -27,8 +26,8 @@ impl<K: Drop> Letter<K> {
         }
     }
 
-    /// A message whose reply is to be given in this cell.
-    pub fn asking(message: LruMsg<K>, cell: Arc<ReplyCell<Reply<K>>, Global>) -> Self
+    /// A message that is to be told in this cell what it asks for.
+    pub fn asking(message: LruMsg<K>, cell: Arc<ReplyCell<T>, Global>) -> Self
         ensures { (result.message ≡ message) × (result.cell ≡ Some cell) }
     {
         Letter {

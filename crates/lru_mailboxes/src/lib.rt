@@ -2,5 +2,7 @@
 #![tactic(auto)]
 
 mod mailbox;
+mod shared;
 
 pub use mailbox::Mailbox;
+pub use shared::{Queued, Shared};

@@ -17,27 +17,27 @@ use Rattle.lru_actors.specs.declared.effect.Effect.{Effect}
 use Rattle.lru_actors.specs.Messages.{State, consumed, evicted_of}
 use Rattle.lru_actors.specs.Processing.{Processes, ProcessesAll}
 use Rattle.lru_schedules.specs.Turns.{sent, turn, turns_of, rows_after, leaving, evictions}
-use Rattle.lru_world.specs.declared.actor.Asked.{Asked}
+use Rattle.lru_world.specs.declared.bench.Asked.{Asked}
 use Rattle.lru_letters.specs.declared.letter.Letter.{Letter}
 use Rattle.lru_world.specs.Batch.{is_evict, asked_by, replied, weight_taken, rows_taken, pairs_evicted}
 
-module _ {K : Type 0} where
+module _ {K T : Type 0} where
   -- who is left to be answered gets the own reply
-  pub replied_more : (asked : List (Asked K)) (es : List (Effect K)) (e : Effect K) (d : Asked K) → length es < length asked
+  pub replied_more : (asked : List (Asked K T)) (es : List (Effect K)) (e : Effect K) (d : Asked K T) → length es < length asked
       → replied (set asked (length es) (record (get_or asked (length es) d) { reply = e.reply })) es ≡ replied asked (es ++ e ∷ [])
   replied_more [] es e d h = absurd (omega arith)
   replied_more (a ∷ later) [] e d h = refl
   replied_more (a ∷ later) (x ∷ es) e d h = ap (λ l. record a { reply = x.reply } ∷ l) (replied_more later es e d (omega arith))
 
   -- the reply of the last effect that is left goes to its place
-  pub noted : (asked : List (Asked K)) (left : List (Effect K)) (e : Effect K) (i : ℕ) (a : Asked K) → i ≡ length left → a ≡ get_or asked i a → length left < length asked
+  pub noted : (asked : List (Asked K T)) (left : List (Effect K)) (e : Effect K) (i : ℕ) (a : Asked K T) → i ≡ length left → a ≡ get_or asked i a → length left < length asked
       → replied (set asked i (record a { reply = e.reply })) left ≡ replied asked (left ++ e ∷ [])
   noted asked left e i a is_i is_a h =
       let there : a ≡ get_or asked (length left) a = is_a ∙ ap (λ j. get_or asked j a) is_i in
       (λ j. replied (set asked (is_i j) (record (there j) { reply = e.reply })) left) ∙ replied_more asked left e a h
 
   -- one message more
-  pub sum_step : (f : Asked K × Effect K → ℕ) (asked : List (Asked K)) (es : List (Effect K)) (i : ℕ) (a : Asked K) (e : Effect K) (old new : ℕ) → i < length es → length es ≡ length asked
+  pub sum_step : (f : Asked K T × Effect K → ℕ) (asked : List (Asked K T)) (es : List (Effect K)) (i : ℕ) (a : Asked K T) (e : Effect K) (old new : ℕ) → i < length es → length es ≡ length asked
       → a ≡ get_or asked i a → e ≡ get_or es i e → old ≡ sum_by f (take i (zip asked es)) % 2 ^ 64 → new ≡ (old + f (a, e)) % 2 ^ 64 → new ≡ sum_by f (take (i + 1) (zip asked es)) % 2 ^ 64
   sum_step f asked es i a e old new within same is_a is_e before is =
       let s = sum_by f (take i (zip asked es)) in
@@ -45,19 +45,30 @@ module _ {K : Type 0} where
       let one : f (get_or (zip asked es) i (a, e)) ≡ f (a, e) = ap f (get_or-zip asked es i (a, e) (omega arith) within) ∙ sym (λ j. f (is_a j, is_e j)) in
       is ∙ ap (λ n. (n + f (a, e)) % 2 ^ 64) before ∙ mod-add-mod s (2 ^ 64) (f (a, e)) ∙ ap (λ n. (s + n) % 2 ^ 64) (sym one) ∙ ap (λ n. n % 2 ^ 64) (sym (sum_by_more f (zip asked es) i (a, e) (omega arith)))
 
-  pub sum_end : (f : Asked K × Effect K → ℕ) (asked : List (Asked K)) (es : List (Effect K)) (i : ℕ) (n : ℕ) → length es ≤ i → n ≡ sum_by f (take i (zip asked es)) % 2 ^ 64 → n ≡ sum_by f (zip asked es) % 2 ^ 64
+  pub sum_end : (f : Asked K T × Effect K → ℕ) (asked : List (Asked K T)) (es : List (Effect K)) (i : ℕ) (n : ℕ) → length es ≤ i → n ≡ sum_by f (take i (zip asked es)) % 2 ^ 64 → n ≡ sum_by f (zip asked es) % 2 ^ 64
   sum_end f asked es i n past is =
       let long : length (zip asked es) ≡ min (length asked) (length es) = length-zip asked es in
       is ∙ ap (λ l. sum_by f l % 2 ^ 64) (take_all i (zip asked es) (omega arith))
 
-  abbrev pub flags : List (Asked K) → List Bool
-  flags asked = map (λ (a : Asked K). a.evicts) asked
+  abbrev pub flags : List (Asked K T) → List Bool
+  flags asked = map (λ (a : Asked K T). a.evicts) asked
 
   -- the flags of those who asked are those of the messages
-  pub flags_asked : (letters : List (Letter K)) → flags (map asked_by letters) ≡ map is_evict (map (λ (l : Letter K). l.message) letters)
+  pub flags_asked : (letters : List (Letter K T)) → flags (map asked_by letters) ≡ map is_evict (map (λ (l : Letter K T). l.message) letters)
   flags_asked [] = refl
   flags_asked (l ∷ letters) = ap (λ fs. is_evict l.message ∷ fs) (flags_asked letters)
 
+  pub asked_length : (letters : List (Letter K T)) → length (map asked_by letters) ≡ length letters
+  asked_length letters = length-map letters asked_by
+
+  pub record AllTaken (rows : List (Row K)) (msgs : List (LruMsg K)) (es : List (Effect K)) (asked : List (Asked K T)) : Type 0 where
+    pub weight : sum_by weight_taken (zip asked es) ≡ sum_by (λ (p : K × ℕ). p.1) (pairs_evicted rows msgs es)
+    pub len : sum_by rows_taken (zip asked es) ≡ length (pairs_evicted rows msgs es)
+
+  pub length-flags : (asked : List (Asked K T)) → length (flags asked) ≡ length asked
+  length-flags asked = length-map asked (λ (a : Asked K T). a.evicts)
+
+module _ {K : Type 0} where
   -- what one message takes
   record Takes (rows : List (Row K)) (msg : LruMsg K) (e : Effect K) : Type 0 where
     weight : cond (is_evict msg) (e.weight_before - e.weight_after) 0 ≡ sum_by (λ (p : K × ℕ). p.1) (leaving rows (turn (sent None msg) e))
@@ -104,13 +115,6 @@ module _ {K : Type 0} where
         len = (λ i. lb i - la i) ∙ t.1 ∙ sym (ap length left);
       }
 
-  pub record AllTaken (rows : List (Row K)) (msgs : List (LruMsg K)) (es : List (Effect K)) (asked : List (Asked K)) : Type 0 where
-    pub weight : sum_by weight_taken (zip asked es) ≡ sum_by (λ (p : K × ℕ). p.1) (pairs_evicted rows msgs es)
-    pub len : sum_by rows_taken (zip asked es) ≡ length (pairs_evicted rows msgs es)
-
-  pub length-flags : (asked : List (Asked K)) → length (flags asked) ≡ length asked
-  length-flags asked = length-map asked (λ (a : Asked K). a.evicts)
-
   module _ (IsClone : K → K → Type 0) {D : Type 0} (Puts : D → ℕ → K → ℕ → D → Type 0) (IsSame : D → D → Type 0) (queue : D → Queue K) (MayRefuse : D → Type 0) where
     evict_takes : (old : State K) (look : ℕ → Option ℕ) (d : D) (e : Effect K) (new : State K) (look' : ℕ → Option ℕ) (d' : D)
         → Processes Puts IsSame queue IsClone MayRefuse old look d Evict e new look' d' → Takes old.shard.rows Evict e
@@ -143,20 +147,6 @@ module _ {K : Type 0} where
     next_rows old look d msg e new look' d' (inr t) =
         cond-true e.refused old.shard.rows (consumed old.shard.rows msg) t.refused.refused ∙ sym (ap (λ (z : State K). z.shard.rows) t.refused.left)
 
-    same_cap : (old : State K) (look : ℕ → Option ℕ) (d : D) (msg : LruMsg K) (e : Effect K) (new : State K) (look' : ℕ → Option ℕ) (d' : D)
-        → Processes Puts IsSame queue IsClone MayRefuse old look d msg e new look' d' → new.shard.cap ≡ old.shard.cap
-    same_cap old look d msg e new look' d' (inl s) = ap (λ (z : State K). z.shard.cap) s.done.left
-    same_cap old look d msg e new look' d' (inr t) = ap (λ (z : State K). z.shard.cap) t.refused.left
-
-    -- a batch leaves the cap
-    pub caps_kept : (msgs : List (LruMsg K)) (es : List (Effect K)) (old : State K) (look : ℕ → Option ℕ) (d : D) (new : State K) (look' : ℕ → Option ℕ) (d' : D)
-        → ProcessesAll Puts IsSame queue IsClone MayRefuse old look d msgs es new look' d' → new.shard.cap ≡ old.shard.cap
-    caps_kept [] [] old look d new look' d' p = ap (λ (z : State K). z.shard.cap) p.0
-    caps_kept [] (e ∷ es) old look d new look' d' p = absurd p
-    caps_kept (m ∷ ms) [] old look d new look' d' p = absurd p
-    caps_kept (m ∷ ms) (e ∷ es) old look d new look' d' p =
-        caps_kept ms es p.0 p.1.0 p.1.1.0 new look' d' p.1.1.1.1 ∙ same_cap old look d m e p.0 p.1.0 p.1.1.0 p.1.1.1.0
-
     -- each message has an effect
     pub as_many : (msgs : List (LruMsg K)) (es : List (Effect K)) (old : State K) (look : ℕ → Option ℕ) (d : D) (new : State K) (look' : ℕ → Option ℕ) (d' : D)
         → ProcessesAll Puts IsSame queue IsClone MayRefuse old look d msgs es new look' d' → length es ≡ length msgs
@@ -165,7 +155,7 @@ module _ {K : Type 0} where
     as_many (m ∷ ms) [] old look d new look' d' p = absurd p
     as_many (m ∷ ms) (e ∷ es) old look d new look' d' p = ap suc (as_many ms es p.0 p.1.0 p.1.1.0 new look' d' p.1.1.1.1)
 
-    pub all_taken : (msgs : List (LruMsg K)) (es : List (Effect K)) (asked : List (Asked K)) (old : State K) (look : ℕ → Option ℕ) (d : D) (new : State K) (look' : ℕ → Option ℕ) (d' : D)
+    pub all_taken : {T : Type 0} (msgs : List (LruMsg K)) (es : List (Effect K)) (asked : List (Asked K T)) (old : State K) (look : ℕ → Option ℕ) (d : D) (new : State K) (look' : ℕ → Option ℕ) (d' : D)
         → ProcessesAll Puts IsSame queue IsClone MayRefuse old look d msgs es new look' d' → flags asked ≡ map is_evict msgs → AllTaken old.shard.rows msgs es asked
     all_taken [] [] [] old look d new look' d' p f = record { weight = refl; len = refl }
     all_taken [] [] (a ∷ later) old look d new look' d' p f = absurd (cc)

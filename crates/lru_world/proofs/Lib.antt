@@ -2,3 +2,4 @@ mod Apart
 pub mod Evicted
 mod Heaviest
 mod PastLimits
+pub mod Replying

@@ -7,7 +7,7 @@ use Rattle.lru_actors.specs.declared.effect.Effect.{Effect}
 use Rattle.lru_actors.specs.Messages.{State}
 use Rattle.lru_letters.specs.declared.letter.Letter.{Letter}
 use Rattle.lru_schedules.specs.Turns.{sent, turns_of, evictions}
-use Rattle.lru_world.specs.declared.actor.Asked.{Asked}
+use Rattle.lru_world.specs.declared.bench.Asked.{Asked}
 use Rattle.lru_world.specs.declared.world.Change.{Change}
 
 -- the weight that a hash was set to; 0 where none was set
@@ -33,23 +33,6 @@ module _ {K : Type 0} where
   stays_inside QueryWeight = true
   stays_inside _ = false
 
-  -- what is kept of a letter, before its message is processed
-  abbrev pub asked_by : Letter K → Asked K
-  asked_by l = record { evicts = is_evict l.message; cell = l.cell; reply = None }
-
-  -- those who asked, each with the reply of the effect of its own message
-  abbrev pub replied : List (Asked K) → List (Effect K) → List (Asked K)
-  replied asked [] = asked
-  replied [] (e ∷ es) = []
-  replied (a ∷ later) (e ∷ es) = record a { reply = e.reply } ∷ replied later es
-
-  -- the weight of the row that a message's eviction took, and how many rows it took
-  abbrev pub weight_taken : Asked K × Effect K → ℕ
-  weight_taken p = if p.0.evicts then p.1.weight_before - p.1.weight_after else 0
-
-  abbrev pub rows_taken : Asked K × Effect K → ℕ
-  rows_taken p = if p.0.evicts then p.1.len_before - p.1.len_after else 0
-
   -- the pairs that a batch evicts, in order: those of the law's turns
   abbrev pub pairs_evicted : List (Row K) → List (LruMsg K) → List (Effect K) → List (K × ℕ)
   pairs_evicted rows msgs effects = evictions rows (turns_of (map (λ m. sent None m) msgs) effects)
@@ -72,3 +55,21 @@ module _ {K : Type 0} where
     pub evicted_len : c.evicted_len ≡ length (pairs_evicted old.shard.rows msgs effects) % 2 ^ 64
     pub refused : c.refused ≡ new.refused
     pub heaviest : c.heaviest ≡ heaviest_put effects
+
+module _ {K T : Type 0} where
+  -- what is kept of a letter, before its message is processed
+  abbrev pub asked_by : Letter K T → Asked K T
+  asked_by l = record { evicts = is_evict l.message; cell = l.cell; reply = None }
+
+  -- those who asked, each with the reply of the effect of its own message
+  abbrev pub replied : List (Asked K T) → List (Effect K) → List (Asked K T)
+  replied asked [] = asked
+  replied [] (e ∷ es) = []
+  replied (a ∷ later) (e ∷ es) = record a { reply = e.reply } ∷ replied later es
+
+  -- the weight of the row that a message's eviction took, and how many rows it took
+  abbrev pub weight_taken : Asked K T × Effect K → ℕ
+  weight_taken p = if p.0.evicts then p.1.weight_before - p.1.weight_after else 0
+
+  abbrev pub rows_taken : Asked K T × Effect K → ℕ
+  rows_taken p = if p.0.evicts then p.1.len_before - p.1.len_after else 0

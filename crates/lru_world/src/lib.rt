@@ -4,6 +4,7 @@
 
 pub mod actor;
 pub mod asking;
+mod bench;
 pub mod callback;
 pub mod outlet;
 mod rest;

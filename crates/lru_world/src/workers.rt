@@ -5,10 +5,9 @@ ghost use Rattle.lru_rules.specs.Victims.{longer_of};
 use crate::callback::AsyncEvictionCallback;
 use crate::outlet::Taken;
 use crate::world::World;
-use lru_actors::message::LruMsg;
 use lru_actors::process::choose_victim;
 use lru_ledgers::{Registry, TakeSeat};
-use lru_letters::Letter;
+use lru_logs::tie::Archive;
 use rand::RngExt;
 use rand_core::Rng;
 use std::sync::Wait;
@@ -17,7 +16,11 @@ use std::thread;
 
 /// What an eviction worker does: it waits for the trigger, and then asks for evictions while a limit is passed. It ends
 /// once the trigger is stopped.
-pub fn evict<K: Drop, G: Rng + Drop, R: Wait, B: Registry>(rt: &R, world: &World<K, B>, mut rng: G)
+pub fn evict<K: Clone + Drop, G: Rng + Drop, R: Wait, B: Registry + Archive>(
+    rt: &R,
+    world: &World<K, B>,
+    mut rng: G,
+)
     requires { 0 < vec_len world.now.shards }
 {
     let mut seen = 0;
@@ -32,7 +35,11 @@ pub fn evict<K: Drop, G: Rng + Drop, R: Wait, B: Registry>(rt: &R, world: &World
 }
 
 // Asks for evictions while a limit is passed and no stop is raised, but for none that those under way may make needless.
-fn evict_while_over<K: Drop, G: Rng, R: Wait, B: Registry>(rt: &R, world: &World<K, B>, rng: &mut G)
+fn evict_while_over<K: Clone + Drop, G: Rng, R: Wait, B: Registry + Archive>(
+    rt: &R,
+    world: &World<K, B>,
+    rng: &mut G,
+)
     requires { 0 < vec_len world.now.shards }
 {
     for _ in rt.forever() {
@@ -48,7 +55,11 @@ fn evict_while_over<K: Drop, G: Rng, R: Wait, B: Registry>(rt: &R, world: &World
 
 // Asks the longer one of two drawn shards for an eviction, with leave to ask for one. It may refuse; then the leave is given
 // back, and the next look asks again.
-fn ask_one<K: Drop, G: Rng, R: Wait, B: Registry>(rt: &R, world: &World<K, B>, rng: &mut G)
+fn ask_one<K: Clone + Drop, G: Rng, R: Wait, B: Registry + Archive>(
+    rt: &R,
+    world: &World<K, B>,
+    rng: &mut G,
+)
     requires { 0 < vec_len world.now.shards }
 {
     let count = world.shards.len();
@@ -60,9 +71,7 @@ fn ask_one<K: Drop, G: Rng, R: Wait, B: Registry>(rt: &R, world: &World<K, B>, r
         (a, b)
     };
     let victim = longer(look_at(world, a), look_at(world, b));
-    let asked = world.shards[victim]
-        .mailbox
-        .push_evict(rt, Letter::new(LruMsg::Evict));
+    let asked = world.shards[victim].mailbox.push_evict(rt);
     if asked.is_err() {
         world.evictions_done(1);
     }
@@ -76,7 +85,7 @@ struct Drawn {
 }
 
 // Looks at a shard.
-fn look_at<K: Drop, B: Registry>(world: &World<K, B>, shard: usize) -> Drawn
+fn look_at<K: Clone + Drop, B: Registry + Archive>(world: &World<K, B>, shard: usize) -> Drawn
     requires { shard < vec_len world.now.shards }
     ensures { result.shard ≡ shard }
 {
@@ -95,7 +104,7 @@ fn longer(a: Drawn, b: Drawn) -> usize
 
 /// What a callback worker does: it takes pairs one at a time and calls the callback with each, until all is closed and
 /// empty. It gives its seat back.
-pub fn call_back<K: Drop, C: AsyncEvictionCallback<K>, R: Wait, B: Registry>(
+pub fn call_back<K: Clone + Drop, C: AsyncEvictionCallback<K>, R: Wait, B: Registry + Archive>(
     rt: &R,
     world: &World<K, B>,
     callback: &C,

@@ -1,15 +1,23 @@
 //! What actors, workers and callers share.
-ghost use Rattle.std.specs.Prelude.{◌≡◌, ◌<◌, vec_len, IfOk};
+ghost use Rattle.std.specs.Prelude.{◌≡◌, ◌+◌, ◌-◌, ◌<◌, [], vec_len, IfOk, OnOk, IsSome, is_some};
+ghost use Rattle.std.specs.Option.{ForSome};
+ghost use Rattle.lru_logs.specs.Logs.{log, hand, of_log, blank_logs, blank_fronts};
+ghost use Rattle.lru_inbox.specs.Inboxes.{taken_in};
+ghost use Rattle.lru_world.specs.Replying.{HasNothing, AreTakers};
 
 use crate::asking::{Held, may_ask};
 use crate::outlet::Outlet;
 use crate::rest::Rest;
 use crate::trigger::Trigger;
+use lru_actors::message::LruMsg;
+use lru_inbox::Taker;
 use lru_ledgers::Registry;
 use lru_letters::Letter;
-use lru_mailboxes::Mailbox;
+use lru_logs::tie::Archive;
+use lru_logs::voice::Voice;
 use lru_rules::counters::shift;
 use lru_rules::eviction::is_past;
+use lru_shared_inbox::SharedInbox;
 use lru_short_locks::ShortLock;
 use std::alloc::{AllocError, Global};
 use std::collections::HashMap;
@@ -28,9 +36,9 @@ pub struct Limits {
 
 /// What is shared of one shard.
 #[derive(Drop)]
-pub struct ShardPlace<K: Drop> {
+pub struct ShardPlace<K: Clone + Drop, B: Archive> {
     /// The messages that its actor is to take.
-    pub mailbox: Mailbox<Letter<K>>,
+    pub mailbox: SharedInbox<K, B>,
     /// The weight of each row, by hash.
     pub map: ShortLock<HashMap<u64, usize>>,
     /// How many rows there are.
@@ -41,11 +49,19 @@ pub struct ShardPlace<K: Drop> {
     served: AtomicU64,
 }
 
-impl<K: Drop> ShardPlace<K> {
-    /// An empty shard with room for so many weights.
-    pub fn new(alloc: Global, capacity: usize) -> Result<Self, AllocError> {
+impl<K: Clone + Drop, B: Archive> ShardPlace<K, B> {
+    /// The place of an empty shard of this number, with room for so many weights, and its empty log, if
+    /// there is one.
+    pub fn new(
+        alloc: Global,
+        shard: usize,
+        voice: Option<Voice<LruMsg<K>, B>>,
+        capacity: usize,
+    ) -> Result<Self, AllocError>
+        requires { ForSome voice (λ v. v.token.me ≡ (of_log (log shard [] []), [])) }
+    {
         Ok(ShardPlace {
-            mailbox: Mailbox::new(alloc),
+            mailbox: SharedInbox::new(alloc, shard, voice),
             map: ShortLock::new(HashMap::with_capacity(alloc, capacity)?),
             len: AtomicUsize::new(0),
             refused: AtomicU64::new(0),
@@ -57,10 +73,9 @@ impl<K: Drop> ShardPlace<K> {
     fn all_served(&self, rt: &impl Wait) -> Option<u64> {
         // counted after they are taken, so they are read first
         let served = self.served.load(Ordering::SeqCst);
-        let state = self.mailbox.lend(rt);
-        let pushed = state.pushed();
-        if served.wrapping_add(state.lost()) == pushed {
-            Some(pushed)
+        let (put, lost) = self.mailbox.put_and_lost(rt);
+        if served.wrapping_add(lost) == put {
+            Some(put)
         } else {
             None
         }
@@ -107,9 +122,9 @@ pub struct Change {
 
 /// What actors, workers and callers share.
 #[derive(Drop)]
-pub struct World<K: Drop, B: Registry = Brand> {
+pub struct World<K: Clone + Drop, B: Registry + Archive = Brand> {
     /// The shards.
-    pub shards: Vec<ShardPlace<K>>,
+    pub shards: Vec<ShardPlace<K, B>>,
     /// Where evicted pairs wait.
     pub outlet: Outlet<K, B>,
     /// What eviction workers wait for.
@@ -136,20 +151,24 @@ fn add(counter: &AtomicUsize, amount: usize) {
     }
 }
 
-impl<K: Drop, B: Registry> World<K, B> {
-    /// So many empty shards, each with room for `capacity` rows.
+impl<K: Clone + Drop, B: Registry + Archive> World<K, B> {
+    /// So many empty shards, each with room for `capacity` rows. Where there are logs, `logs` speaks for all of them and for those
+    /// who take, and then for those alone.
     pub fn new(
         alloc: Global,
+        logs: &mut Option<Voice<LruMsg<K>, B>>,
         count: usize,
         capacity: usize,
         limits: Limits,
         outlet: Outlet<K, B>,
     ) -> Result<Self, AllocError>
+        requires { ForSome logs.old (λ v. v.token.me ≡ (hand (blank_logs 0 count) (blank_fronts 0 count) [], [])) }
         ensures count { IfOk result (λ world. vec_len world.shards ≡ count) }
         ensures limits { IfOk result (λ world. world.limits ≡ limits) }
+        ensures logs { OnOk result (AreTakers 0 count logs.new × (is_some logs.new ≡ is_some logs.old)) }
     {
         Ok(World {
-            shards: empty_places(alloc, count, capacity)?,
+            shards: empty_places(alloc, logs, count, capacity)?,
             outlet,
             trigger: Trigger::new(),
             limits,
@@ -314,16 +333,74 @@ impl<K: Drop, B: Registry> World<K, B> {
     }
 }
 
-fn empty_places<K: Drop>(
+/// One who takes from the next shard, and took nothing. Where there are logs, `rest` speaks for those who take from this shard and
+/// from those after it, and then for those alone.
+pub fn next_taker<K: Drop, B: Archive>(
+    rest: &mut Option<Voice<LruMsg<K>, B>>,
+    shard: usize,
+    count: usize,
+) -> Result<Taker<K, B>, AllocError>
+    requires below { shard < count }
+    requires rest { AreTakers shard (count - shard) rest.old }
+    ensures shard { IfOk result (λ taker. taker.shard ≡ shard) }
+    ensures nothing { IfOk result (λ taker. HasNothing (taken_in taker.voice)) }
+    ensures logged { IfOk result (λ taker. IsSome taker.voice → IsSome rest.old) }
+    ensures rest { OnOk result (AreTakers (shard + 1) (count - (shard + 1)) rest.new × (is_some rest.new ≡ is_some rest.old)) }
+{
+    let Some(voice) = rest else {
+        return Ok(Taker::new(shard, None));
+    };
+    let voice = voice.next_taker()?;
+    Ok(Taker::new(shard, Some(voice)))
+}
+
+// The places of so many shards: with logs, where there is what speaks for them.
+fn empty_places<K: Clone + Drop, B: Archive>(
+    alloc: Global,
+    logs: &mut Option<Voice<LruMsg<K>, B>>,
+    count: usize,
+    capacity: usize,
+) -> Result<Vec<ShardPlace<K, B>>, AllocError>
+    requires { ForSome logs.old (λ v. v.token.me ≡ (hand (blank_logs 0 count) (blank_fronts 0 count) [], [])) }
+    ensures places { IfOk result (λ places. vec_len places ≡ count) }
+    ensures logs { OnOk result (AreTakers 0 count logs.new × (is_some logs.new ≡ is_some logs.old)) }
+{
+    match logs {
+        Some(rest) => logged_places(alloc, rest, count, capacity),
+        None => plain_places(alloc, count, capacity),
+    }
+}
+
+// The places of so many shards without logs.
+fn plain_places<K: Clone + Drop, B: Archive>(
     alloc: Global,
     count: usize,
     capacity: usize,
-) -> Result<Vec<ShardPlace<K>>, AllocError>
+) -> Result<Vec<ShardPlace<K, B>>, AllocError>
     ensures { IfOk result (λ places. vec_len places ≡ count) }
 {
     let mut places = Vec::with_capacity(alloc, count)?;
-    for _ in 0..count {
-        places.push(ShardPlace::new(alloc, capacity)?)?;
+    for shard in 0..count {
+        places.push(ShardPlace::new(alloc, shard, None, capacity)?)?;
+    }
+    Ok(places)
+}
+
+// The places of so many shards with their logs. What spoke for all logs and those who take then speaks for those alone.
+fn logged_places<K: Clone + Drop, B: Archive>(
+    alloc: Global,
+    rest: &mut Voice<LruMsg<K>, B>,
+    count: usize,
+    capacity: usize,
+) -> Result<Vec<ShardPlace<K, B>>, AllocError>
+    requires { rest.old.token.me ≡ (hand (blank_logs 0 count) (blank_fronts 0 count) [], []) }
+    ensures all { IfOk result (λ places. vec_len places ≡ count) }
+    ensures rest { OnOk result (rest.new.token.me ≡ (hand [] (blank_fronts 0 count) [], [])) }
+{
+    let mut places = Vec::with_capacity(alloc, count)?;
+    for shard in 0..count {
+        let voice = rest.next_log()?;
+        places.push(ShardPlace::new(alloc, shard, Some(voice), capacity)?)?;
     }
     Ok(places)
 }

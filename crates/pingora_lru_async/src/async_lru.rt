@@ -19,12 +19,18 @@ pub use lru_async::async_lru::{AsyncLru, Closed, ShardData};
 pub use lru_async::builder::{AsyncLruBuilder, Settings};
 /// One whose evicted pairs are counted.
 pub use lru_async::ledger_lru::LedgerLru;
+/// One that keeps logs.
+pub use lru_async::logged_lru::LoggedLru;
 /// A receiver of its evicted pairs.
 pub use lru_async::receiver::EvictionReceiver;
 /// Why a message was not sent, and why nothing was built.
 pub use lru_async::refusals::{BuildError, SendRefused};
 /// Where evicted pairs go.
 pub use lru_dispatch::{Dispatch, Putter};
+/// Who calls an order with logs.
+pub use lru_inbox::Caller;
+/// What names the logs of an order, and a blank to build one from.
+pub use lru_logs::tie::{Archive, Blank as LogBlank};
 /// Messages on their way, with the cells for their replies.
 pub use lru_letters::{Letter, ReplyCell};
 /// The law over every schedule, and that a batch is so many of its events.

@@ -1,4 +1,3 @@
-use Rattle.std.proofs.Common.{rules}
 use denote.Param.Send.{sendable}
 use Rattle.lru_async.proofs.threads.fn.start_actor.job.Goals as goal
 

@@ -1,0 +1,13 @@
+//! An actor's messages with their log: who puts a message knows that it stands there, who takes messages knows which they are,
+//! and who asked learns of which beginning of the log the reply tells.
+#![tactic(auto)]
+
+mod caller;
+mod inbox;
+mod taker;
+mod told;
+
+pub use caller::Caller;
+pub use inbox::Inbox;
+pub use taker::Taker;
+pub use told::Told;

@@ -1,0 +1,7 @@
+//! Logs of what mailboxes accepted. They exist in the proofs alone: tokens of one table, which take no bytes, know them. Who
+//! puts messages, who takes them and who is answered then agree on one order of the messages of each shard.
+#![tactic(auto)]
+
+pub mod hand;
+pub mod tie;
+pub mod voice;
