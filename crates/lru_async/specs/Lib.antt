@@ -1,4 +1,1 @@
 pub mod Orders
-pub mod Refusals
-pub mod Sends
-pub mod Logged

@@ -1,13 +1,14 @@
 -- What is known of an order served by actors, whatever its threads do.
 use Rattle.std.specs.Prelude.{◌≡◌, ℕ, None, vec_len}
 use Rattle.std.specs.Arc.{arc_value}
+use Rattle.std.specs.declared.alloc.Global.{Global}
 use Rattle.std.specs.declared.clone.Clone as clone
 use Rattle.lru_desks.specs.declared.tie.Registry as registry
 use Rattle.lru_logs.specs.declared.tie.Archive as archive
 use Rattle.lru_world.specs.declared.world.Limits.{Limits}
+use Rattle.lru_world.specs.declared.world.World.{World}
 use Rattle.lru_async.specs.declared.async_lru.AsyncLru.{AsyncLru}
 use Rattle.lru_async.specs.declared.ledger_lru.LedgerLru.{LedgerLru}
-use Rattle.lru_async.specs.declared.logged_lru.LoggedLru.{LoggedLru}
 use Rattle.lru_async.specs.declared.builder.Settings.{Settings}
 
 -- what a builder goes by that was told a limit on the weight alone
@@ -18,7 +19,15 @@ untold limit = record { weight_limit = limit; len_watermark = None; capacity = 0
 abbrev pub limits_told : Settings → Limits
 limits_told settings = record { weight_limit = settings.weight_limit; len_watermark = settings.len_watermark }
 
--- what an order has
+-- what the threads of an order share
+abbrev pub world_of : {K : Type 0} {N : ℕ} {B : Type 0} {C : clone.Ghosts K} {R : registry.Ghosts B} {A : archive.Ghosts B} → AsyncLru K N B C R A → World K B C R A
+world_of lru = arc_value lru.world
+
+-- what its memory comes from
+abbrev pub alloc_of : {K : Type 0} {N : ℕ} {B : Type 0} {C : clone.Ghosts K} {R : registry.Ghosts B} {A : archive.Ghosts B} → AsyncLru K N B C R A → Global
+alloc_of lru = lru.alloc
+
+-- the limits that an order has
 abbrev pub limits_of : {K : Type 0} {N : ℕ} {B : Type 0} {C : clone.Ghosts K} {R : registry.Ghosts B} {A : archive.Ghosts B} → AsyncLru K N B C R A → Limits
 limits_of lru = (arc_value lru.world).limits
 
@@ -30,7 +39,3 @@ pub record HasWorkers {K : Type 0} {N : ℕ} {B : Type 0} {C : clone.Ghosts K} {
 -- the order of one whose evicted pairs are counted
 abbrev pub order_of : {K : Type 0} {N : ℕ} {B : Type 0} {C : clone.Ghosts K} {R : registry.Ghosts B} {A : archive.Ghosts B} → LedgerLru K N B C R A → AsyncLru K N B C R A
 order_of ledger = ledger.lru
-
--- and that of one that keeps logs
-abbrev pub logged_order : {K : Type 0} {N : ℕ} {B : Type 0} {C : clone.Ghosts K} {R : registry.Ghosts B} {A : archive.Ghosts B} → LoggedLru K N B C R A → AsyncLru K N B C R A
-logged_order logged = logged.lru

@@ -2,22 +2,22 @@
 ghost use Rattle.std.specs.Prelude.{◌≡◌, ◌%◌, ◌<◌, ◌≤◌, vec_len, IfOk, IfErr, Ok, Some, None};
 ghost use Rattle.std.specs.Arc.{arc_value};
 ghost use Rattle.lru_actors.specs.Keys.{hash_of};
-ghost use Rattle.lru_async.specs.Refusals.{held_in};
+ghost use Rattle.lru_sends.specs.Refusals.{held_in};
 
 use crate::builder::AsyncLruBuilder;
-use crate::launching::cell_and_clone;
-use crate::refusals::SendRefused;
-use crate::sends::{
-    Addressed, admission, answer_of, increment, key_back, promotion, refusal_of, removal, reply_in,
-    shard_of, tail_row,
-};
 use log::{Log, error};
 use lru_actors::effect::Reply;
 use lru_actors::key::hash_key;
 use lru_actors::message::LruMsg;
-use lru_ledgers::{PutSeat, Registry, TakeSeat};
 use lru_letters::{Letter, ReplyCell};
 use lru_logs::tie::Archive;
+use lru_sends::cells::cell_and_clone;
+use lru_sends::refusals::SendRefused;
+use lru_sends::sends::{
+    Addressed, admission, answer_of, increment, key_back, promotion, refusal_of, removal, reply_in,
+    shard_of, tail_row,
+};
+use lru_shared_ledger::{PutSeat, Registry, TakeSeat};
 use lru_world::callback::NoGate;
 use lru_world::world::World;
 use std::alloc::Global;
@@ -313,7 +313,22 @@ impl<
 }
 
 impl<K: Clone + Drop, const N: usize, B: Registry + Archive> AsyncLru<K, N, B> {
-    ghost use Rattle.lru_async.specs.Orders.{limits_of};
+    ghost use Rattle.lru_async.specs.Orders.{alloc_of, limits_of, world_of};
+
+    /// What its threads share, for a layer of yours that sends otherwise than its calls do.
+    pub fn world(&self) -> &World<K, B>
+        ensures world { result.now ≡ world_of self.now }
+        ensures shards { vec_len result.now.shards ≡ N }
+    {
+        &*self.world
+    }
+
+    /// What its memory comes from.
+    pub fn alloc(&self) -> Global
+        ensures { result ≡ alloc_of self.now }
+    {
+        self.alloc
+    }
 
     /// Wakes the eviction workers, which ask for evictions while a limit is passed.
     pub fn trigger_eviction(&self, rt: &impl Wait) {
@@ -337,16 +352,20 @@ impl<K: Clone + Drop, const N: usize, B: Registry + Archive> AsyncLru<K, N, B> {
     pub fn close(self, rt: &impl Wait) -> Closed {
         let mut puts = Vec::new(self.alloc);
         let mut takes = Vec::new(self.alloc);
-        self.end(rt, &mut puts, &mut takes)
+        let (closed, _world) = self.end(rt, &mut puts, &mut takes);
+        closed
     }
 
-    // Shuts down, waits for all threads, and gathers the seats that they give back.
-    pub(crate) fn end(
+    /// As `close`, for a layer of yours that accounts for all: it gathers the seats that threads give back, and answers what they
+    /// shared too, which they have let go. A seat for which there is no memory is lost.
+    pub fn end(
         self,
         rt: &impl Wait,
         puts: &mut Vec<PutSeat<B>>,
         takes: &mut Vec<TakeSeat<B>>,
-    ) -> Closed {
+    ) -> (Closed, Arc<World<K, B>, Global>)
+        ensures { arc_value result.1 ≡ world_of self }
+    {
         self.shutdown(rt);
         let AsyncLru {
             world,
@@ -369,13 +388,14 @@ impl<K: Clone + Drop, const N: usize, B: Registry + Archive> AsyncLru<K, N, B> {
                 drop(takes.push(seat));
             }
         }
-        Closed {
+        let closed = Closed {
             weight: world.weight(),
             len: world.len(),
             evicted_weight: world.evicted_weight(),
             evicted_len: world.evicted_len(),
             lost_pairs: world.outlet.lost(rt),
-        }
+        };
+        (closed, world)
     }
 
     /// How many evicted pairs are lost, modulo 2^64.

@@ -1,20 +1,19 @@
 //! How an order served by actors is made.
 ghost use Rattle.std.specs.Prelude.{◌≡◌, ◌<◌, Err, Some, IfOk};
 ghost use Rattle.std.specs.Arc.{arc_value};
-ghost use Rattle.lru_async.specs.Orders.{limits_of, limits_told, logged_order, order_of, untold};
-ghost use Rattle.lru_async.specs.declared.refusals.BuildError.TheVariants.{NoCallbackWorkers};
+ghost use Rattle.lru_async.specs.Orders.{limits_of, limits_told, order_of, untold};
+ghost use Rattle.lru_sends.specs.declared.refusals.BuildError.TheVariants.{NoCallbackWorkers};
 
 use crate::async_lru::AsyncLru;
 use crate::launching::launch;
 use crate::ledger_lru::LedgerLru;
-use crate::logged_lru::LoggedLru;
 use crate::receiver::EvictionReceiver;
-use crate::refusals::BuildError;
 use lru_actors::message::LruMsg;
-use lru_ledgers::{Blanks, LedgerBox, PutSeat, Registry, TakeSeat};
 use lru_logs::tie::{Archive, Blank};
 use lru_logs::voice::Voice;
-use lru_mailboxes::Mailbox;
+use lru_sends::refusals::BuildError;
+use lru_shared_ledger::{Blanks, LedgerBox, PutSeat, Registry, TakeSeat};
+use lru_shared_mailbox::Mailbox;
 use lru_world::callback::{AsyncEvictionCallback, Gate, NoGate};
 use lru_world::outlet::Outlet;
 use std::alloc::Global;
@@ -191,18 +190,18 @@ impl<
         lru.with_receiver(&rt, alone)
     }
 
-    /// Starts the threads of an order that keeps a log of each shard's messages, by a blank for N shards: who calls it by a
-    /// `Caller` learns what its answers saw. Without callback workers it is refused.
-    pub fn build_with_logs<
+    /// Starts the threads of an order that keeps a log of each shard's messages, by a blank for N shards. Without callback workers
+    /// it is refused. The calls of the order itself say nothing of the logs; those of a `LoggedLru`, which has it built, do.
+    pub fn build_over_logs<
         R: Threads + Wait + Copy + Send + 'static,
         B: Registry + Archive + Send + Sync + 'static,
-    >(self, rt: R, blank: Blank<LruMsg<K>>) -> Result<LoggedLru<K, N, B>, BuildError>
+    >(self, rt: R, blank: Blank<LruMsg<K>>) -> Result<AsyncLru<K, N, B>, BuildError>
         requires some { 0 < N }
         requires ready { C.ready (arc_value self.callback) }
         requires table { blank.tie.table.shared.table_id ≡ B.log }
         requires counts { (blank.tie.table.shared.key ≡ N) × (B.shards ≡ N) }
         ensures refused { self.settings.num_callback_workers ≡ 0 → result ≡ Err NoCallbackWorkers }
-        ensures limits { IfOk result (λ logged. limits_of (logged_order logged) ≡ limits_told self.settings) }
+        ensures limits { IfOk result (λ lru. limits_of lru ≡ limits_told self.settings) }
     {
         let callers = self.settings.num_callback_workers;
         if callers == 0 {
@@ -217,8 +216,7 @@ impl<
         let puts: Vec<PutSeat<B>> = Vec::new(alloc);
         let takes: Vec<TakeSeat<B>> = Vec::new(alloc);
         let outlet = Outlet::Mailbox(Mailbox::new(alloc));
-        let lru = launch::<K, C, N, G, R, B>(rt, alloc, self, logs, outlet, puts, takes)?;
-        Ok(LoggedLru::new(lru))
+        launch::<K, C, N, G, R, B>(rt, alloc, self, logs, outlet, puts, takes)
     }
 
     /// Starts the threads round a box that counts every evicted pair: it is made of blanks for N who put, the actors, and as
@@ -246,5 +244,41 @@ impl<
         let outlet = Outlet::Ledger(Arc::try_clone(&ledger)?);
         let lru = launch::<K, C, N, G, R, B>(rt, alloc, self, None, outlet, puts, takes)?;
         Ok(LedgerLru::new(lru, ledger, takers, room_for_puts, room_for_takes))
+    }
+
+    /// As `build_over_logs`, round a box that counts every evicted pair, as `build_with_ledger` makes it: the rows of each shard have
+    /// the seat of those who put, and the slips of what was evicted. Where there is no memory all is let go.
+    pub fn build_over_logs_and_ledger<
+        R: Threads + Wait + Copy + Send + 'static,
+        B: Registry + Archive + Send + Sync + 'static,
+    >(
+        self,
+        rt: R,
+        blank: Blank<LruMsg<K>>,
+        blanks: Blanks,
+    ) -> Result<(AsyncLru<K, N, B>, Arc<LedgerBox<K, B>, Global>), BuildError>
+        requires some { 0 < N }
+        requires ready { C.ready (arc_value self.callback) }
+        requires table { blank.tie.table.shared.table_id ≡ B.log }
+        requires shards { (blank.tie.table.shared.key ≡ N) × (B.shards ≡ N) }
+        requires tables { (blanks.puts.tie.table.shared.table_id ≡ B.puts) × (blanks.takes.tie.table.shared.table_id ≡ B.takes) }
+        requires counts { (B.putters ≡ blanks.putters) × (B.takers ≡ blanks.takers) }
+        requires actors { blanks.putters ≡ N }
+        requires workers { blanks.takers ≡ self.settings.num_callback_workers }
+        ensures { IfOk result (λ made. limits_of made.0 ≡ limits_told self.settings) }
+    {
+        let alloc = self.alloc;
+        let Blank { tie, token } = blank;
+        let Ok(tie) = Arc::new(alloc, tie) else {
+            return Err(BuildError::Memory);
+        };
+        let logs = Some(Voice::new(tie, token));
+        let (ledger, puts, takes) = LedgerBox::new(alloc, blanks)?;
+        let Ok(ledger) = Arc::new(alloc, ledger) else {
+            return Err(BuildError::Memory);
+        };
+        let outlet = Outlet::Ledger(Arc::try_clone(&ledger)?);
+        let lru = launch::<K, C, N, G, R, B>(rt, alloc, self, logs, outlet, puts, takes)?;
+        Ok((lru, ledger))
     }
 }

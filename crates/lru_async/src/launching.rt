@@ -1,5 +1,5 @@
 //! How the threads of an order are started.
-ghost use Rattle.std.specs.Prelude.{◌≡◌, ◌+◌, ◌%◌, ◌^◌, ◌<◌, [], vec_len, IfOk, OnOk, IsSome};
+ghost use Rattle.std.specs.Prelude.{◌≡◌, ◌+◌, ◌%◌, ◌^◌, ◌<◌, [], All, vec_len, IfOk, OnOk, IsSome};
 ghost use Rattle.std.specs.Option.{ForSome};
 ghost use Rattle.lru_logs.specs.Logs.{hand, blank_logs, blank_fronts};
 ghost use Rattle.lru_inbox.specs.Inboxes.{taken_in};
@@ -10,39 +10,43 @@ ghost use Rattle.lru_async.specs.Orders.{limits_of, limits_told, HasWorkers};
 use crate::async_lru::AsyncLru;
 use crate::builder::AsyncLruBuilder;
 use crate::receiver::EvictionReceiver;
-use crate::refusals::BuildError;
 use crate::threads::{Placed, start_actor, start_callback_worker, start_eviction_worker};
 use lru_actors::message::LruMsg;
 use lru_inbox::Taker;
-use lru_ledgers::{PutSeat, Registry, TakeSeat};
-use lru_letters::ReplyCell;
 use lru_logs::tie::Archive;
 use lru_logs::voice::Voice;
+use lru_sends::cells::cell_and_clone;
+use lru_sends::refusals::BuildError;
+use lru_shared_ledger::{PutSeat, Registry, TakeSeat};
 use lru_world::actor::Actor;
 use lru_world::callback::{AsyncEvictionCallback, Gate};
 use lru_world::outlet::Outlet;
 use lru_world::world::{Limits, World, next_taker};
-use std::alloc::{AllocError, Global};
+use std::alloc::Global;
 use std::hash::Hash;
 use std::sync::{Arc, Wait};
 use std::thread::Threads;
-
-// A cell for two.
-pub(crate) fn cell_and_clone<T: Drop>(
-    alloc: Global,
-) -> Result<(Arc<ReplyCell<T>, Global>, Arc<ReplyCell<T>, Global>), AllocError> {
-    let Ok(cell) = Arc::new(alloc, ReplyCell::new()) else {
-        return Err(AllocError);
-    };
-    let clone = Arc::try_clone(&cell)?;
-    Ok((cell, clone))
-}
 
 // The seed of an eviction worker, by its number.
 fn seed_of(seed: u64, number: usize) -> u64
     ensures { result ≡ (seed + number) % 2 ^ 64 }
 {
     seed.wrapping_add(number as u64)
+}
+
+// The seats of those who put, for the rows of the shards, and for their actors: where there are logs the rows have them.
+fn seats_apart<B: Registry>(
+    alloc: Global,
+    logged: bool,
+    seats: Vec<PutSeat<B>>,
+) -> (Vec<PutSeat<B>>, Vec<PutSeat<B>>)
+    requires { All (λ s. s.share.slips ≡ []) seats.items }
+    ensures { All (λ s. s.share.slips ≡ []) result.0.items }
+{
+    if logged {
+        return (seats, Vec::new(alloc));
+    }
+    (Vec::new(alloc), seats)
 }
 
 // Starts the threads of a builder. Its type parameters stand in the order of the builder's.
@@ -66,6 +70,7 @@ pub(crate) fn launch<
     requires ready { C.ready (arc_value builder.callback) }
     requires logs { ForSome logs (λ v. v.token.me ≡ (hand (blank_logs 0 N) (blank_fronts 0 N) [], [])) }
     requires shards { IsSome logs → B.shards ≡ N }
+    requires fresh { All (λ s. s.share.slips ≡ []) puts.items }
     ensures limits { IfOk result (λ lru. limits_of lru ≡ limits_told builder.settings) }
     ensures workers { IfOk result (λ lru. HasWorkers lru builder.settings) }
 {
@@ -75,7 +80,16 @@ pub(crate) fn launch<
         len_watermark: settings.len_watermark,
     };
     let mut logs = logs;
-    let world = World::new(alloc, &mut logs, N, settings.capacity, limits, outlet)?;
+    let (row_seats, puts) = seats_apart(alloc, logs.is_some(), puts);
+    let world = World::new(
+        alloc,
+        &mut logs,
+        row_seats,
+        N,
+        settings.capacity,
+        limits,
+        outlet,
+    )?;
     let Ok(world) = Arc::new(alloc, world) else {
         return Err(BuildError::Memory);
     };

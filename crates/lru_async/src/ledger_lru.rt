@@ -6,8 +6,8 @@ ghost use Rattle.lru_ledger.specs.Slips.{lists_of, IsSettled};
 use crate::async_lru::AsyncLru;
 use crate::seats_back::{all_puts, all_takes, sole};
 use lru_ledger::Settled;
-use lru_ledgers::{LedgerBox, PutSeat, Registry, TakeSeat};
 use lru_logs::tie::Archive;
+use lru_shared_ledger::{LedgerBox, PutSeat, Registry, TakeSeat};
 use std::alloc::Global;
 use std::marker::Brand;
 use std::sync::{Arc, Wait};
@@ -71,7 +71,8 @@ impl<K: Clone + Drop, const N: usize, B: Registry + Archive> LedgerLru<K, N, B> 
         let mut puts = puts;
         let mut takes = takes;
         // (what was evicted and what is lost stands in the lists that are settled)
-        let _closed = lru.end(rt, &mut puts, &mut takes);
+        let (_closed, world) = lru.end(rt, &mut puts, &mut takes);
+        drop(world);
         let puts = all_puts(rt, puts, N);
         let takes = all_takes(rt, takes, takers);
         sole(rt, ledger).settle(puts, takes)

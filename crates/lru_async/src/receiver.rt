@@ -1,6 +1,6 @@
 //! A receiver of evicted pairs.
-use lru_ledgers::Registry;
 use lru_logs::tie::Archive;
+use lru_shared_ledger::Registry;
 use lru_world::outlet::Taken;
 use lru_world::world::World;
 use std::alloc::Global;

@@ -1,19 +1,21 @@
-//! Seats that ended threads gave back, and the box that nobody else holds any more.
+//! Seats that ended threads gave back, and what nobody else holds any more.
 ghost use Rattle.std.specs.Prelude.{◌≡◌, map};
+ghost use Rattle.std.specs.Arc.{arc_value};
 ghost use Rattle.lru_hands.specs.Hands.{up};
 
-use lru_ledgers::{LedgerBox, PutSeat, Registry, TakeSeat};
+use lru_shared_ledger::{PutSeat, Registry, TakeSeat};
 use std::alloc::Global;
 use std::sync::{Arc, Wait};
 use std::thread;
 
-// Answers the put seats that so many actors gave back, in order, once they are all. Were one missing, this would wait for it.
-pub(crate) fn all_puts<B: Registry>(
+/// Answers the put seats that so many actors gave back, in order, once they are all. Were one missing, this would wait for it.
+pub fn all_puts<B: Registry>(
     rt: &impl Wait,
     seats: Vec<PutSeat<B>>,
     count: usize,
 ) -> Vec<PutSeat<B>>
-    ensures { map (λ s. s.number) result.items ≡ up 0 count }
+    ensures numbers { map (λ s. s.number) result.items ≡ up 0 count }
+    ensures same { result ≡ seats }
 {
     for _ in rt.forever() {
         if PutSeat::are_all(seats.as_slice(), count) {
@@ -24,13 +26,14 @@ pub(crate) fn all_puts<B: Registry>(
     unreachable!()
 }
 
-// The same of the take seats of so many callback workers.
-pub(crate) fn all_takes<B: Registry>(
+/// The same of the take seats of so many callback workers.
+pub fn all_takes<B: Registry>(
     rt: &impl Wait,
     seats: Vec<TakeSeat<B>>,
     count: usize,
 ) -> Vec<TakeSeat<B>>
-    ensures { map (λ s. s.number) result.items ≡ up 0 count }
+    ensures numbers { map (λ s. s.number) result.items ≡ up 0 count }
+    ensures same { result ≡ seats }
 {
     for _ in rt.forever() {
         if TakeSeat::are_all(seats.as_slice(), count) {
@@ -41,15 +44,14 @@ pub(crate) fn all_takes<B: Registry>(
     unreachable!()
 }
 
-// Answers the box once nobody else holds it.
-pub(crate) fn sole<K: Drop, B: Registry>(
-    rt: &impl Wait,
-    ledger: Arc<LedgerBox<K, B>, Global>,
-) -> LedgerBox<K, B> {
-    let mut shared = ledger;
+/// Answers what is shared once nobody else holds it.
+pub fn sole<T>(rt: &impl Wait, shared: Arc<T, Global>) -> T
+    ensures { result ≡ arc_value shared }
+{
+    let mut shared = shared;
     for _ in rt.forever() {
         match Arc::try_unwrap(shared) {
-            Ok(ledger) => return ledger,
+            Ok(value) => return value,
             Err(held) => shared = held,
         }
         thread::yield_now();

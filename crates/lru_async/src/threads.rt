@@ -4,10 +4,10 @@
 ghost use Rattle.std.specs.Prelude.{◌≡◌, ◌<◌, vec_len};
 ghost use Rattle.std.specs.Arc.{arc_value};
 
-use crate::refusals::BuildError;
-use lru_ledgers::{PutSeat, Registry, TakeSeat};
 use lru_letters::ReplyCell;
 use lru_logs::tie::Archive;
+use lru_sends::refusals::BuildError;
+use lru_shared_ledger::{PutSeat, Registry, TakeSeat};
 use lru_world::actor::Actor;
 use lru_world::callback::{AsyncEvictionCallback, Gate};
 use lru_world::workers::{call_back, evict};

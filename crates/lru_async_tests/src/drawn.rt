@@ -3,7 +3,7 @@ ghost use Rattle.std.specs.Prelude.{◌≡◌, ◌+◌, ◌%◌, ◌^◌, ℕ, v
 ghost use Rattle.rand_core.specs.Steps.{stream_of, steps_u32};
 
 use crate::callbacks::LOOKS;
-use lru_mailboxes::Mailbox;
+use lru_shared_mailbox::Mailbox;
 use lru_world::outlet::Outlet;
 use lru_world::workers::evict;
 use lru_world::world::{Change, Limits, World};
@@ -74,7 +74,7 @@ fn two_shards(alloc: Global, first: usize, second: usize) -> Result<World<u64>, 
         len_watermark: None,
     };
     let outlet = Outlet::Mailbox(Mailbox::new(alloc));
-    let world = World::new(alloc, &mut None, 2, 0, limits, outlet)?;
+    let world = World::new(alloc, &mut None, Vec::new(alloc), 2, 0, limits, outlet)?;
     world.count(0, &gained(first));
     world.count(1, &gained(second));
     Ok(world)

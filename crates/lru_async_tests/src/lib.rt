@@ -10,8 +10,6 @@ mod drawn;
 #[cfg(test)]
 mod limits;
 #[cfg(test)]
-mod logged;
-#[cfg(test)]
 mod replays;
 #[cfg(test)]
 mod rows;

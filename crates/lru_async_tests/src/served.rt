@@ -6,7 +6,7 @@ use lru_actors::effect::Reply;
 use lru_actors::message::LruMsg;
 use lru_inbox::{Taker, Told};
 use lru_letters::{Letter, ReplyCell};
-use lru_mailboxes::Mailbox;
+use lru_shared_mailbox::Mailbox;
 use lru_world::actor::Actor;
 use lru_world::callback::{Gate, NoGate};
 use lru_world::outlet::Outlet;
@@ -29,7 +29,7 @@ fn one_shard(alloc: Global) -> Result<World<u64>, AllocError>
         len_watermark: None,
     };
     let outlet = Outlet::Mailbox(Mailbox::new(alloc));
-    World::new(alloc, &mut None, 1, 0, limits, outlet)
+    World::new(alloc, &mut None, Vec::new(alloc), 1, 0, limits, outlet)
 }
 
 // Serves what waits in the only shard, and then nothing more.

@@ -13,6 +13,17 @@ use rand_core::Rng;
 use std::alloc::{AllocError, Global};
 use std::marker::Model;
 
+// Makes a call on one shard, and brings the totals of all shards after it.
+macro_rules! counted {
+    ($totals:expr, $shard:ident, $call:expr) => {{
+        let before = Totals::of($shard);
+        let answer = $call;
+        let after = Totals::of($shard);
+        $totals.change(before, after);
+        answer
+    }};
+}
+
 /// N shards, each a list of rows, most recent first. A key's shard is the key modulo N.
 ///
 /// The core is over where the sum of all weights is above its weight limit, or where it has a
@@ -379,10 +390,7 @@ impl<T: Drop, const N: usize> LruCore<T, N> {
         let _units = &self.units;
         let shard = (key % N as u64) as usize;
         let unit = &mut self.units[shard];
-        let before = Totals::of(unit);
-        let answer = unit.admit(key, data, weight.max(1));
-        let after = Totals::of(unit);
-        self.totals.change(before, after);
+        let answer = counted!(self.totals, unit, unit.admit(key, data, weight.max(1)));
         if let Err(refused) = answer {
             return Err(refused);
         }
@@ -441,11 +449,7 @@ impl<T: Drop, const N: usize> LruCore<T, N> {
         let _units = &self.units;
         let shard = (key % N as u64) as usize;
         let unit = &mut self.units[shard];
-        let before = Totals::of(unit);
-        let answer = unit.insert_tail(key, data, weight);
-        let after = Totals::of(unit);
-        self.totals.change(before, after);
-        answer
+        counted!(self.totals, unit, unit.insert_tail(key, data, weight))
     }
 
     /// Adds to a key's weight, puts its row first, and answers the new weight, as `LruUnit` does.
@@ -465,10 +469,11 @@ impl<T: Drop, const N: usize> LruCore<T, N> {
         let _units = &self.units;
         let shard = (key % N as u64) as usize;
         let unit = &mut self.units[shard];
-        let before = Totals::of(unit);
-        let answer = unit.increment_weight(key, admit_data, delta, max_weight);
-        let after = Totals::of(unit);
-        self.totals.change(before, after);
+        let answer = counted!(
+            self.totals,
+            unit,
+            unit.increment_weight(key, admit_data, delta, max_weight)
+        );
         let (_, new_weight, _) = match answer {
             Ok(done) => done,
             Err(cause) => return Err(cause),
@@ -498,10 +503,11 @@ impl<T: Drop, const N: usize> LruCore<T, N> {
         let _units = &self.units;
         let shard = (key % N as u64) as usize;
         let unit = &mut self.units[shard];
-        let before = Totals::of(unit);
-        let answer = unit.update_or_admit(key, update, admit_data);
-        let after = Totals::of(unit);
-        self.totals.change(before, after);
+        let answer = counted!(
+            self.totals,
+            unit,
+            unit.update_or_admit(key, update, admit_data)
+        );
         let (was, _) = match answer {
             Ok(done) => done,
             Err(refused) => return Err(refused.untold()),
@@ -520,11 +526,7 @@ impl<T: Drop, const N: usize> LruCore<T, N> {
         let _units = &self.units;
         let shard = (key % N as u64) as usize;
         let unit = &mut self.units[shard];
-        let before = Totals::of(unit);
-        let answer = unit.set_weight(key, weight.max(1));
-        let after = Totals::of(unit);
-        self.totals.change(before, after);
-        answer
+        counted!(self.totals, unit, unit.set_weight(key, weight.max(1)))
     }
 
     /// Puts a key's row first, and answers whether there is one.
@@ -560,11 +562,7 @@ impl<T: Drop, const N: usize> LruCore<T, N> {
         let _units = &self.units;
         let shard = (key % N as u64) as usize;
         let unit = &mut self.units[shard];
-        let before = Totals::of(unit);
-        let answer = unit.remove(key);
-        let after = Totals::of(unit);
-        self.totals.change(before, after);
-        answer
+        counted!(self.totals, unit, unit.remove(key))
     }
 
     /// Moves a key's row out of `from`, puts it first in the shard of the same number here, and answers its
@@ -581,14 +579,11 @@ impl<T: Drop, const N: usize> LruCore<T, N> {
         let shard = (key % N as u64) as usize;
         let unit = &mut self.units[shard];
         let other = &mut from.units[shard];
-        let before = Totals::of(unit);
-        let other_before = Totals::of(other);
-        let answer = unit.pull(other, key);
-        let after = Totals::of(unit);
-        let other_after = Totals::of(other);
-        self.totals.change(before, after);
-        from.totals.change(other_before, other_after);
-        answer
+        counted!(
+            from.totals,
+            other,
+            counted!(self.totals, unit, unit.pull(other, key))
+        )
     }
 
     // Evicts the last row of a shard, if it has one.

@@ -86,81 +86,80 @@ module _ (dir file_name : List ℕ) (n : ℕ) (core : Core Keyed) where
           before = λ t m le s. ⊎_elim inl (λ p. inr (from m p)) (all.before t m le s);
         }
 
-    module _ (only : (f : F) → meaning.keeps f → (m : Files) → meaning.stopped_since f (meaning.clock f) m → m ≡ meaning.files f) where
-      -- nothing was done yet
-      leaves_none : (old : F) → meaning.keeps old → LeavesOnly meaning (R (meaning.files old)) old old
-      leaves_none old k = started meaning (R (meaning.files old)) old (only old k) (λ m is. r_same (meaning.files old) m is) (r_same (meaning.files old) (meaning.files old) refl)
+    -- nothing was done yet
+    leaves_none : (old : F) → meaning.keeps old → LeavesOnly meaning (R (meaning.files old)) old old
+    leaves_none old k = started meaning (R (meaning.files old)) old k (λ m is. r_same (meaning.files old) m is) (r_same (meaning.files old) (meaning.files old) refl)
 
-      loses_none : (old : F) → LosesOnly meaning R old old
-      loses_none old = loss_started meaning R old (λ m. r_same m m refl)
+    loses_none : (old : F) → LosesOnly meaning R old old
+    loses_none old = loss_started meaning R old (λ m. r_same m m refl)
 
-      -- or the folder alone was made
-      leaves_made : (old new : F) → meaning.keeps old → Passes meaning Same old new → LeavesOnly meaning (R (meaning.files old)) old new
-      leaves_made old new k time = goes_on meaning (R (meaning.files old)) Same old old new (leaves_none old k) time (λ m is. r_same (meaning.files old) m is)
+    -- or the folder alone was made
+    leaves_made : (old new : F) → meaning.keeps old → Passes meaning Same old new → LeavesOnly meaning (R (meaning.files old)) old new
+    leaves_made old new k time = goes_on meaning (R (meaning.files old)) Same old old new (leaves_none old k) time (λ m is. r_same (meaning.files old) m is)
 
-      loses_made : (old new : F) → Passes meaning Same old new → Loses meaning looking old new → LosesOnly meaning R old new
-      loses_made old new time loss = loses_on meaning R looking old old new time.later (loses_none old) loss (λ m none. absurd none)
+    loses_made : (old new : F) → Passes meaning Same old new → Loses meaning looking old new → LosesOnly meaning R old new
+    loses_made old new time loss = loses_on meaning R looking old old new time.later (loses_none old) loss (λ m none. absurd none)
 
-      -- a save
-      pub leaves_saved : (drawn rest : Stream) (old new : F) (answer : SaveResult) → meaning.keeps old → SavesCore meaning dir file_name n core drawn old answer rest new
-          → LeavesOnly meaning (R (meaning.files old)) old new
-      leaves_saved drawn rest old new (Ok report) k h = leaves_turns drawn rest old new (Ok report) k (h.turns tt)
-      leaves_saved drawn rest old new (Err (AllShardsFailed count all)) k h = leaves_turns drawn rest old new (Err (AllShardsFailed count all)) k (h.turns tt)
-      leaves_saved drawn rest old new (Err (Setup (CreateDir path source))) k h = leaves_made old new k (h.time k)
-      leaves_saved drawn rest old new (Err (Setup setup.Memory)) k h = subst (λ (f : F). LeavesOnly meaning (R (meaning.files old)) old f) (sym (h.early refl)) (leaves_none old k)
+    -- a save
+    pub leaves_saved : (drawn rest : Stream) (old new : F) (answer : SaveResult) → meaning.keeps old → SavesCore meaning dir file_name n core drawn old answer rest new
+        → LeavesOnly meaning (R (meaning.files old)) old new
+    leaves_saved drawn rest old new (Ok report) k h = leaves_turns drawn rest old new (Ok report) k (h.turns tt)
+    leaves_saved drawn rest old new (Err (AllShardsFailed count all)) k h = leaves_turns drawn rest old new (Err (AllShardsFailed count all)) k (h.turns tt)
+    leaves_saved drawn rest old new (Err (Setup (CreateDir path source))) k h = leaves_made old new k (h.time k)
+    leaves_saved drawn rest old new (Err (Setup setup.Memory)) k h = subst (λ (f : F). LeavesOnly meaning (R (meaning.files old)) old f) (sym (h.early refl)) (leaves_none old k)
 
-      pub loses_saved : (drawn rest : Stream) (old new : F) (answer : SaveResult) → meaning.keeps old → SavesCore meaning dir file_name n core drawn old answer rest new
-          → LosesOnly meaning R old new
-      loses_saved drawn rest old new (Ok report) k h = loses_turns drawn rest old new (Ok report) k (h.turns tt)
-      loses_saved drawn rest old new (Err (AllShardsFailed count all)) k h = loses_turns drawn rest old new (Err (AllShardsFailed count all)) k (h.turns tt)
-      loses_saved drawn rest old new (Err (Setup (CreateDir path source))) k h = loses_made old new (h.time k) (h.loss k)
-      loses_saved drawn rest old new (Err (Setup setup.Memory)) k h = subst (λ (f : F). LosesOnly meaning R old f) (sym (h.early refl)) (loses_none old)
+    pub loses_saved : (drawn rest : Stream) (old new : F) (answer : SaveResult) → meaning.keeps old → SavesCore meaning dir file_name n core drawn old answer rest new
+        → LosesOnly meaning R old new
+    loses_saved drawn rest old new (Ok report) k h = loses_turns drawn rest old new (Ok report) k (h.turns tt)
+    loses_saved drawn rest old new (Err (AllShardsFailed count all)) k h = loses_turns drawn rest old new (Err (AllShardsFailed count all)) k (h.turns tt)
+    loses_saved drawn rest old new (Err (Setup (CreateDir path source))) k h = loses_made old new (h.time k) (h.loss k)
+    loses_saved drawn rest old new (Err (Setup setup.Memory)) k h = subst (λ (f : F). LosesOnly meaning R old f) (sym (h.early refl)) (loses_none old)
 
-      -- a load spares each shard's file
-      module _ (small : n < 2 ^ 64) where
-        spared_load : (before held : Core Keyed) (begun old : F) (answer : LoadResult) → meaning.keeps begun → LoadsCore meaning dir file_name n before begun answer held old
-            → SparesAllBut meaning (temp_paths dir file_name (meaning.files begun)) begun old
-        spared_load before held begun old (Ok report) k h = h.loads.spares k
-        spared_load before held begun old (Err refused) k h =
-            subst (λ (f : F). SparesAllBut meaning (temp_paths dir file_name (meaning.files begun)) begun f) (sym h.unmoved.0) (spares_started meaning (temp_paths dir file_name (meaning.files begun)) begun (only begun k))
+    -- a load spares each shard's file
+    module _ (small : n < 2 ^ 64) where
+      spared_load : (before held : Core Keyed) (begun old : F) (answer : LoadResult) → meaning.keeps begun → LoadsCore meaning dir file_name n before begun answer held old
+          → SparesAllBut meaning (temp_paths dir file_name (meaning.files begun)) begun old
+      spared_load before held begun old (Ok report) k h = h.loads.spares k
+      spared_load before held begun old (Err refused) k h =
+          subst (λ (f : F). SparesAllBut meaning (temp_paths dir file_name (meaning.files begun)) begun f) (sym h.unmoved.0) (spares_started meaning (temp_paths dir file_name (meaning.files begun)) begun k)
 
-        apart : (files : Files) (s : ℕ) → s < n → ¬ (Contains (temp_paths dir file_name files) (shard_path dir file_name s))
-        apart files s lt = shard-no_temp_path dir file_name s (omega (arith, lt, small)) files
+      apart : (files : Files) (s : ℕ) → s < n → ¬ (Contains (temp_paths dir file_name files) (shard_path dir file_name s))
+      apart files s lt = shard-no_temp_path dir file_name s (omega (arith, lt, small)) files
 
-        leaves_spared : (begun old : F) → SparesAllBut meaning (temp_paths dir file_name (meaning.files begun)) begun old → LeavesOnly meaning (R (meaning.files begun)) begun old
-        leaves_spared begun old spared =
-            let temps = temp_paths dir file_name (meaning.files begun) in
-            let all = spared.any_moment in
-            let r = r_spared temps (apart (meaning.files begun)) (meaning.files begun) in
-            record {
-              later = all.later;
-              each = λ m s. r m (all.each m s);
-              now = r (meaning.files old) all.now;
-              before = λ t m le s. ⊎_elim inl (λ p. inr (r m p)) (all.before t m le s);
-            }
+      leaves_spared : (begun old : F) → SparesAllBut meaning (temp_paths dir file_name (meaning.files begun)) begun old → LeavesOnly meaning (R (meaning.files begun)) begun old
+      leaves_spared begun old spared =
+          let temps = temp_paths dir file_name (meaning.files begun) in
+          let all = spared.any_moment in
+          let r = r_spared temps (apart (meaning.files begun)) (meaning.files begun) in
+          record {
+            later = all.later;
+            each = λ m s. r m (all.each m s);
+            now = r (meaning.files old) all.now;
+            before = λ t m le s. ⊎_elim inl (λ p. inr (r m p)) (all.before t m le s);
+          }
 
-        loses_spared : (begun old : F) → SparesAllBut meaning (temp_paths dir file_name (meaning.files begun)) begun old → LosesOnly meaning R begun old
-        loses_spared begun old spared =
-            let temps = temp_paths dir file_name (meaning.files begun) in
-            let all = spared.any_loss in
-            let from : (m : Files) → IsFromStart meaning (IsAsItWasBut temps) begun m → IsFromStart meaning R begun m
-            = λ m p. (p.0, (p.1.0, r_spared temps (apart (meaning.files begun)) p.0 m p.1.1)) in
-            record {
-              later = all.later;
-              each = λ m s. from m (all.each m s);
-              now = λ m s. from m (all.now m s);
-              before = λ t m le s. ⊎_elim inl (λ p. inr (from m p)) (all.before t m le s);
-            }
+      loses_spared : (begun old : F) → SparesAllBut meaning (temp_paths dir file_name (meaning.files begun)) begun old → LosesOnly meaning R begun old
+      loses_spared begun old spared =
+          let temps = temp_paths dir file_name (meaning.files begun) in
+          let all = spared.any_loss in
+          let from : (m : Files) → IsFromStart meaning (IsAsItWasBut temps) begun m → IsFromStart meaning R begun m
+          = λ m p. (p.0, (p.1.0, r_spared temps (apart (meaning.files begun)) p.0 m p.1.1)) in
+          record {
+            later = all.later;
+            each = λ m s. from m (all.each m s);
+            now = λ m s. from m (all.now m s);
+            before = λ t m le s. ⊎_elim inl (λ p. inr (from m p)) (all.before t m le s);
+          }
 
-        -- a load, and then a save
-        module _ (before held : Core Keyed) (begun old new : F) (loaded : LoadResult) (drawn rest : Stream) (answer : SaveResult) (k : meaning.keeps begun) (k' : meaning.keeps old)
-            (loads : LoadsCore meaning dir file_name n before begun loaded held old) (saves : SavesCore meaning dir file_name n core drawn old answer rest new) where
-          pub leaves_both : LeavesOnly meaning (R (meaning.files begun)) begun new
-          leaves_both =
-              let first = leaves_spared begun old (spared_load before held begun old loaded k loads) in
-              then_run meaning (R (meaning.files begun)) (R (meaning.files old)) (R (meaning.files begun)) begun old new first (leaves_saved drawn rest old new answer k' saves)
-              (λ m h. h) (λ m h. r_then (meaning.files begun) (meaning.files old) m first.now h)
+      -- a load, and then a save
+      module _ (before held : Core Keyed) (begun old new : F) (loaded : LoadResult) (drawn rest : Stream) (answer : SaveResult) (k : meaning.keeps begun) (k' : meaning.keeps old)
+          (loads : LoadsCore meaning dir file_name n before begun loaded held old) (saves : SavesCore meaning dir file_name n core drawn old answer rest new) where
+        pub leaves_both : LeavesOnly meaning (R (meaning.files begun)) begun new
+        leaves_both =
+            let first = leaves_spared begun old (spared_load before held begun old loaded k loads) in
+            then_run meaning (R (meaning.files begun)) (R (meaning.files old)) (R (meaning.files begun)) begun old new first (leaves_saved drawn rest old new answer k' saves)
+            (λ m h. h) (λ m h. r_then (meaning.files begun) (meaning.files old) m first.now h)
 
-          pub loses_both : LosesOnly meaning R begun new
-          loses_both = then_loses meaning R R R begun old new (loses_spared begun old (spared_load before held begun old loaded k loads)) (loses_saved drawn rest old new answer k' saves)
-              (λ was m h. h) (λ was mid m first second. r_then was mid m first second)
+        pub loses_both : LosesOnly meaning R begun new
+        loses_both = then_loses meaning R R R begun old new (loses_spared begun old (spared_load before held begun old loaded k loads)) (loses_saved drawn rest old new answer k' saves)
+            (λ was m h. h) (λ was mid m first second. r_then was mid m first second)

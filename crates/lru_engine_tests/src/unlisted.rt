@@ -34,12 +34,6 @@ impl Folder for Unlisted {
 
     ghost opened = { λ folder. if folder.is_read then Lost else (if folder.is_written then Writing [] else Closed) };
 
-    ghost counts_now = { λ _ _ broken _. absurd broken };
-
-    ghost only_now = { λ _ _ broken _. absurd broken };
-
-    ghost counts_lost = { λ _ _ _ broken _ _. absurd broken };
-
     fn make(&mut self, _dir: &str) -> Result<(), FolderFault> {
         self.close();
         Ok(())

@@ -1,4 +1,5 @@
 pub mod Rows
+pub mod Lists
 pub mod Shrunk
 pub mod PutBack
 pub mod Retained

@@ -6,26 +6,21 @@ use Rattle.std.proofs.lemmas.Bool.{false≢true}
 use Rattle.std.proofs.lemmas.List.{length-append}
 use Rattle.lru_rows.specs.Rows.{Placed, Recency, recency, row_at, first_row, IsAt, IsRecency, demoted, without as rows_without}
 use Rattle.lru_entries.specs.Partings.{PuttingBack, PutsBack}
+use Rattle.lru_entries.proofs.Lists.{same_head, same_tail}
 use Rattle.lru_entries.proofs.Rows.{first_told, row_first, without_first}
 
-same_head : {A : Type 0} (a b : A) (xs ys : List A) → a ∷ xs ≡ b ∷ ys → a ≡ b
-same_head a b xs ys e = cc
+pub none_back : {K V : Type 0} (count : ℕ) (old : Recency K V) → count ≤ length old.rows → PuttingBack count old old count
+none_back count old enough = record {
+  moved = [];
+  rest = old.rows;
+  parts = refl;
+  now_is = ap (λ rs. recency rs old.free) (sym (append-nil old.rows));
+  left_is = omega arith;
+  enough = enough;
+}
 
-same_tail : {A : Type 0} (a b : A) (xs ys : List A) → a ∷ xs ≡ b ∷ ys → xs ≡ ys
-same_tail a b xs ys e = cc
-
-module _ {K V : Type 0} (count : ℕ) (old : Recency K V) where
-  pub none_back : count ≤ length old.rows → PuttingBack count old old count
-  none_back enough = record {
-    moved = [];
-    rest = old.rows;
-    parts = refl;
-    now_is = ap (λ rs. recency rs old.free) (sym (append-nil old.rows));
-    left_is = omega arith;
-    enough = enough;
-  }
-
-  module _ (now : Recency K V) (left : ℕ) (s : PuttingBack count old now left) where
+module _ {K V : Type 0} {count : ℕ} {old : Recency K V} where
+  module _ {now : Recency K V} {left : ℕ} (s : PuttingBack count old now left) where
     rows_are : now.rows ≡ s.rest ++ s.moved
     rows_are = ap (λ (x : Recency K V). x.rows) s.now_is
 

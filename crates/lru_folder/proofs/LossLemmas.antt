@@ -73,6 +73,11 @@ spread-back path loose before files old m same less h = record {
   ];
 }
 
+-- What is there now, with any bytes at its loose paths, is among what a loss now could leave.
+pub lost_now : {F : Type 0} (meaning : Meaning F) (folder : F) → meaning.keeps folder → (m : Files) → IsSpread (meaning.loose folder) (meaning.files folder) m
+    → meaning.lost_since folder (meaning.clock folder) m
+lost_now meaning folder kept m spread = meaning.counts_lost folder (meaning.clock folder) m kept (omega arith) spread
+
 -- Before the first call.
 pub loss_started : {F : Type 0} (meaning : Meaning F) (R : Files → Files → Type 0) (old : F) → ((m : Files) → R m m)
     → LosesOnly meaning R old old

@@ -1,5 +1,5 @@
 -- How a run of calls goes on.
-use Rattle.std.specs.Prelude.{◌≡◌, ℕ}
+use Rattle.std.specs.Prelude.{◌≡◌}
 use Rattle.std.proofs.Common.{inl, inr, ⊎_elim, arith}
 use Rattle.lru_folder.specs.Files.{Files}
 use Rattle.lru_folder.specs.Folder.{Passes, LeavesOnly}
@@ -7,9 +7,9 @@ use Rattle.lru_folder.specs.Meaning.{Meaning}
 
 module _ {F : Type 0} (meaning : Meaning F) (P : Files → Type 0) where
   -- before the first call
-  pub started : (old : F) → ((m : Files) → meaning.stopped_since old (meaning.clock old) m → m ≡ meaning.files old) → ((m : Files) → m ≡ meaning.files old → P m)
+  pub started : (old : F) → meaning.keeps old → ((m : Files) → m ≡ meaning.files old → P m)
       → P (meaning.files old) → LeavesOnly meaning P old old
-  started old only same here = record { later = omega arith; each = λ m s. same m (only m s); now = here; before = λ t m le s. inl s }
+  started old kept same here = record { later = omega arith; each = λ m s. same m (meaning.only_now old m kept s); now = here; before = λ t m le s. inl s }
 
   -- one call more, each part of which has P
   pub goes_on : (part : Files → Files → Type 0) (old mid new : F) → LeavesOnly meaning P old mid → Passes meaning part mid new

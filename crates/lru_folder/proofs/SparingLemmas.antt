@@ -1,15 +1,15 @@
 -- How calls that spare a folder's files go on.
-use Rattle.std.proofs.Common.{◌≡◌, ◌≢◌, ◌⊎◌, inl, inr, ⊎_elim, ◌≤◌, ℕ, zero, suc, List, [], ◌∷◌, Option, Some, None, is_some, false, map, refl, sym, ◌∙◌, ap, subst, arith}
+use Rattle.std.proofs.Common.{◌≡◌, inl, inr, ⊎_elim, ℕ, suc, List, [], ◌∷◌, Option, Some, None, is_some, false, map, refl, sym, ◌∙◌, ap, subst, arith}
 use Rattle.std.specs.Prelude.{Contains}
 use Rattle.std.specs.FinMap.{get}
 use Rattle.std.proofs.lemmas.List.Elements.{Contains-append_left, Contains-append_right, Contains-push}
 use Rattle.lru_folder.specs.Files.{Files, AllOrNone, Same, removed}
-use Rattle.lru_folder.specs.Folder.{InOrder, LeavesOnly, Passes}
-use Rattle.lru_folder.specs.Losses.{IsFromStart, IsSpread, Loses, LosesOnly, firmed, looking, removing}
+use Rattle.lru_folder.specs.Folder.{InOrder, Passes}
+use Rattle.lru_folder.specs.Losses.{IsFromStart, IsSpread, Loses, firmed, looking, removing}
 use Rattle.lru_folder.specs.Meaning.{Meaning}
 use Rattle.lru_folder.specs.Sparing.{IsAsItWasBut, SparesAllBut}
 use Rattle.lru_folder.proofs.FilesLemmas.{decide, get-remove_same, get-remove_other}
-use Rattle.lru_folder.proofs.LossLemmas.{put_back, get-put_back_same, get-put_back_other, spread-back, loss_started, loses_on, then_loses}
+use Rattle.lru_folder.proofs.LossLemmas.{put_back, get-put_back_other, spread-back, lost_now, loss_started, loses_on, then_loses}
 use Rattle.lru_folder.proofs.Moments.{started, goes_on, then_run}
 
 but_then : (paths : List (List ℕ)) (a b c : Files) → IsAsItWasBut paths a b → IsAsItWasBut paths b c → IsAsItWasBut paths a c
@@ -30,10 +30,9 @@ none_is (Some b) e = cc
 
 module _ {F : Type 0} (meaning : Meaning F) where
   -- before the first call
-  pub spares_started : (paths : List (List ℕ)) (old : F) → ((m : Files) → meaning.stopped_since old (meaning.clock old) m → m ≡ meaning.files old)
-      → SparesAllBut meaning paths old old
-  spares_started paths old only = record {
-    any_moment = started meaning (IsAsItWasBut paths (meaning.files old)) old only (λ m is q. inl (ap (λ (f : Files). get f q) is)) (λ q. inl refl);
+  pub spares_started : (paths : List (List ℕ)) (old : F) → meaning.keeps old → SparesAllBut meaning paths old old
+  spares_started paths old kept = record {
+    any_moment = started meaning (IsAsItWasBut paths (meaning.files old)) old kept (λ m is q. inl (ap (λ (f : Files). get f q) is)) (λ q. inl refl);
     any_loss = loss_started meaning (IsAsItWasBut paths) old (λ m q. inl refl);
     loosens = λ q h. h;
   }
@@ -84,14 +83,12 @@ module _ {F : Type 0} (meaning : Meaning F) where
   }
 
   -- such a call alone
-  pub spares_looking : (paths : List (List ℕ)) (old new : F) → ((m : Files) → meaning.stopped_since old (meaning.clock old) m → m ≡ meaning.files old)
+  pub spares_looking : (paths : List (List ℕ)) (old new : F) → meaning.keeps old
       → Passes meaning Same old new → Loses meaning looking old new → SparesAllBut meaning paths old new
-  spares_looking paths old new only time loss = spares_looked paths old old new (spares_started paths old only) time loss
+  spares_looking paths old new kept time loss = spares_looked paths old old new (spares_started paths old kept) time loss
 
   -- a removal
-  module _ (path : List ℕ) (old new : F)
-      (only : (m : Files) → meaning.stopped_since old (meaning.clock old) m → m ≡ meaning.files old)
-      (counts : (m : Files) → IsSpread (meaning.loose old) (meaning.files old) m → meaning.lost_since old (meaning.clock old) m) where
+  module _ (path : List ℕ) (old new : F) (kept : meaning.keeps old) where
     here : Contains (path ∷ []) path
     here = Contains-push [] path
 
@@ -116,7 +113,7 @@ module _ {F : Type 0} (meaning : Meaning F) where
     lost m h = (
       before m,
       (
-        counts (before m) (back m h),
+        lost_now meaning old kept (before m) (back m h),
         λ q. elim (decide q path) [
           | inl e ↦ inr (subst (Contains (path ∷ [])) (sym e) here, ap (λ p. get m p) e ∙ gone m h)
           | inr ne ↦ inl (sym (get-put_back_other path (get (meaning.files old) path) m q ne))
@@ -126,7 +123,7 @@ module _ {F : Type 0} (meaning : Meaning F) where
 
     pub spares_removed : Passes meaning (AllOrNone (removed path)) old new → Loses meaning (removing path) old new → SparesAllBut meaning (path ∷ []) old new
     spares_removed time loss =
-        let start = spares_started (path ∷ []) old only in
+        let start = spares_started (path ∷ []) old kept in
         record {
           any_moment = goes_on meaning (IsAsItWasBut (path ∷ []) (meaning.files old)) (AllOrNone (removed path)) old old new start.any_moment time part_of;
           any_loss = loses_on meaning (IsAsItWasBut (path ∷ [])) (removing path) old old new time.later start.any_loss loss lost;
@@ -135,12 +132,11 @@ module _ {F : Type 0} (meaning : Meaning F) where
 
 -- steps in order
 module _ {F T : Type 0} (meaning : Meaning F) (Step : ℕ → T → F → F → Type 0)
-    (only : (f : F) → meaning.keeps f → (m : Files) → meaning.stopped_since f (meaning.clock f) m → m ≡ meaning.files f)
     (kept : (n : ℕ) (t : T) (old new : F) → Step n t old new → meaning.keeps new) where
   -- each of which spares all
   pub all_in_order : ((n : ℕ) (t : T) (old new : F) → Step n t old new → SparesAllBut meaning [] old new)
       → (n : ℕ) (ts : List T) (old new : F) → meaning.keeps old → InOrder Step n ts old new → SparesAllBut meaning [] old new
-  all_in_order spared n [] old new k is = subst (λ f. SparesAllBut meaning [] old f) (sym is) (spares_started meaning [] old (only old k))
+  all_in_order spared n [] old new k is = subst (λ f. SparesAllBut meaning [] old f) (sym is) (spares_started meaning [] old k)
   all_in_order spared n (t ∷ ts) old new k steps =
       let mid = steps.0 in
       spares_then meaning [] old mid new (spared n t old mid steps.1) (all_in_order spared (suc n) ts mid new (kept n t old mid steps.1) steps.2)
@@ -148,7 +144,7 @@ module _ {F T : Type 0} (meaning : Meaning F) (Step : ℕ → T → F → F → 
   -- or all but a path of its own
   pub each_in_order : (path_of : T → List ℕ) → ((n : ℕ) (t : T) (old new : F) → Step n t old new → SparesAllBut meaning (path_of t ∷ []) old new)
       → (n : ℕ) (ts : List T) (old new : F) → meaning.keeps old → InOrder Step n ts old new → SparesAllBut meaning (map path_of ts) old new
-  each_in_order path_of spared n [] old new k is = subst (λ f. SparesAllBut meaning [] old f) (sym is) (spares_started meaning [] old (only old k))
+  each_in_order path_of spared n [] old new k is = subst (λ f. SparesAllBut meaning [] old f) (sym is) (spares_started meaning [] old k)
   each_in_order path_of spared n (t ∷ ts) old new k steps =
       let mid = steps.0 in
       let one : List (List ℕ) = path_of t ∷ [] in

@@ -1,5 +1,6 @@
 pub mod Names
 pub mod Files
+pub mod Spread
 pub mod Losses
 pub mod Places
 pub mod Listings

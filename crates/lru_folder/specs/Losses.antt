@@ -1,14 +1,8 @@
 -- What a loss of power may leave.
-use Rattle.std.specs.Prelude.{◌≡◌, ◌≢◌, ◌⊎◌, ◌≤◌, ℕ, List, is_some}
-use Rattle.std.specs.FinMap.{get}
+use Rattle.std.specs.Prelude.{◌≡◌, ◌≢◌, ◌⊎◌, ◌≤◌, ℕ, List}
 use Rattle.lru_folder.specs.Files.{Files, created, appended, renamed, removed}
 use Rattle.lru_folder.specs.Meaning.{Meaning}
-
--- The spread of a map: the maps that differ from it at most in the bytes of loose paths, those that were written and not
--- synced since.
-pub record IsSpread (loose : List ℕ → Type 0) (files m : Files) : Type 0 where
-  pub there : (q : List ℕ) → is_some (get m q) ≡ is_some (get files q)
-  pub others : (q : List ℕ) → ¬ loose q → get m q ≡ get files q
+pub use Rattle.lru_folder.specs.Spread.{IsSpread}
 
 -- the loose paths where this path is one too, where it is none, and after a rename
 abbrev pub loosened : List ℕ → (List ℕ → Type 0) → List ℕ → Type 0

@@ -1,8 +1,8 @@
 // A folder, with what a stop or a loss of power at any moment may leave.
-ghost use Rattle.std.specs.Prelude.{◌≡◌, ◌≢◌, ◌≤◌, ◌↔◌, ℕ, List, None, Some, IfOk, IsTrue, OnOk, IsErrOf, MatchResult, length, map};
+ghost use Rattle.std.specs.Prelude.{◌≡◌, ◌≢◌, ◌↔◌, ℕ, List, None, Some, IfOk, IsTrue, OnOk, IsErrOf, MatchResult, length, map};
 ghost use Rattle.std.specs.FinMap.{get};
-ghost use Rattle.lru_folder.specs.Files.{Files, created, appended, renamed, removed, AllOrNone, SomeFront, Same};
-ghost use Rattle.lru_folder.specs.Losses.{IsSpread, IsSynced, Loses, creating, writing, renaming, removing, looking, firmed, handed_on};
+ghost use Rattle.lru_folder.specs.Files.{created, appended, renamed, removed, AllOrNone, SomeFront, Same};
+ghost use Rattle.lru_folder.specs.Losses.{IsSynced, Loses, creating, writing, renaming, removing, looking, firmed, handed_on};
 ghost use Rattle.lru_folder.specs.declared.folder_call.FolderCall.{FolderCall};
 ghost use Rattle.lru_folder.specs.Places.{folder_of, is_there, can_list, listing, MakesAll, MakesSome};
 ghost use Rattle.lru_folder.specs.Listings.{name_of};
@@ -18,7 +18,8 @@ use crate::listed::Listed;
 /// A path is a text, and so is a folder. A folder may stand with a slash at its end or without one; the empty folder
 /// and `/` are always there. `Io` is answered only where the folder failed, and `Memory` only where memory was refused.
 pub trait Folder {
-    /// What the folder holds, at every moment, and whether it keeps this meaning: no call gains or loses that.
+    /// What the folder holds, at every moment, with the laws of that, and whether it keeps this meaning: no call gains or
+    /// loses that.
     ghost meaning: { Meaning Self };
 
     /// The open file.
@@ -161,14 +162,4 @@ pub trait Folder {
         ensures cause { meaning.keeps self.old → HasCause (meaning.faults self.old) (meaning.faults self.new) result }
         ensures found { meaning.keeps self.old → IsErrOf result FolderFault.NotFound → get (meaning.files self.old) path.now ≡ None }
         ensures kept { meaning.keeps self.old ↔ meaning.keeps self.new };
-
-    /// What is there now is among what a stop now could leave,
-    ghost counts_now: { (folder : Self) (t : ℕ) → meaning.keeps folder → t ≤ meaning.clock folder → meaning.stopped_since folder t (meaning.files folder) };
-
-    /// and since this moment there is nothing else.
-    ghost only_now: { (folder : Self) (m : Files) → meaning.keeps folder → meaning.stopped_since folder (meaning.clock folder) m → m ≡ meaning.files folder };
-
-    /// A loss of power since any moment could have left what is there now, with any bytes at its loose paths.
-    ghost counts_lost: { (folder : Self) (t : ℕ) (m : Files) → meaning.keeps folder → t ≤ meaning.clock folder
-        → IsSpread (meaning.loose folder) (meaning.files folder) m → meaning.lost_since folder t m };
 }

@@ -293,12 +293,6 @@ where
 
     ghost opened = { λ h. h };
 
-    ghost counts_now = { λ h t k le. absurd k };
-
-    ghost only_now = { λ h m k s. absurd k };
-
-    ghost counts_lost = { λ h t m k le s. absurd k };
-
     fn make(&mut self, dir: &str) -> Result<(), FolderFault> {
         shut(&mut self.file);
         answer(&self.rt, "create", dir, self.make_all(dir))

@@ -1,5 +1,5 @@
 //! Who sends messages.
-ghost use Rattle.std.specs.Prelude.{◌≡◌, ◌≤◌, [], length};
+ghost use Rattle.std.specs.Prelude.{◌≡◌, ◌≤◌, [], length, IsSome};
 ghost use Rattle.lru_rules.specs.Limits.{cap_of};
 ghost use Rattle.lru_logs.specs.Logs.{of_fronts, seen_of};
 ghost use Rattle.lru_inbox.specs.Inboxes.{Learns};
@@ -33,7 +33,9 @@ impl<K: Clone + Drop, B: Archive> Caller<K, B> {
     /// it tells begins with all that was seen of it, if that was no longer. Else the reply is dropped, and nothing was learned.
     pub fn learn(&mut self, shard: usize, least: u64, told: Told<K, B>) -> Option<Reply<K>>
         requires { length (seen_of shard self.old.voice.token.me.0.fronts) ≤ least }
-        ensures { Learns K.is_clone (cap_of B.shards) shard self.old.voice.token.me.0.fronts result self.new.voice.token.me.0.fronts }
+        ensures learned { Learns K.is_clone (cap_of B.shards) shard self.old.voice.token.me.0.fronts result self.new.voice.token.me.0.fronts }
+        ensures answers { IsSome told.seen → told.shard ≡ shard → least ≤ told.count → IsSome result }
+        ensures only { IsSome result → IsSome told.seen × (told.shard ≡ shard) × (least ≤ told.count) }
     {
         let Told {
             reply,

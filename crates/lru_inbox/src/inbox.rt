@@ -53,6 +53,7 @@ impl<K: Clone + Drop, B: Archive> Inbox<K, B> {
     /// One who sends messages, and has seen nothing; `None` where there is no log.
     pub fn caller(&mut self) -> Result<Option<Caller<K, B>>, AllocError>
         ensures none { IfOk result (λ caller. ForSome caller (λ c. c.voice.token.me.0.fronts ≡ [])) }
+        ensures logged { IfOk result (λ caller. is_some caller ≡ is_some self.old.log) }
         ensures same { (self.new.shard ≡ self.old.shard) × (self.new.state ≡ self.old.state) × (log_in self.new.log ≡ log_in self.old.log) }
     {
         match &mut self.log {

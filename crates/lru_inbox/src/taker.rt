@@ -62,6 +62,7 @@ impl<K: Clone + Drop, B: Archive> Taker<K, B> {
         ensures reply { result.reply ≡ reply }
         ensures shard { result.shard ≡ self.old.shard }
         ensures count { result.count ≡ count }
+        ensures seen { is_some result.seen ≡ is_some self.old.voice }
         ensures same { (self.new.shard ≡ self.old.shard) × (self.new.count ≡ self.old.count) × (taken_in self.new.voice ≡ taken_in self.old.voice) }
     {
         let shard = self.shard;

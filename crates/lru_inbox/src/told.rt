@@ -40,7 +40,7 @@ impl<K: Clone + Drop, B: Archive> Told<K, B> {
         requires told { ForSome seen (λ t. t.me ≡ (of_fronts (front shard (shown t.me.0) ∷ []), [])) }
         requires counted { ForSome seen (λ t. count ≡ length (shown t.me.0)) }
         requires tells { ForSome seen (λ t. ∥ IsReply K.is_clone (cap_of B.shards) (shown t.me.0) reply ∥₁) }
-        ensures { (result.reply ≡ reply) × (result.shard ≡ shard) × (result.count ≡ count) }
+        ensures { (result.reply ≡ reply) × (result.shard ≡ shard) × (result.count ≡ count) × (result.seen ≡ seen) }
     {
         Told {
             reply,

@@ -12,9 +12,9 @@ use std::alloc::{AllocError, Global};
 // What lies behind a shard's lock. Its calls are all that is done under the lock, on the unit that it lends.
 #[derive(Drop)]
 pub(crate) struct Locked<T, const N: usize> {
-    pub(crate) unit: LruUnit<T>,
-    // which shard it is
+    // which shard it is; it lies beside the lock's own word
     pub(crate) number: usize,
+    pub(crate) unit: LruUnit<T>,
     ghost capped: { unit.cap ≡ cap_of N },
     ghost below: { number < N },
     ghost home: { AreAtHome N number unit.rows },

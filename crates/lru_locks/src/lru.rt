@@ -18,18 +18,22 @@ use std::alloc::{AllocError, Global};
 use std::sync::atomic::{AtomicUsize, Ordering};
 use std::sync::{RwLockWriteGuard, Wait};
 
-// Empty units behind locks, each with room for `capacity` rows.
+// For how many pairs an `evict_to_limit` makes room at once: what a vector of small rows takes when it first grows. An
+// admission of one row mostly makes one leave, or a few.
+const FIRST_PAIRS: usize = 4;
+
+// Empty shards, each with room for `capacity` rows.
 fn empty_units<T: Drop, const N: usize>(
     alloc: Global,
     capacity: usize,
-) -> Result<Vec<CachePadded<ShortLock<Locked<T, N>>>>, AllocError>
+) -> Result<Vec<CachePadded<Shard<T, N>>>, AllocError>
     requires { 0 < N }
     ensures { IfOk result (λ units. vec_len units ≡ N) }
 {
     let mut units = Vec::with_capacity(alloc, N)?;
     for number in 0..N {
         let locked = Locked::with_capacity(alloc, capacity, number)?;
-        units.push(CachePadded::new(ShortLock::new(locked)))?;
+        units.push(CachePadded::new(Shard::new(locked)))?;
     }
     Ok(units)
 }
@@ -37,28 +41,19 @@ fn empty_units<T: Drop, const N: usize>(
 // The shard that a lock has. No type says which lock has which shard, so the number is looked at; it is the right one.
 fn unit_of<T: Drop, const N: usize>(
     rt: &impl Wait,
-    lock: CachePadded<ShortLock<Locked<T, N>>>,
+    shard: CachePadded<Shard<T, N>>,
     number: usize,
 ) -> LruUnit<T>
     ensures { IsOwn N number result }
 {
-    let locked = lock.into_inner().into_inner();
+    let Shard { lock, .. } = shard.into_inner();
+    let locked = lock.into_inner();
     for _ in rt.forever() {
         if locked.number == number {
             break;
         }
     }
     locked.into_unit()
-}
-
-fn zeros(alloc: Global, count: usize) -> Result<Vec<CachePadded<ShardCounters>>, AllocError>
-    ensures { IfOk result (λ zeros. vec_len zeros ≡ count) }
-{
-    let mut zeros = Vec::with_capacity(alloc, count)?;
-    for _ in 0..count {
-        zeros.push(CachePadded::new(ShardCounters::zero()))?;
-    }
-    Ok(zeros)
 }
 
 // One step of a counter, under the lock of the shard whose number changed: what it is after the step. Where the number is as
@@ -87,6 +82,30 @@ impl ShardCounters {
             len: AtomicUsize::new(0),
             evicted_weight: AtomicUsize::new(0),
             evicted_len: AtomicUsize::new(0),
+        }
+    }
+
+    // Counts rows that were evicted.
+    fn note_evicted(&self, evicted: Totals) {
+        self.evicted_weight
+            .fetch_add(evicted.weight, Ordering::SeqCst);
+        self.evicted_len.fetch_add(evicted.len, Ordering::SeqCst);
+    }
+}
+
+// A shard behind its lock. Who holds the lock writes what is counted, too, and so that lies beside it: a thread that comes
+// after another fetches the cache lines of both at once.
+#[derive(Drop)]
+struct Shard<T, const N: usize> {
+    counts: ShardCounters,
+    lock: ShortLock<Locked<T, N>>,
+}
+
+impl<T, const N: usize> Shard<T, N> {
+    fn new(locked: Locked<T, N>) -> Self {
+        Shard {
+            counts: ShardCounters::zero(),
+            lock: ShortLock::new(locked),
         }
     }
 }
@@ -118,15 +137,12 @@ impl Counters {
 #[derive(Drop)]
 pub struct Lru<T, const N: usize> {
     // no two shards share a cache line, so that a thread at one doesn't slow a thread at another
-    units: Vec<CachePadded<ShortLock<Locked<T, N>>>>,
-    // what is counted of each unit
-    counts: Vec<CachePadded<ShardCounters>>,
+    units: Vec<CachePadded<Shard<T, N>>>,
     counters: CachePadded<Counters>,
     weight_limit: AtomicUsize,
     watermark: Option<usize>,
     ghost some: { 0 < N },
     ghost has_units: { vec_len units ≡ N },
-    ghost has_counts: { vec_len counts ≡ N },
 }
 
 impl<T, const N: usize> Lru<T, N> {
@@ -158,7 +174,6 @@ impl<T, const N: usize> Lru<T, N> {
     {
         Ok(Lru {
             units: empty_units(alloc, capacity)?,
-            counts: zeros(alloc, N)?,
             counters: CachePadded::new(Counters::zero()),
             weight_limit: AtomicUsize::new(weight_limit),
             watermark,
@@ -187,7 +202,7 @@ impl<T, const N: usize> Lru<T, N> {
     pub fn shard_len(&self, shard: usize) -> usize
         requires { shard < N }
     {
-        self.counts[shard].len.load(Ordering::SeqCst)
+        self.units[shard].counts.len.load(Ordering::SeqCst)
     }
 
     /// The weight above which the `Lru` is over.
@@ -203,8 +218,8 @@ impl<T, const N: usize> Lru<T, N> {
     /// The sum of the weights of all rows evicted so far, modulo 2^64.
     pub fn evicted_weight(&self) -> usize {
         let mut sum = 0usize;
-        for counts in &self.counts {
-            sum = sum.wrapping_add(counts.evicted_weight.load(Ordering::SeqCst));
+        for unit in &self.units {
+            sum = sum.wrapping_add(unit.counts.evicted_weight.load(Ordering::SeqCst));
         }
         sum
     }
@@ -212,8 +227,8 @@ impl<T, const N: usize> Lru<T, N> {
     /// The number of all rows evicted so far, modulo 2^64.
     pub fn evicted_len(&self) -> usize {
         let mut sum = 0usize;
-        for counts in &self.counts {
-            sum = sum.wrapping_add(counts.evicted_len.load(Ordering::SeqCst));
+        for unit in &self.units {
+            sum = sum.wrapping_add(unit.counts.evicted_len.load(Ordering::SeqCst));
         }
         sum
     }
@@ -223,7 +238,7 @@ impl<T, const N: usize> Lru<T, N> {
         requires { shard < N }
         ensures { result ≤ cap_of N }
     {
-        self.units[shard].read(rt).totals().weight
+        self.units[shard].lock.read(rt).totals().weight
     }
 
     /// Calls a closure with the data and the weight of each row of a shard, most recent first, under the
@@ -232,19 +247,19 @@ impl<T, const N: usize> Lru<T, N> {
         requires shard { shard < N }
         requires visit { F.IsAlwaysCallable visit }
     {
-        self.units[shard].read(rt).visit(visit);
+        self.units[shard].lock.read(rt).visit(visit);
     }
 
     /// Whether a key has a row.
     pub fn peek(&self, rt: &impl Wait, key: u64) -> bool {
-        self.units[self.shard_of(key)].read(rt).holds(key)
+        self.units[self.shard_of(key)].lock.read(rt).holds(key)
     }
 
     /// The weight of a key.
     pub fn peek_weight(&self, rt: &impl Wait, key: u64) -> Option<usize>
         ensures { IfSome result (λ weight. weight ≤ cap_of N) }
     {
-        self.units[self.shard_of(key)].read(rt).weight_at(key)
+        self.units[self.shard_of(key)].lock.read(rt).weight_at(key)
     }
 
     /// The data, cloned, and the weight of the row of a shard that was used longest ago; `None` of an empty
@@ -256,10 +271,10 @@ impl<T, const N: usize> Lru<T, N> {
         ensures past { N ≤ shard → result ≡ Ok None }
         ensures light { IfOk result (λ found. IfSome found (λ pair. pair.1 ≤ cap_of N)) }
     {
-        let Some(locked) = self.units.get(shard) else {
+        let Some(unit) = self.units.get(shard) else {
             return Ok(None);
         };
-        locked.read(rt).cloned_last()
+        unit.lock.read(rt).cloned_last()
     }
 
     /// Makes room for `additional` more rows in a shard; past N it does nothing. Nothing else changes,
@@ -272,10 +287,10 @@ impl<T, const N: usize> Lru<T, N> {
     ) -> Result<(), AllocError>
         ensures { N ≤ shard → result ≡ Ok tt }
     {
-        let Some(locked) = self.units.get(shard) else {
+        let Some(unit) = self.units.get(shard) else {
             return Ok(());
         };
-        locked.write(rt).reserve(additional)
+        unit.lock.write(rt).reserve(additional)
     }
 
     /// Ends all calls, and answers the shards, in their order, with what was counted of them. The keys of each shard are its
@@ -293,10 +308,10 @@ impl<T, const N: usize> Lru<T, N> {
             weight: self.weight(),
             len: self.len(),
         };
-        let Lru { units: locks, .. } = self;
-        for lock in locks {
+        let Lru { units: shards, .. } = self;
+        for shard in shards {
             let number = units.len();
-            units.push_reserved(unit_of(rt, lock, number));
+            units.push_reserved(unit_of(rt, shard, number));
         }
         Ok(Units { units, totals })
     }
@@ -312,12 +327,28 @@ impl<T, const N: usize> Lru<T, N> {
 
     // Takes the lock of a shard, for a call that may bring a key in. No type says which lock has which shard, so the number is
     // looked at; the first one is the right one.
+    #[inline(always)]
     fn unit_at(&self, rt: &impl Wait, shard: usize) -> RwLockWriteGuard<'_, Locked<T, N>>
         requires { shard < N }
         ensures { (write_guard_value result).number ≡ shard }
     {
+        let first = self.units[shard].lock.write(rt);
+        if first.number == shard {
+            return first;
+        }
+        drop(first);
+        self.unit_after_another(rt, shard)
+    }
+
+    // As `unit_at`, where the first one was not the right one: never, but that no type says so.
+    #[cold]
+    #[inline(never)]
+    fn unit_after_another(&self, rt: &impl Wait, shard: usize) -> RwLockWriteGuard<'_, Locked<T, N>>
+        requires { shard < N }
+        ensures { (write_guard_value result).number ≡ shard }
+    {
         for _ in rt.forever() {
-            let unit = self.units[shard].write(rt);
+            let unit = self.units[shard].lock.write(rt);
             if unit.number == shard {
                 return unit;
             }
@@ -331,18 +362,15 @@ impl<T, const N: usize> Lru<T, N> {
     {
         shift(&self.counters.weight, before.weight, after.weight);
         shift(&self.counters.len, before.len, after.len);
-        shift(&self.counts[shard].len, before.len, after.len);
+        shift(&self.units[shard].counts.len, before.len, after.len);
     }
 
-    // Counts rows that were evicted from a shard.
-    fn note_evicted(&self, shard: usize, evicted: Totals)
-        requires { shard < N }
-    {
-        let counts = &self.counts[shard];
-        counts
-            .evicted_weight
-            .fetch_add(evicted.weight, Ordering::SeqCst);
-        counts.evicted_len.fetch_add(evicted.len, Ordering::SeqCst);
+    // Brings the counters after the eviction of one row from a shard, while its lock is held.
+    fn note_eviction(&self, counts: &ShardCounters, weight: usize) {
+        self.counters.weight.fetch_sub(weight, Ordering::SeqCst);
+        self.counters.len.fetch_sub(1, Ordering::SeqCst);
+        counts.len.fetch_sub(1, Ordering::SeqCst);
+        counts.note_evicted(Totals { weight, len: 1 });
     }
 
     // The longer of two drawn shards, a first and b second, by the lengths as read; a where they are as
@@ -363,6 +391,7 @@ impl<T: Drop, const N: usize> Lru<T, N> {
     ghost use Rattle.lru_locks.specs.Sheds.{VisitsLight};
 
     /// As `LruCore::admit`: puts a row first in the shard of its key, and answers that shard.
+    #[inline(always)]
     pub fn admit(
         &self,
         rt: &impl Wait,
@@ -481,7 +510,7 @@ impl<T: Drop, const N: usize> Lru<T, N> {
         ensures { IfErr result (λ cause. cause ≡ Cause.Weight) }
     {
         let shard = self.shard_of(key);
-        let mut unit = self.units[shard].write(rt);
+        let mut unit = self.units[shard].lock.write(rt);
         let before = unit.totals();
         let answer = unit.set_weight(key, weight);
         self.note(shard, before, unit.totals());
@@ -490,7 +519,7 @@ impl<T: Drop, const N: usize> Lru<T, N> {
 
     /// Puts a key's row first, and answers whether there is one.
     pub fn promote(&self, rt: &impl Wait, key: u64) -> bool {
-        self.units[self.shard_of(key)].write(rt).promote(key)
+        self.units[self.shard_of(key)].lock.write(rt).promote(key)
     }
 
     /// As `LruCore::promote_top_n`. It looks first, together with other readers of the shard, and takes the lock for
@@ -502,6 +531,7 @@ impl<T: Drop, const N: usize> Lru<T, N> {
     // It lets go of the lock before it returns, so that the caller may take it for writing.
     fn is_among_first(&self, rt: &impl Wait, key: u64, top: usize) -> bool {
         self.units[self.shard_of(key)]
+            .lock
             .read(rt)
             .is_among_first(key, top)
     }
@@ -511,7 +541,7 @@ impl<T: Drop, const N: usize> Lru<T, N> {
         ensures { IfSome result (λ pair. pair.1 ≤ cap_of N) }
     {
         let shard = self.shard_of(key);
-        let mut unit = self.units[shard].write(rt);
+        let mut unit = self.units[shard].lock.write(rt);
         let before = unit.totals();
         let answer = unit.remove(key);
         self.note(shard, before, unit.totals());
@@ -526,15 +556,15 @@ impl<T: Drop, const N: usize> Lru<T, N> {
     }
 
     // Evicts the last row of a shard, if it has one.
+    #[inline(always)]
     fn evict_from(&self, rt: &impl Wait, shard: usize) -> Option<(T, usize)>
         requires { shard < N }
         ensures { IfSome result (λ pair. pair.1 ≤ cap_of N) }
     {
-        let mut unit = self.units[shard].write(rt);
-        let before = unit.totals();
+        let counts = &self.units[shard].counts;
+        let mut unit = self.units[shard].lock.write(rt);
         let (data, weight) = unit.evict()?;
-        self.note(shard, before, unit.totals());
-        self.note_evicted(shard, Totals { weight, len: 1 });
+        self.note_eviction(counts, weight);
         Some((data, weight))
     }
 
@@ -543,11 +573,10 @@ impl<T: Drop, const N: usize> Lru<T, N> {
         requires { shard < N }
         ensures { IfSome result (λ pair. pair.1 ≤ cap_of N) }
     {
-        let mut unit = self.units[shard].write(rt);
-        let before = unit.totals();
+        let counts = &self.units[shard].counts;
+        let mut unit = self.units[shard].lock.write(rt);
         let (data, weight) = unit.evict_besides(key)?;
-        self.note(shard, before, unit.totals());
-        self.note_evicted(shard, Totals { weight, len: 1 });
+        self.note_eviction(counts, weight);
         Some((data, weight))
     }
 
@@ -583,6 +612,7 @@ impl<T: Drop, const N: usize> Lru<T, N> {
         ensures visited { VisitsLight (λ p x q. F.step p x tt q) visit.old (cap_of N) visit.new }
     {
         let shard = self.shard_of(key);
+        let counts = &self.units[shard].counts;
         let mut unit = self.unit_at(rt, shard);
         let before = unit.totals();
         let mut all = self.readings();
@@ -592,9 +622,9 @@ impl<T: Drop, const N: usize> Lru<T, N> {
         let counters = &self.counters;
         all.weight = stepped(&counters.weight, before.weight, after.weight, all.weight);
         all.len = stepped(&counters.len, before.len, after.len, all.len);
-        shift(&self.counts[shard].len, before.len, after.len);
+        shift(&counts.len, before.len, after.len);
         if evicted.len > 0 {
-            self.note_evicted(shard, evicted);
+            counts.note_evicted(evicted);
         }
         Ok(all)
     }
@@ -659,11 +689,25 @@ impl<T: Drop, const N: usize> Lru<T, N> {
     }
 
     // Evicts the last row of the first shard that is not empty, from this one on and round the circle.
+    #[inline(always)]
     fn evict_near(&self, rt: &impl Wait, from: usize) -> Option<(T, usize)>
         requires { from < N }
         ensures { IfSome result (λ pair. pair.1 ≤ cap_of N) }
     {
-        for steps in 0..N {
+        if let Some(pair) = self.evict_from(rt, from) {
+            return Some(pair);
+        }
+        self.evict_past(rt, from)
+    }
+
+    // As `evict_near`, where the first shard was found empty.
+    #[cold]
+    #[inline(never)]
+    fn evict_past(&self, rt: &impl Wait, from: usize) -> Option<(T, usize)>
+        requires { from < N }
+        ensures { IfSome result (λ pair. pair.1 ≤ cap_of N) }
+    {
+        for steps in 1..N {
             let shard = place_after(from, steps, N);
             if let Some(pair) = self.evict_from(rt, shard) {
                 return Some(pair);
@@ -703,11 +747,49 @@ impl<T: Drop, const N: usize> Lru<T, N> {
         ensures undrawn { N ≡ 1 → rng.new ≡ rng.old }
     {
         let mut readings = self.readings();
-        let mut evicted = Vec::new(alloc);
-        for _ in 0..readings.len {
-            if !readings.is_past(self.weight(), self.len()) {
-                break;
-            }
+        if readings.len == 0 || !readings.is_past(readings.weight, readings.len) {
+            return Ok(Vec::new(alloc));
+        }
+        let Ok(mut evicted) = Vec::with_capacity(alloc, FIRST_PAIRS) else {
+            return Err(EvictError {
+                evicted: Vec::new(alloc),
+            });
+        };
+        let Some(pair) = self.evict_near(rt, self.drawn_shard(rng)) else {
+            return Ok(evicted);
+        };
+        readings.evicted(pair.1);
+        evicted.push_reserved(pair);
+        if !readings.is_past(self.weight(), self.len()) {
+            return Ok(evicted);
+        }
+        // (field by field: calls that ended above would put a copy into memory, too, and most end there)
+        let left = Readings {
+            weight: readings.weight,
+            len: readings.len,
+            weight_limit: readings.weight_limit,
+            watermark: readings.watermark,
+        };
+        self.evict_more(rt, rng, left, evicted)
+    }
+
+    // Goes on with an `evict_to_limit` that is still over after its first row. It stands apart, so that the first takes no loop.
+    #[inline(never)]
+    fn evict_more<R: Rng>(
+        &self,
+        rt: &impl Wait,
+        rng: &mut R,
+        left: Readings,
+        first: Vec<(T, usize)>,
+    ) -> Result<Vec<(T, usize)>, EvictError<T>>
+        requires { All (λ pair. pair.1 ≤ cap_of N) first.items }
+        ensures ok { IfOk result (λ pairs. All (λ pair. pair.1 ≤ cap_of N) pairs.items) }
+        ensures err { IfErr result (λ stopped. All (λ pair. pair.1 ≤ cap_of N) stopped.evicted.items) }
+        ensures undrawn { N ≡ 1 → rng.new ≡ rng.old }
+    {
+        let mut readings = left;
+        let mut evicted = first;
+        for _ in 0..left.len {
             if evicted.reserve(1).is_err() {
                 return Err(EvictError { evicted });
             }
@@ -716,6 +798,9 @@ impl<T: Drop, const N: usize> Lru<T, N> {
             };
             readings.evicted(pair.1);
             evicted.push_reserved(pair);
+            if !readings.is_past(self.weight(), self.len()) {
+                break;
+            }
         }
         Ok(evicted)
     }

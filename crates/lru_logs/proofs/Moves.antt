@@ -130,6 +130,17 @@ module _ {E : Type 0} where
     fronts_r = λ x a. ⊎_elim (λ b. inr (inr (mapped_front x v.logs b))) (λ b. inl b) (among_either x (map front_of v.logs) v.fronts a);
   }
 
+  pub cuts_copied : (v : Hand E) → Cuts v v (hand [] [] (map front_of v.logs ++ v.fronts))
+  cuts_copied v = record {
+    logs = λ n. omega arith;
+    takers = λ n. omega arith;
+    stay = λ x a. inl a;
+    takers_l = λ x a. a;
+    takers_r = λ x a. absurd a;
+    fronts_l = λ x a. a;
+    fronts_r = λ x a. ⊎_elim (λ b. inr (inr (mapped_front x v.logs b))) (λ b. inl b) (among_either x (map front_of v.logs) v.fronts a);
+  }
+
   pub cuts_parts : (v : Hand E) → Cuts v (hand v.logs [] v.fronts) (hand [] v.takers [])
   cuts_parts v = record {
     logs = λ n. omega arith;

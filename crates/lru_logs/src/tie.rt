@@ -1,8 +1,7 @@
 //! The table that ties those who put messages to those who take them. It has one word, which says nothing; what is known lies
 //! in its tokens, which take no bytes.
-ghost use Rattle.std.specs.Prelude.{◌≡◌, [], ◌∷◌, ◌++◌, take, drop, IfOk};
+ghost use Rattle.std.specs.Prelude.{◌≡◌, [], ◌∷◌, ◌++◌, map, take, drop, IfOk};
 ghost use Rattle.lru_logs.specs.Logs.{log, front, hand, accepted, of_log, of_taker, of_fronts, log_of, taken_by, blank_logs, blank_fronts, front_of, begun, put_in, taken_from, Logs, Puts, Takes, Looks, Shows, joined, Begins};
-ghost use Rattle.std.specs.Prelude.{map};
 
 use crate::hand::Hand;
 use atomic_table::{Join, Play, Seat, Split, Table, TableRule};
@@ -123,6 +122,15 @@ impl<E, C: Counting> Split<Hand<E>> for Shown<E, C> {
     ghost right = { λ v. hand [] [] (map (begun C.count) v.takers) };
 }
 
+// All that was seen is seen by another too.
+struct Copied<E>(PhantomData<E>);
+
+impl<E> Split<Hand<E>> for Copied<E> {
+    ghost left = { λ v. v };
+
+    ghost right = { λ v. hand [] [] (map front_of v.logs ++ v.fronts) };
+}
+
 // The first log goes.
 struct DealLog<E>(PhantomData<E>);
 
@@ -225,6 +233,32 @@ impl<E> Tie<E> {
         ensures shown { result.me ≡ (of_fronts (map (begun count) taker.old.me.0.takers), []) }
     {
         self.show_counted::<Brand>(taker, count)
+    }
+
+    /// A token that has seen what another has, the logs that it speaks for among it. That one stays as it is.
+    pub fn seen(&self, any: &mut Token<E>) -> Token<E>
+        requires id { any.old.table_id ≡ self.now.table.shared.table_id }
+        requires free { any.old.me.1 ≡ [] }
+        ensures ids { (any.new.table_id ≡ any.old.table_id) × (result.table_id ≡ any.old.table_id) }
+        ensures same { any.new.me ≡ any.old.me }
+        ensures seen { result.me ≡ (of_fronts (map front_of any.old.me.0.logs ++ any.old.me.0.fronts), []) }
+    {
+        self.table.shared.split_seat::<Copied<E>>(any)
+    }
+
+    /// What two tokens show together of what was seen: of one shard, all begins one log. They stay as they are.
+    pub fn compare(&self, one: &mut Token<E>, other: &mut Token<E>)
+        requires ids { (one.old.table_id ≡ self.now.table.shared.table_id) × (other.old.table_id ≡ self.now.table.shared.table_id) }
+        requires one { one.old.me ≡ (of_fronts one.old.me.0.fronts, []) }
+        requires other { other.old.me ≡ (of_fronts other.old.me.0.fronts, []) }
+        ensures ids { (one.new.table_id ≡ one.old.table_id) × (other.new.table_id ≡ other.old.table_id) }
+        ensures same { (one.new.me ≡ one.old.me) × (other.new.me ≡ other.old.me) }
+        ensures shows { Shows (of_fronts (one.old.me.0.fronts ++ other.old.me.0.fronts)) }
+    {
+        let mut both = self.seen(one);
+        let copy = self.seen(other);
+        self.join(&mut both, copy);
+        self.look(&mut both);
     }
 
     /// Puts two tokens together.

@@ -1,7 +1,7 @@
 //! A token with the tie that it belongs to.
 ghost use Rattle.std.specs.Prelude.{◌≡◌, ◌+◌, [], ◌∷◌, ◌++◌, take, drop, map, IfOk, OnOk, OnErr};
 ghost use Rattle.std.specs.Arc.{arc_value};
-ghost use Rattle.lru_logs.specs.Logs.{front, hand, accepted, of_log, of_taker, of_fronts, log_of, taken_by, blank_logs, blank_fronts, begun, put_in, taken_from, joined, Shows};
+ghost use Rattle.lru_logs.specs.Logs.{front, front_of, hand, accepted, of_log, of_taker, of_fronts, log_of, taken_by, blank_logs, blank_fronts, begun, put_in, taken_from, joined, Shows};
 
 use crate::tie::{Archive, Tie, Token};
 use std::alloc::{AllocError, Global};
@@ -106,6 +106,43 @@ impl<E, B: Archive> Voice<E, B> {
         ensures shown { result.me ≡ (of_fronts (map (begun count) self.old.token.me.0.takers), []) }
     {
         self.tie.show(&mut self.token, count)
+    }
+
+    /// A token that has seen what this has, the logs that it speaks for among it.
+    pub fn seen(&mut self) -> Token<E>
+        requires { self.old.token.me.1 ≡ [] }
+        ensures here { result.table_id ≡ B.log }
+        ensures same { self.new.token.me ≡ self.old.token.me }
+        ensures seen { result.me ≡ (of_fronts (map front_of self.old.token.me.0.logs ++ self.old.token.me.0.fronts), []) }
+    {
+        self.tie.seen(&mut self.token)
+    }
+
+    /// What two tokens show together of what was seen: of one shard, all begins one log. They stay as they are.
+    pub fn compare(&self, one: &mut Token<E>, other: &mut Token<E>)
+        requires ids { (one.old.table_id ≡ B.log) × (other.old.table_id ≡ B.log) }
+        requires one { one.old.me ≡ (of_fronts one.old.me.0.fronts, []) }
+        requires other { other.old.me ≡ (of_fronts other.old.me.0.fronts, []) }
+        ensures ids { (one.new.table_id ≡ B.log) × (other.new.table_id ≡ B.log) }
+        ensures same { (one.new.me ≡ one.old.me) × (other.new.me ≡ other.old.me) }
+        ensures shows { Shows (of_fronts (one.old.me.0.fronts ++ other.old.me.0.fronts)) }
+    {
+        self.tie.compare(one, other);
+    }
+
+    /// Sees also what another has seen: that comes after what it had seen itself. All of one shard that was seen begins one log.
+    pub fn note(&mut self, other: &mut Token<E>)
+        requires here { other.old.table_id ≡ B.log }
+        requires free { self.old.token.me.1 ≡ [] }
+        requires other { other.old.me ≡ (of_fronts other.old.me.0.fronts, []) }
+        ensures id { other.new.table_id ≡ B.log }
+        ensures same { other.new.me ≡ other.old.me }
+        ensures both { self.new.token.me ≡ (joined self.old.token.me.0 (of_fronts other.old.me.0.fronts), []) }
+        ensures shows { Shows (joined self.old.token.me.0 (of_fronts other.old.me.0.fronts)) }
+    {
+        let copy = self.tie.seen(other);
+        self.tie.join(&mut self.token, copy);
+        self.tie.look(&mut self.token);
     }
 
     /// Sees what another has seen: that comes before what it had seen itself. All of one shard that was seen begins one log.

@@ -16,7 +16,8 @@ use Rattle.lru_memory_folder.specs.History.{History, files_left, with_call, end_
 use Rattle.lru_memory_folder.specs.OpenInside.{opened_in}
 use Rattle.lru_memory_folder.specs.Plans.{fate, MovesOn, IsMadeToFail, GoesAsPlanned}
 use Rattle.lru_memory_folder.proofs.CallsLemmas.{after-push, no_part, PartOf-ended, StoppedSince-push, StoppedSince-stays}
-use Rattle.lru_memory_folder.specs.Memory.{Memory, files_of, stopped_since_of, memory_meaning}
+use Rattle.lru_memory_folder.specs.Memory.{Memory, files_of, stopped_since_of}
+use Rattle.lru_memory_folder.specs.MemoryLaws.{memory_meaning}
 
 -- the files after a call
 pub files_after : (h : History) (deed : Deed) (end : End) → files_left (with_call h deed end) ≡ effect (record { deed = deed; end = end }) (files_left h)

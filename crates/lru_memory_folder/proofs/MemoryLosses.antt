@@ -11,7 +11,8 @@ use Rattle.lru_memory_folder.specs.declared.calls.End.TheVariants.{Done}
 use Rattle.lru_memory_folder.specs.Calls.{Deed, Syncs, SyncsNames, Noted}
 use Rattle.lru_memory_folder.specs.Losing.{step_of, loose_moved, loose_done, loose_after, maps_after, loss_left, LostSince}
 use Rattle.lru_memory_folder.specs.History.{History, with_call, end_of, Goes}
-use Rattle.lru_memory_folder.specs.Memory.{Memory, files_of, clock_of, lost_since_of, loose_of, loss_now, memory_meaning}
+use Rattle.lru_memory_folder.specs.Memory.{Memory, files_of, clock_of, lost_since_of, loose_of, loss_now}
+use Rattle.lru_memory_folder.specs.MemoryLaws.{memory_meaning}
 use Rattle.lru_memory_folder.specs.LosingLaws.{opened_own, own_left, left-files, LostSince-now}
 use Rattle.lru_memory_folder.proofs.LosingLemmas.{LostSince-only, left-push, loose-push, split, loosens, LostSince-stays, LostSince-push, step-carry, step-loose, still_loose}
 use Rattle.lru_memory_folder.proofs.MemoryLemmas.{history, ended_well}

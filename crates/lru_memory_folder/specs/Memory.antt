@@ -9,7 +9,6 @@ use Rattle.lru_memory_folder.specs.Losing.{loss_left, LostSince}
 use Rattle.lru_folder.specs.Files.{Files}
 use Rattle.lru_folder.specs.Losses.{Loss, at_opening}
 use Rattle.lru_folder.specs.Folder.{Opened}
-use Rattle.lru_folder.specs.Meaning.{Meaning}
 use Rattle.lru_folder.specs.Places.{Folders}
 use Rattle.lru_folder.specs.declared.folder_call.FolderCall.{FolderCall}
 
@@ -51,17 +50,3 @@ loose_of m = (loss_now m).loose
 
 abbrev pub faults_of : Memory → ℕ
 faults_of m = failures m.calls
-
--- what a folder in memory means, which it always keeps
-abbrev pub memory_meaning : Meaning Memory
-memory_meaning = record {
-  files = files_of;
-  folders = folders_of;
-  clock = clock_of;
-  stopped_since = stopped_since_of;
-  lost_since = lost_since_of;
-  loose = loose_of;
-  faults = faults_of;
-  last_call = λ m. m.last;
-  keeps = λ _. Unit {0};
-}

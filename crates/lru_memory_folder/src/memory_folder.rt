@@ -8,7 +8,8 @@ ghost use Rattle.lru_folder.specs.Folder as mode;
 ghost use Rattle.lru_folder.specs.Folder.{HasCause, IsReading, IsWriting, Passes, Reads, written_path};
 ghost use Rattle.lru_folder.specs.Listings.{name_of};
 ghost use Rattle.lru_memory_folder.specs.Kept.{IsMarked};
-ghost use Rattle.lru_memory_folder.specs.Memory.{files_of, folders_of, clock_of, faults_of, stopped_since_of, lost_since_of, loose_of, loss_kept, memory_meaning};
+ghost use Rattle.lru_memory_folder.specs.Memory.{files_of, folders_of, clock_of, faults_of, stopped_since_of, lost_since_of, loose_of, loss_kept};
+ghost use Rattle.lru_memory_folder.specs.MemoryLaws.{memory_meaning};
 ghost use Rattle.lru_folder.specs.Places.{folder_of, is_there, can_list, listing, MakesAll, MakesSome};
 ghost use Rattle.lru_synced_folder.specs.Names.{AreSynced};
 ghost use Rattle.lru_memory_folder.specs.Plans.{front_of, nothing, GoesAsPlanned};
@@ -37,7 +38,7 @@ pub struct MemoryFolder {
 }
 
 impl Model for MemoryFolder {
-    ghost use Rattle.lru_memory_folder.specs.Memory.{Memory, memory_meaning};
+    ghost use Rattle.lru_memory_folder.specs.Memory.{Memory};
 
     ghost Value = { Memory };
 
@@ -138,17 +139,9 @@ impl MemoryFolder {
 }
 
 impl Folder for MemoryFolder {
-    ghost use Rattle.lru_memory_folder.specs.MemoryLaws.{memory_counts_now, memory_only_now, memory_counts_lost};
-
     ghost meaning = { memory_meaning };
 
     ghost opened = { λ m. m.opened };
-
-    ghost counts_now = { λ m t k le. memory_counts_now m t le };
-
-    ghost only_now = { λ m f k s. memory_only_now m f s };
-
-    ghost counts_lost = { λ m t f k le s. memory_counts_lost m t f le s };
 
     fn make(&mut self, dir: &str) -> Result<(), FolderFault>
         ensures closed { self.new.opened ≡ mode.Closed }

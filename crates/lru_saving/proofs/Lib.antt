@@ -1,6 +1,7 @@
 pub mod PieceSteps
 pub mod SaveSteps
 pub mod LossSteps
+pub mod FileSteps
 pub mod Putting
 pub mod TurnsLemmas
 pub mod SavesSoFar

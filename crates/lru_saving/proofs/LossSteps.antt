@@ -6,7 +6,7 @@ use Rattle.lru_folder.specs.Folder.{Opened, Writing, written_path, Passes}
 use Rattle.lru_folder.specs.Losses.{IsSpread, IsOverwritten, IsSynced, IsFromStart, Loses, LosesOnly, creating, writing, renaming, looking, loosened, firmed, handed_on}
 use Rattle.lru_folder.specs.Meaning.{Meaning}
 use Rattle.lru_folder.proofs.FilesLemmas.{decide, get-insert_same, get-insert_other, get-remove_other, renamed-here}
-use Rattle.lru_folder.proofs.LossLemmas.{put_back, get-put_back_same, get-put_back_other, spread-back, loss_started, loses_on}
+use Rattle.lru_folder.proofs.LossLemmas.{put_back, get-put_back_same, get-put_back_other, spread-back, lost_now, loss_started, loses_on}
 use Rattle.lru_saving.specs.Saving.{IsOldOrWhole, SparesFile}
 use Rattle.lru_saving.proofs.SaveSteps.{after_create, after_write, after_flush, after_rename}
 
@@ -38,8 +38,7 @@ module _ (temp path bytes : List ℕ) (apart : temp ≢ path) where
   }
 
 -- in time
-module _ {F : Type 0} (m : Meaning F) (temp path bytes : List ℕ) (apart : temp ≢ path) (start : F)
-    (law : (f : Files) → IsSpread (m.loose start) (m.files start) f → m.lost_since start (m.clock start) f) where
+module _ {F : Type 0} (m : Meaning F) (temp path bytes : List ℕ) (apart : temp ≢ path) (start : F) (kept : m.keeps start) where
   -- the calls so far
   abbrev Lost : F → Type 0
   Lost = LosesOnly m (IsOldOrWhole temp path bytes) start
@@ -74,7 +73,7 @@ module _ {F : Type 0} (m : Meaning F) (temp path bytes : List ℕ) (apart : temp
   from_apart files loose same less f h = (
     put_back temp (get (m.files start) temp) f,
     (
-      law (put_back temp (get (m.files start) temp) f) (spread-back temp loose (m.loose start) files (m.files start) f same (λ q ne l. ⊎_elim (λ e. absurd (ne e)) (λ o. o) (less q l)) h),
+      lost_now m start kept (put_back temp (get (m.files start) temp) f) (spread-back temp loose (m.loose start) files (m.files start) f same (λ q ne l. ⊎_elim (λ e. absurd (ne e)) (λ o. o) (less q l)) h),
       temp_back temp path bytes apart f (get (m.files start) temp),
     ),
   )
@@ -113,7 +112,7 @@ module _ {F : Type 0} (m : Meaning F) (temp path bytes : List ℕ) (apart : temp
         (λ q p. sym (get-put_back_other path (get (m.files start) path) at_last q p)) (λ q p l. l) h in (
           put_back temp (get (m.files start) temp) back,
           (
-            law (put_back temp (get (m.files start) temp) back)
+            lost_now m start kept (put_back temp (get (m.files start) temp) back)
                 (spread-back temp (handed_on temp path loose) (m.loose start) unnamed (m.files start) back apart_again (λ q t l. (not_loose q l).1) once),
             both_back temp path bytes apart f (get (m.files start) temp) (get unnamed path) here,
           ),
@@ -123,13 +122,12 @@ module _ {F : Type 0} (m : Meaning F) (temp path bytes : List ℕ) (apart : temp
   abbrev pub Spares : F → Type 0
   Spares = SparesFile m temp path bytes start
 
-  pub so_created : (new : F) (at : List ℕ) → at ≡ temp → ((f : Files) → m.stopped_since start (m.clock start) f → f ≡ m.files start)
-      → Passes m (AllOrNone (created at)) start new → Loses m (creating at) start new → Spares new
-  so_created new at is only passed lost =
+  pub so_created : (new : F) (at : List ℕ) → at ≡ temp → Passes m (AllOrNone (created at)) start new → Loses m (creating at) start new → Spares new
+  so_created new at is passed lost =
       let call = subst (λ (p : List ℕ). Loses m (creating p) start new) is lost in
       let none = loss_started m (IsOldOrWhole temp path bytes) start (same_map temp path bytes apart) in
       record {
-        any_moment = after_create m temp path bytes apart start new at is only passed;
+        any_moment = after_create m temp path bytes apart start new at is kept passed;
         any_loss = loses_on m (IsOldOrWhole temp path bytes) (creating temp) start start new passed.later none call
             (λ f s. ⊎_elim (from_overwritten start none f)
             (from_apart (created temp (m.files start)) (loosened temp (m.loose start)) (λ q ne. get-insert_other (m.files start) temp [] q ne) (λ q l. l) f) s);

@@ -57,11 +57,11 @@ module _ {F : Type 0} (meaning : Meaning F) (temp path bytes : List ℕ) (apart 
   abbrev pub Leaves : F → Type 0
   Leaves = LeavesOnly meaning (IsOldOrNew temp path bytes (meaning.files start)) start
 
-  pub after_create : (new : F) (at : List ℕ) → at ≡ temp → ((m : Files) → meaning.stopped_since start (meaning.clock start) m → m ≡ meaning.files start)
+  pub after_create : (new : F) (at : List ℕ) → at ≡ temp → meaning.keeps start
       → Passes meaning (AllOrNone (created at)) start new → Leaves new
-  after_create new at is only call =
+  after_create new at is kept call =
       let P = IsOldOrNew temp path bytes (meaning.files start) in
-      let so_far = started meaning P start only (unchanged temp path bytes apart (meaning.files start)) (unchanged temp path bytes apart (meaning.files start) (meaning.files start) (λ i. meaning.files start)) in
+      let so_far = started meaning P start kept (unchanged temp path bytes apart (meaning.files start)) (unchanged temp path bytes apart (meaning.files start) (meaning.files start) (λ i. meaning.files start)) in
       goes_on meaning P (AllOrNone (created temp)) start start new so_far
       (subst (λ (p : List ℕ). Passes meaning (AllOrNone (created p)) start new) is call)
       (λ m part. create_part temp path bytes apart (meaning.files start) (meaning.files start) m so_far.now part)
@@ -85,13 +85,12 @@ module _ {F : Type 0} (meaning : Meaning F) (temp path bytes : List ℕ) (apart 
       goes_on meaning (IsOldOrNew temp path bytes (meaning.files start)) Same start mid new so_far call
       (λ m part. flush_part temp path bytes apart (meaning.files start) (meaning.files mid) m so_far.now part)
 
-  -- what stands in the temporary file before the rename
-  pub whole : (one two three : F) (mode : Opened) (at : List ℕ) → at ≡ temp → meaning.files one ≡ created at (meaning.files start) → mode ≡ Writing temp
-      → meaning.files two ≡ appended (written_path mode) bytes (meaning.files one) → meaning.files three ≡ meaning.files two → get (meaning.files three) temp ≡ Some bytes
-  whole one two three mode at is is_created opened is_written same =
-      let at_one = empty_at one at is is_created in
-      let none : bytes_at (meaning.files one) temp ≡ [] = ap (λ b. unwrap_or b []) at_one in
-      ap (λ (f : Files). get f temp) (same ∙ is_written ∙ ap (λ (o : Opened). appended (written_path o) bytes (meaning.files one)) opened)
+  -- what stands in the temporary file once it is written
+  pub whole : (one two : F) (mode : Opened) → get (meaning.files one) temp ≡ Some [] → mode ≡ Writing temp
+      → meaning.files two ≡ appended (written_path mode) bytes (meaning.files one) → get (meaning.files two) temp ≡ Some bytes
+  whole one two mode empty opened is_written =
+      let none : bytes_at (meaning.files one) temp ≡ [] = ap (λ b. unwrap_or b []) empty in
+      ap (λ (f : Files). get f temp) (is_written ∙ ap (λ (o : Opened). appended (written_path o) bytes (meaning.files one)) opened)
       ∙ get-insert_same (meaning.files one) temp (bytes_at (meaning.files one) temp ++ bytes) ∙ ap (λ (b : List ℕ). Some (b ++ bytes)) none
 
   pub after_rename : (mid new : F) (from to : List ℕ) → from ≡ temp → to ≡ path → Leaves mid → get (meaning.files mid) temp ≡ Some bytes

@@ -4,7 +4,7 @@ use Rattle.lru_folder.specs.declared.fault.FolderFault.{FolderFault}
 use Rattle.lru_folder.specs.declared.fault.FolderFault.TheVariants.{NotFound, Memory, Io}
 use Rattle.lru_folder.specs.declared.errors.ShardSaveFailure.{ShardSaveFailure}
 use Rattle.lru_folder.specs.declared.errors.ShardSaveFailure.TheVariants as failure
-use Rattle.lru_folder.specs.Files.{Files, Same}
+use Rattle.lru_folder.specs.Files.{Same}
 use Rattle.lru_folder.specs.Folder.{InOrder, Passes}
 use Rattle.lru_folder.proofs.InOrderLemmas.{in_order-push}
 use Rattle.lru_folder.proofs.Moments.{started, goes_on, then_run}
@@ -90,12 +90,12 @@ knows_one {E} dir file_name shards turns turn old new so_far left takes =
 
 module _ {F E : Type 0} (m : Meaning F) (dir file_name : List ℕ) (old : F) where
   -- once the folder is made, before the first turn
-  pub saves_none : (new : F) → ((f : Files) → m.stopped_since old (m.clock old) f → f ≡ m.files old) → Passes m Same old new
+  pub saves_none : (new : F) → m.keeps old → Passes m Same old new
       → Loses m looking old new → MakesAll dir (m.folders old) (m.folders new) → has_slash file_name ≡ false → m.faults new ≡ m.faults old
       → SavesSoFar {E = E} m dir file_name [] old new new
-  saves_none new only call loss made none same =
+  saves_none new kept call loss made none same =
       let P = EachOldOrGiven {E = E} dir file_name [] (m.files old) in
-      let at_start = started m P old only (none_yet dir file_name (m.files old)) (none_yet dir file_name (m.files old) (m.files old) refl) in
+      let at_start = started m P old kept (none_yet dir file_name (m.files old)) (none_yet dir file_name (m.files old) (m.files old) refl) in
       record {
         each = record {
           any_moment = goes_on m P Same old old new at_start call (none_yet dir file_name (m.files old));

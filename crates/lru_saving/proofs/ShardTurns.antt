@@ -107,11 +107,11 @@ module _ {F E : Type 0} (m : Meaning F) (dir file_name : List ℕ) (shard word :
     others = λ q p t. ap (λ (g : Files). get g q) e;
   }
 
-  pub ends_early : ((f : Files) → m.stopped_since old (m.clock old) f → f ≡ m.files old) → IfIo failure (λ e. m.last_call old ≡ failed_call e)
+  pub ends_early : m.keeps old → IfIo failure (λ e. m.last_call old ≡ failed_call e)
       → IfIo failure (λ e. HasReason (is_there (m.folders old) (folder_of (temp_path dir file_name shard word))) (m.faults old) (m.faults old) (blame_of e).cause)
       → SavesOne m dir file_name shard refused old old
-  ends_early only named reason = record {
-    any_moment = started m (IsOldOrGiven dir file_name shard refused (m.files old)) old only unchanged (unchanged (m.files old) refl);
+  ends_early kept named reason = record {
+    any_moment = started m (IsOldOrGiven dir file_name shard refused (m.files old)) old kept unchanged (unchanged (m.files old) refl);
     any_loss = loss_started m (IsOldOrGivenWhole dir file_name shard refused) old (λ f. record { file = inl refl; others = λ q p t. refl });
     kept = tt;
     firm = tt;

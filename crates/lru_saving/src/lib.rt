@@ -1,6 +1,6 @@
 //! Shards saved to the files of a folder.
 #![tactic(auto)]
 
-mod file_saving;
-pub mod saving;
+mod save_shard;
+pub mod save_shards;
 pub mod shard_saver;

@@ -11,7 +11,7 @@ ghost use Rattle.lru_saving.specs.Progress.{at_start, next_of, TakesTurn, Tells,
 ghost use Rattle.lru_saving.specs.Saving.{HasReason};
 ghost use Rattle.lru_saving.specs.Turns.{SaveTurn, SavesOne};
 
-use crate::file_saving::save_shard;
+use crate::save_shard::save_shard;
 use log::{Log, info, warn};
 use lru_folder::errors::{ShardSaveError, ShardSaveFailure, ShardSaveSetupError};
 use lru_folder::folder::Folder;

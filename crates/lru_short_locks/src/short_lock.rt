@@ -22,24 +22,48 @@ impl<T> ShortLock<T> {
     }
 
     /// Takes the lock together with other readers.
+    #[inline(always)]
     pub fn read(&self, rt: &impl Wait) -> RwLockReadGuard<'_, T> {
-        for _ in 0..TRIES {
+        match self.lock.try_read() {
+            Some(guard) => guard,
+            None => self.read_after_others(rt),
+        }
+    }
+
+    // As `read`, where a try found it taken.
+    #[cold]
+    #[inline(never)]
+    fn read_after_others(&self, rt: &impl Wait) -> RwLockReadGuard<'_, T> {
+        for _ in 1..TRIES {
+            spin();
             if let Some(guard) = self.lock.try_read() {
                 return guard;
             }
-            spin();
         }
+        spin();
         self.lock.read(rt)
     }
 
     /// Takes the lock alone.
+    #[inline(always)]
     pub fn write(&self, rt: &impl Wait) -> RwLockWriteGuard<'_, T> {
-        for _ in 0..TRIES {
+        match self.lock.try_write() {
+            Some(guard) => guard,
+            None => self.write_after_others(rt),
+        }
+    }
+
+    // As `write`, where a try found it taken.
+    #[cold]
+    #[inline(never)]
+    fn write_after_others(&self, rt: &impl Wait) -> RwLockWriteGuard<'_, T> {
+        for _ in 1..TRIES {
+            spin();
             if let Some(guard) = self.lock.try_write() {
                 return guard;
             }
-            spin();
         }
+        spin();
         self.lock.write(rt)
     }
 }

@@ -16,14 +16,31 @@ impl<T> ShortMutex<T> {
         }
     }
 
+    /// What is behind it.
+    pub fn into_inner(self) -> T {
+        self.lock.into_inner()
+    }
+
     /// Takes the lock.
+    #[inline(always)]
     pub fn lock(&self, rt: &impl Wait) -> MutexGuard<'_, T> {
-        for _ in 0..TRIES {
+        match self.lock.try_lock() {
+            Some(guard) => guard,
+            None => self.lock_after_others(rt),
+        }
+    }
+
+    // As `lock`, where a try found it taken.
+    #[cold]
+    #[inline(never)]
+    fn lock_after_others(&self, rt: &impl Wait) -> MutexGuard<'_, T> {
+        for _ in 1..TRIES {
+            spin();
             if let Some(guard) = self.lock.try_lock() {
                 return guard;
             }
-            spin();
         }
+        spin();
         self.lock.lock(rt)
     }
 }

@@ -68,12 +68,6 @@ impl Folder for Shelf<'_> {
 
     ghost opened = { λ shelf. if shelf.is_open then Lost else (if shelf.is_written then Writing [] else Closed) };
 
-    ghost counts_now = { λ _ _ broken _. absurd broken };
-
-    ghost only_now = { λ _ _ broken _. absurd broken };
-
-    ghost counts_lost = { λ _ _ _ broken _ _. absurd broken };
-
     fn make(&mut self, _dir: &str) -> Result<(), FolderFault> {
         self.close();
         Err(FolderFault::Io)

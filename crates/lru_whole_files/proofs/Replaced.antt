@@ -6,7 +6,7 @@ use Rattle.lru_folder.specs.Folder.{Passes}
 use Rattle.lru_folder.specs.Losses.{IsFromStart, IsSpread, Loses, renaming, firmed, handed_on}
 use Rattle.lru_folder.specs.Meaning.{Meaning}
 use Rattle.lru_folder.proofs.FilesLemmas.{decide, get-insert_same, get-insert_other, get-remove_other, renamed-here}
-use Rattle.lru_folder.proofs.LossLemmas.{put_back, get-put_back_same, get-put_back_other, spread-back, loses_on}
+use Rattle.lru_folder.proofs.LossLemmas.{put_back, get-put_back_same, get-put_back_other, spread-back, lost_now, loses_on}
 use Rattle.lru_folder.proofs.Moments.{goes_on}
 use Rattle.lru_whole_files.specs.Touching.{IsSameBut, TouchesOnly, IsWritten}
 use Rattle.lru_whole_files.specs.Replacing.{IsReplaced, IsOldOrReplaced, Replaces}
@@ -82,14 +82,14 @@ module _ {F : Type 0} (meaning : Meaning F) (temp path bytes : List ℕ) (apart 
       | inr p ↦ get-put_back_other path (get (meaning.files mid) path) at_last q p ∙ elsewhere q p t
     ]
 
-    module _ (law : (f : Files) → IsSpread (meaning.loose mid) (meaning.files mid) f → meaning.lost_since mid (meaning.clock mid) f) where
+    module _ (kept : meaning.keeps mid) where
       lost : (f : Files) → IsSpread (handed_on temp path (meaning.loose mid)) at_last f → IsFromStart meaning R start f
       lost f h =
           let back = put_back path (get unnamed path) f in
           let once = spread-back path (handed_on temp path (meaning.loose mid)) (handed_on temp path (meaning.loose mid)) at_last unnamed f
           (λ q p. sym (get-put_back_other path (get (meaning.files mid) path) at_last q p)) (λ q p l. l) h in
           let twice = spread-back temp (handed_on temp path (meaning.loose mid)) (meaning.loose mid) unnamed (meaning.files mid) back apart_again (λ q t l. (handed q l).1) once in
-          let was = touched.any_loss.now (put_back temp (get (meaning.files mid) temp) back) (law (put_back temp (get (meaning.files mid) temp) back) twice) in (
+          let was = touched.any_loss.now (put_back temp (get (meaning.files mid) temp) back) (lost_now meaning mid kept (put_back temp (get (meaning.files mid) temp) back) twice) in (
             was.0,
             (
               was.1.0,

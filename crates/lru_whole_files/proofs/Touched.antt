@@ -6,16 +6,16 @@ use Rattle.lru_folder.specs.Folder.{Opened, Writing, written_path, Passes}
 use Rattle.lru_folder.specs.Losses.{IsFromStart, IsOverwritten, IsSpread, IsSynced, Loses, creating, writing, removing, looking, loosened, firmed}
 use Rattle.lru_folder.specs.Meaning.{Meaning}
 use Rattle.lru_folder.proofs.FilesLemmas.{get-insert_same, get-insert_other, get-remove_other}
-use Rattle.lru_folder.proofs.LossLemmas.{put_back, get-put_back_other, spread-back, spread-more, loss_started, loses_on, then_loses}
+use Rattle.lru_folder.proofs.LossLemmas.{put_back, get-put_back_other, spread-back, spread-more, lost_now, loss_started, loses_on, then_loses}
 use Rattle.lru_folder.proofs.Moments.{started, goes_on, then_run}
 use Rattle.lru_whole_files.specs.Touching.{IsSameBut, TouchesOnly, IsWritten}
 
 module _ {F : Type 0} (meaning : Meaning F) where
   module _ (P : List ℕ → Type 0) where
     -- before the first call
-    pub touches_started : (old : F) → ((m : Files) → meaning.stopped_since old (meaning.clock old) m → m ≡ meaning.files old) → TouchesOnly meaning P old old
-    touches_started old only = record {
-      any_moment = started meaning (IsSameBut P (meaning.files old)) old only (λ m is q other. ap (λ (f : Files). get f q) is) (λ q other. refl);
+    pub touches_started : (old : F) → meaning.keeps old → TouchesOnly meaning P old old
+    touches_started old kept = record {
+      any_moment = started meaning (IsSameBut P (meaning.files old)) old kept (λ m is q other. ap (λ (f : Files). get f q) is) (λ q other. refl);
       any_loss = loss_started meaning (IsSameBut P) old (λ m q other. refl);
       loosens = λ q l. inr l;
     }
@@ -71,8 +71,8 @@ module _ {F : Type 0} (meaning : Meaning F) where
     abbrev pub Touched : F → Type 0
     Touched = TouchesOnly meaning At start
 
-    -- one call more that changes the file: law is what a loss may leave of the files before it
-    module _ (mid new : F) (law : (f : Files) → IsSpread (meaning.loose mid) (meaning.files mid) f → meaning.lost_since mid (meaning.clock mid) f) (so_far : Touched mid) where
+    -- one call more that changes the file
+    module _ (mid new : F) (kept : meaning.keeps mid) (so_far : Touched mid) where
       from_overwritten : (f : Files) → IsOverwritten path (meaning.lost_since mid (meaning.clock mid)) f → IsFromStart meaning (IsSameBut At) start f
       from_overwritten f h =
           let was = so_far.any_loss.now h.0 h.1.0 in
@@ -82,7 +82,7 @@ module _ {F : Type 0} (meaning : Meaning F) where
           → (f : Files) → IsSpread (loosened path (meaning.loose mid)) changed f → IsFromStart meaning (IsSameBut At) start f
       from_changed changed same f h =
           let back = put_back path (get (meaning.files mid) path) f in
-          let lost = law back (spread-back path (loosened path (meaning.loose mid)) (meaning.loose mid) changed (meaning.files mid) f same (λ q ne l. ⊎_elim (λ e. absurd (ne e)) (λ o. o) l) h) in
+          let lost = lost_now meaning mid kept back (spread-back path (loosened path (meaning.loose mid)) (meaning.loose mid) changed (meaning.files mid) f same (λ q ne l. ⊎_elim (λ e. absurd (ne e)) (λ o. o) l) h) in
           let was = so_far.any_loss.now back lost in
           (was.0, (was.1.0, λ q other. sym (get-put_back_other path (get (meaning.files mid) path) f q other) ∙ was.1.1 q other))
 

@@ -3,3 +3,5 @@ pub mod Evicted
 mod Heaviest
 mod PastLimits
 pub mod Replying
+mod Stepping
+mod Slips

@@ -1,26 +1,28 @@
 -- Replies of a batch, and what its messages leave.
 use Rattle.std.proofs.Common.{◌≡◌, ℕ, zero, suc, ◌+◌, ◌%◌, ◌^◌, ◌<◌, List, [], ◌∷◌, ◌++◌, length, map, take, Some, None, refl, sym, ap, ◌∙◌, subst, arith}
-use Rattle.std.specs.Prelude.{Option, slice_get, option_map, IsSome}
+use Rattle.std.specs.Prelude.{Bool, Option, slice_get, option_map, is_some, true, false}
 use Rattle.std.specs.Option.{ForSome}
 use Rattle.std.proofs.Math.Logic.{∥∥₁_map}
 use Rattle.std.proofs.Math.Nat.{mod-eq_of_lt}
 use Rattle.std.proofs.lemmas.List.{map-append, length-append}
 use Rattle.lru_hands.proofs.Hands.{some_same, none_some}
+use Rattle.lru_shard.specs.Row.{Row}
 use Rattle.lru_actors.specs.declared.message.LruMsg.{LruMsg}
 use Rattle.lru_actors.specs.declared.effect.Effect.{Effect}
-use Rattle.lru_actors.specs.Messages.{State, state_of}
-use Rattle.lru_shard.specs.Shard.{shard}
-use Rattle.lru_rules.specs.Limits.{cap_of}
+use Rattle.lru_actors.specs.Messages.{State}
 use Rattle.lru_letters.specs.declared.letter.Letter.{Letter}
 use Rattle.lru_logs.specs.declared.voice.Voice.{Voice}
 use Rattle.lru_logs.specs.declared.tie.Archive.{Ghosts}
 use Rattle.lru_logs.specs.Logs.{taken_by}
 use Rattle.lru_inbox.specs.Inboxes.{messages_of, taken_in}
-use Rattle.lru_inbox.specs.Replies.{IsLeft, IsReply, StepsAll}
-use Rattle.lru_inbox.proofs.Steps.{left_all, reply_at}
+use Rattle.lru_inbox.specs.Replies.{IsLeft, IsReply}
+use Rattle.lru_inbox.proofs.Steps.{by_turns, reply_at}
+use Rattle.lru_ledger.specs.declared.slip.Slip.{Slip}
+use Rattle.lru_logged_shard.specs.Accounts.{IsKept}
+use Rattle.lru_logged_shard.proofs.Accounts.{kept_more}
 use Rattle.lru_world.specs.declared.bench.Asked.{Asked}
-use Rattle.lru_world.specs.Batch.{replied}
-use Rattle.lru_world.specs.Replying.{AreReplies, HasRoom}
+use Rattle.lru_world.specs.Batch.{replied, AddsSlips, StepsFrom}
+use Rattle.lru_world.specs.Replying.{AreReplies, Gains, HasRoom}
 
 -- lists
 get_left : {A : Type 0} (xs ys : List A) (i : ℕ) (x : A) → slice_get xs i ≡ Some x → slice_get (xs ++ ys) i ≡ Some x
@@ -79,22 +81,37 @@ module _ {K T : Type 0} (IsClone : K → K → Type 0) (cap : ℕ) where
   replied_length (a ∷ later) [] h = absurd (omega (arith, h))
   replied_length (a ∷ later) (e ∷ es) h = ap suc (replied_length later es (omega (arith, h)))
 
-module _ {K : Type 0} (IsClone : K → K → Type 0) (cap : ℕ) where
-  -- a batch more, where it is known what was taken
-  pub batch_left : (o : Option (List (LruMsg K))) (gained : List (LruMsg K)) (es : List (Effect K)) (old new : State K) → ForSome o (λ taken. ∥ IsLeft cap taken old ∥₁) → StepsAll IsClone old gained es new
-      → ForSome (option_map (λ t. t ++ gained) o) (λ taken. ∥ IsLeft cap taken new ∥₁)
-  batch_left None gained es old new l s = λ x e. absurd (none_some x e)
-  batch_left (Some taken) gained es old new l s = λ x e.
-      subst (λ xs. ∥ IsLeft cap xs new ∥₁) (some_same (taken ++ gained) x e) (∥∥₁_map (l taken refl) (λ i. left_all IsClone cap taken gained es old new i s))
+take_first : {A : Type 0} (xs ys : List A) (n : ℕ) → length xs ≡ n → take n (xs ++ ys) ≡ xs
+take_first [] ys n e = ap (λ k. take k ys) (sym e)
+take_first (x ∷ xs) ys n e = ap (λ k. take k (x ∷ (xs ++ ys))) (sym e) ∙ ap (λ l. x ∷ l) (take_first xs ys (length xs) refl)
 
-  pub batch_replies : (o : Option (List (LruMsg K))) (before : ℕ) (gained : List (LruMsg K)) (es : List (Effect K)) (old new : State K) → ForSome o (λ taken. before ≡ length taken) → ForSome o (λ taken. ∥ IsLeft cap taken old ∥₁)
-      → StepsAll IsClone old gained es new → ForSome (option_map (λ t. t ++ gained) o) (λ taken. AreReplies IsClone cap taken before (map (λ (e : Effect K). e.reply) es))
-  batch_replies None before gained es old new b l s = λ x e. absurd (none_some x e)
-  batch_replies (Some taken) before gained es old new b l s = λ x e.
-      subst (λ xs. AreReplies IsClone cap xs before (map (λ (f : Effect K). f.reply) es)) (some_same (taken ++ gained) x e)
-      (λ i r at. let f = get_mapped (λ (f : Effect K). f.reply) es i (Some r) at in
-      ∥∥₁_map (l taken refl) (λ was. subst (λ xs. IsReply IsClone cap xs r) (sym (take_past taken gained (suc i)) ∙ ap (λ n. take (n + suc i) (taken ++ gained)) (sym (b taken refl)))
-      (reply_at IsClone cap taken gained es old new was s i f.0 r f.1 f.2)))
+pub take_all : {A : Type 0} (xs : List A) (n : ℕ) → n ≡ length xs → take n xs ≡ xs
+take_all [] n e = ap (λ k. take k []) e
+take_all (x ∷ xs) n e = ap (λ k. take k (x ∷ xs)) e ∙ ap (λ l. x ∷ l) (take_all xs (length xs) refl)
+
+module _ {K : Type 0} (IsClone : K → K → Type 0) (cap : ℕ) where
+  -- what a batch gains comes after what was taken before
+  pub batch_gains : (o : Option (List (LruMsg K))) (before : ℕ) (gained : List (LruMsg K)) → ForSome o (λ taken. before ≡ length taken) → ForSome (option_map (λ t. t ++ gained) o) (Gains before gained)
+  batch_gains None before gained b = λ x e. absurd (none_some x e)
+  batch_gains (Some taken) before gained b = λ x e. subst (Gains before gained) (some_same (taken ++ gained) x e) (taken, sym (b taken refl), refl)
+
+  -- a batch more, processed with the rows that all that was taken before leaves
+  module _ (taken done gained : List (LruMsg K)) (before : ℕ) (es : List (Effect K)) (old : State K) (look : ℕ → Option ℕ) (new : State K) (look' : ℕ → Option ℕ) (met : done ≡ take before taken) (gains : Gains before gained taken)
+      (left : ∥ IsLeft cap done old look ∥₁) (steps : StepsFrom IsClone old look gained es new look') where
+    first_is : done ≡ gains.0
+    first_is = met ∙ ap (take before) gains.2 ∙ take_first gains.0 gained before gains.1
+
+    -- with the slips of what is evicted
+    pub batch_kept : (slips slips' : Option (List Slip)) → ∥ IsKept cap done old look slips ∥₁ → AddsSlips old.shard.rows gained es slips slips' → ∥ IsKept cap taken new look' slips' ∥₁
+    batch_kept slips slips' kept adds = ∥∥₁_map kept (λ was.
+        subst (λ xs. IsKept cap xs new look' slips') (ap (λ xs. xs ++ gained) first_is ∙ sym gains.2) (kept_more IsClone cap done gained es old look steps.0 new look' steps.1 slips slips' was steps.2 adds))
+
+    pub batch_replies : AreReplies IsClone cap taken before (map (λ (e : Effect K). e.reply) es)
+    batch_replies i r at =
+        let f = get_mapped (λ (f : Effect K). f.reply) es i (Some r) at in
+        let is : done ++ take (suc i) gained ≡ take (before + suc i) taken
+        = ap (λ xs. xs ++ take (suc i) gained) first_is ∙ sym (take_past gains.0 gained (suc i)) ∙ ap (λ n. take (n + suc i) (gains.0 ++ gained)) gains.1 ∙ ap (take (before + suc i)) (sym gains.2) in
+        ∥∥₁_map left (λ was. subst (λ xs. IsReply IsClone cap xs r) is (reply_at IsClone cap done gained es old look steps.0 new look' steps.1 was.turns (by_turns cap done old look was) steps.2 i f.0 r f.1 f.2))
 
   pub batch_room : (o : Option (List (LruMsg K))) (before count most : ℕ) (gained : List (LruMsg K)) → ForSome o (λ taken. before ≡ length taken) → count ≡ length gained → most < 2 ^ 64
       → ForSome (option_map (λ t. t ++ gained) o) (λ taken. most ≡ length taken) → ForSome (option_map (λ t. t ++ gained) o) (λ taken. HasRoom before count taken)
@@ -103,20 +120,24 @@ module _ {K : Type 0} (IsClone : K → K → Type 0) (cap : ℕ) where
       subst (HasRoom before count) (some_same (taken ++ gained) x e)
       (let h = b taken refl in let l = length-append taken gained in let n = m (taken ++ gained) refl in (omega (arith, h, c, l), omega (arith, n, fits)))
 
--- at first nothing was taken, and the shard is empty
 module _ {K B : Type 0} {A : Ghosts B} where
-  pub left_at_first : (all shards : ℕ) (voice : Option (Voice (LruMsg K) B A)) (taken : List (LruMsg K)) (s : State K) → taken ≡ [] → taken_in voice ≡ Some taken → (IsSome voice → all ≡ shards) → s ≡ state_of (shard [] (cap_of shards)) 0
-      → ∥ IsLeft (cap_of all) taken s ∥₁
-  left_at_first all shards None taken s none is same e = absurd (none_some taken is)
-  left_at_first all shards (Some v) taken s none is same e =
-      subst (λ n. ∥ IsLeft (cap_of n) taken s ∥₁) (sym (same refl)) (subst (λ t. ∥ IsLeft (cap_of shards) t s ∥₁) (sym none)
-      ∣ record { turns = []; messages_are = refl; allowed = tt; state = e } ∣₁)
-
   -- how many were taken is counted
   pub counted_in : (voice : Option (Voice (LruMsg K) B A)) (count : ℕ) → ForSome voice (λ v. count ≡ length (taken_by v.token.me.0)) → ForSome (taken_in voice) (λ taken. count ≡ length taken)
   counted_in None count h = λ x e. absurd (none_some x e)
   counted_in (Some v) count h = λ x e. subst (λ xs. count ≡ length xs) (some_same (taken_by v.token.me.0) x e) (h v refl)
 
+  -- where there is no log nothing is known
+  pub none_known : (P : List (LruMsg K) → Type 0) (voice : Option (Voice (LruMsg K) B A)) → is_some voice ≡ false → ForSome (taken_in voice) P
+  none_known P None h = λ x e. absurd (none_some x e)
+  none_known P (Some v) h = cc
+
 pub messages_length : {K T : Type 0} (letters : List (Letter K T)) → length (messages_of letters) ≡ length letters
 messages_length [] = refl
 messages_length (l ∷ ls) = ap suc (messages_length ls)
+
+-- a seat that is no box's adds nothing
+pub adds : {K : Type 0} (rows : List (Row K)) (gained : List (LruMsg K)) (es : List (Effect K)) (ledger : Bool) (slips slips' : Option (List Slip)) → is_some slips ≡ ledger → (ledger ≡ true → AddsSlips rows gained es slips slips') → (ledger ≡ false → slips' ≡ slips)
+    → AddsSlips rows gained es slips slips'
+adds rows gained es true slips slips' is yes_adds no_adds = yes_adds refl
+adds rows gained es false None slips' is yes_adds no_adds = λ ss e. absurd (none_some ss (sym (no_adds refl) ∙ e))
+adds rows gained es false (Some ss) slips' is yes_adds no_adds = cc

@@ -1,12 +1,17 @@
 -- A batch of an actor: what is kept of its letters, who is answered what, and what it changed.
-use Rattle.std.specs.Prelude.{◌≡◌, ℕ, ◌-◌, ◌%◌, ◌^◌, Bool, true, false, List, [], ◌∷◌, length, map, sum_by, max, Option, None, Some, if◌then◌else◌}
+use Rattle.std.specs.Prelude.{◌≡◌, ℕ, ◌-◌, ◌%◌, ◌^◌, Bool, true, false, List, [], ◌∷◌, ◌++◌, length, map, sum_by, max, Option, None, Some, if◌then◌else◌}
 use Rattle.lru_shard.specs.Row.{Row, weight_of}
 use Rattle.lru_actors.specs.declared.message.LruMsg.{LruMsg}
 use Rattle.lru_actors.specs.declared.message.LruMsg.TheVariants.{Evict, Promote, PeekLru, Snapshot, QueryWeight}
 use Rattle.lru_actors.specs.declared.effect.Effect.{Effect}
 use Rattle.lru_actors.specs.Messages.{State}
+use Rattle.lru_actors.specs.Processing.{ProcessesAll}
+use Rattle.lru_dispatch.specs.Queue.{Queue}
+use Rattle.lru_ledger.specs.declared.slip.Slip.{Slip}
 use Rattle.lru_letters.specs.declared.letter.Letter.{Letter}
+use Rattle.lru_logged_shard.specs.Accounts.{row_of_slip, rows_evicted}
 use Rattle.lru_schedules.specs.Turns.{sent, turns_of, evictions}
+use Rattle.lru_schedules.specs.World.{PutsPair, IsSameQueue, itself, AtAnyTime}
 use Rattle.lru_world.specs.declared.bench.Asked.{Asked}
 use Rattle.lru_world.specs.declared.world.Change.{Change}
 
@@ -55,6 +60,22 @@ module _ {K : Type 0} where
     pub evicted_len : c.evicted_len ≡ length (pairs_evicted old.shard.rows msgs effects) % 2 ^ 64
     pub refused : c.refused ≡ new.refused
     pub heaviest : c.heaviest ≡ heaviest_put effects
+
+  -- each row that a batch evicts has its slip, in order, after those that were there
+  abbrev pub AddsSlips : List (Row K) → List (LruMsg K) → List (Effect K) → Option (List Slip) → Option (List Slip) → Type 0
+  AddsSlips rows msgs es old new =
+      (slips : List Slip) → new ≡ Some slips → (before : List Slip) × (old ≡ Some before) × (map row_of_slip slips ≡ map row_of_slip before ++ rows_evicted rows (turns_of (map (λ m. sent None m) msgs) es))
+
+  -- `IsClone` is what a clone of a key may be
+  module _ (IsClone : K → K → Type 0) where
+    -- messages, one after the other, with the map of weights, and the effect of each; whatever the evicted pairs go into
+    abbrev pub StepsFrom : State K → (ℕ → Option ℕ) → List (LruMsg K) → List (Effect K) → State K → (ℕ → Option ℕ) → Type 0
+    StepsFrom old look msgs es new look' =
+        (queue queue' : Queue K) × ProcessesAll PutsPair IsSameQueue itself IsClone AtAnyTime old look queue msgs es new look' queue'
+
+    -- the same, whatever the map
+    abbrev pub StepsAll : State K → List (LruMsg K) → List (Effect K) → State K → Type 0
+    StepsAll old msgs es new = (look look' : ℕ → Option ℕ) × StepsFrom old look msgs es new look'
 
 module _ {K T : Type 0} where
   -- what is kept of a letter, before its message is processed

@@ -1,2 +1,4 @@
 pub mod Batch
 pub mod Replying
+pub mod Places
+pub mod Outlets

@@ -1,5 +1,5 @@
 -- What an actor answers.
-use Rattle.std.specs.Prelude.{◌≡◌, ℕ, suc, ◌+◌, ◌≤◌, ◌<◌, ◌^◌, List, [], length, take, slice_get, Option, Some}
+use Rattle.std.specs.Prelude.{◌≡◌, ℕ, suc, ◌+◌, ◌≤◌, ◌<◌, ◌^◌, List, [], ◌++◌, length, take, slice_get, Option, Some}
 use Rattle.std.specs.Option.{ForSome}
 use Rattle.lru_actors.specs.declared.message.LruMsg.{LruMsg}
 use Rattle.lru_actors.specs.declared.effect.Reply.{Reply}
@@ -20,6 +20,10 @@ HasNothing taken = ForSome taken (λ t. t ≡ [])
 -- so many messages were taken after so many before
 abbrev pub HasRoom : {A : Type 0} → ℕ → ℕ → List A → Type 0
 HasRoom before count taken = (before + count ≤ length taken) × (length taken < 2 ^ 64)
+
+-- these messages were taken after so many before
+abbrev pub Gains : {A : Type 0} → ℕ → List A → List A → Type 0
+Gains {A} before gained taken = (first : List A) × (length first ≡ before) × (taken ≡ first ++ gained)
 
 -- what speaks for those who take from so many shards, from this one on, none of whom took anything
 abbrev pub AreTakers : {E B : Type 0} {A : archive.Ghosts B} → ℕ → ℕ → Option (Voice E B A) → Type 0

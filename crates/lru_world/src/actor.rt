@@ -1,24 +1,31 @@
 //! The loop of an actor.
-ghost use Rattle.std.specs.Prelude.{◌≡◌, ◌<◌, ◌≤◌, map, take, length, vec_len, IfOk, IsSome};
+ghost use Rattle.std.specs.Prelude.{◌≡◌, ◌<◌, ◌≤◌, [], map, take, length, vec_len, vec_capacity, slice_get, IfOk, IsSome, is_some};
 ghost use Rattle.std.specs.Option.{ForSome};
+ghost use Rattle.std.specs.Sync.Mutex.{mutex_guard_value};
 ghost use Rattle.lru_rules.specs.Limits.{cap_of};
 ghost use Rattle.lru_inbox.specs.Inboxes.{taken_in};
-ghost use Rattle.lru_inbox.specs.Replies.{IsLeft, IsReply};
-ghost use Rattle.lru_world.specs.Replying.{AreReplies, HasNothing, HasRoom};
+ghost use Rattle.lru_inbox.specs.Replies.{IsReply};
+ghost use Rattle.lru_world.specs.Batch.{is_evict};
+ghost use Rattle.lru_world.specs.Places.{is_logged};
+ghost use Rattle.lru_world.specs.Replying.{AreReplies, Gains, HasNothing, HasRoom};
 
 use crate::bench::{Asked, Bench, MOST, clear, evictions_in, note_replies};
 use crate::callback::Gate;
-use crate::world::World;
+use crate::world::{ShardPlace, Weights, World};
 use lru_actors::effect::{Effect, Reply};
+use lru_actors::state::ShardState;
 use lru_inbox::{Taker, Told};
-use lru_ledgers::{PutSeat, Registry};
 use lru_letters::{Letter, ReplyCell};
+use lru_logged_shard::LoggedShard;
 use lru_logs::tie::Archive;
+use lru_shared_ledger::{PutSeat, Registry};
+use lru_short_locks::ShortMutex;
 use std::alloc::{AllocError, Global};
 use std::marker::Brand;
-use std::sync::{Arc, Wait};
+use std::sync::{Arc, MutexGuard, Wait};
 
-/// What one actor owns: what it took, its shard, which is what those messages leave, and room for a batch.
+/// What one actor owns: what it took, its rows where there is no log, and room for a batch. With a log its rows stand in the
+/// place of its shard, and are what the messages that it took leave.
 #[derive(Drop)]
 pub struct Actor<K: Clone + Drop, B: Registry + Archive = Brand> {
     /// What it took from the mailbox of its shard.
@@ -27,9 +34,9 @@ pub struct Actor<K: Clone + Drop, B: Registry + Archive = Brand> {
     pub shards: usize,
     seat: Option<PutSeat<B>>,
     letters: Vec<Letter<K, Told<K, B>>>,
+    state: ShardState<K>,
     bench: Bench<K, Told<K, B>>,
-    ghost capped: { bench.state.shard.cap ≡ cap_of shards },
-    ghost left: { ForSome (taken_in taker.voice) (λ taken. ∥ IsLeft (cap_of B.shards) taken bench.state ∥₁) },
+    ghost capped: { state.shard.cap ≡ cap_of shards },
 }
 
 impl<K: Clone + Drop, B: Registry + Archive> Actor<K, B> {
@@ -43,22 +50,23 @@ impl<K: Clone + Drop, B: Registry + Archive> Actor<K, B> {
         seat: Option<PutSeat<B>>,
     ) -> Result<Self, AllocError>
         requires some { 0 < shards }
-        requires nothing { HasNothing (taken_in taker.voice) }
-        requires named { IsSome taker.voice → B.shards ≡ shards }
         ensures taker { IfOk result (λ actor. actor.taker ≡ taker) }
         ensures shards { IfOk result (λ actor. actor.shards ≡ shards) }
     {
+        // with a log its rows stand elsewhere
+        let own_rows = if taker.is_logged() { 0 } else { capacity };
         Ok(Actor {
             taker,
             shards,
             seat,
             letters: Vec::with_capacity(alloc, MOST)?,
-            bench: Bench::new(alloc, shards, capacity)?,
+            state: ShardState::with_capacity(alloc, own_rows, usize::MAX / shards)?,
+            bench: Bench::new(alloc)?,
         })
     }
 
-    /// What an actor does until its mailbox is closed and empty. It gives its seat back. Of a shard that is not there it
-    /// does nothing.
+    /// What an actor does until its mailbox is closed and empty. It gives its seat back. Of a shard that is not there, or that
+    /// has a log where this one's has none, it does nothing.
     pub fn run<G: Gate, R: Wait>(
         self,
         rt: &R,
@@ -89,8 +97,12 @@ impl<K: Clone + Drop, B: Registry + Archive> Actor<K, B> {
     {
         let shard = self.taker.shard;
         let before = self.taker.count;
+        let place = &world.shards[shard];
+        if place.is_logged() != self.taker.is_logged() {
+            return false;
+        }
         clear(rt, &mut self.letters);
-        let count = world.shards[shard]
+        let count = place
             .mailbox
             .pop_many(rt, &mut self.taker, MOST, &mut self.letters);
         if count == 0 {
@@ -100,7 +112,7 @@ impl<K: Clone + Drop, B: Registry + Archive> Actor<K, B> {
         let _taken = self.taker.taken();
         pass(gate, shard, count);
         self.bench.take_in(rt, &mut self.letters);
-        self.bench.process(rt, world, shard, &mut self.seat);
+        self.process(rt, world, place, before);
         world.evictions_done(evictions_in(&self.bench.asked));
         let looks = self.bench.effects.iter().any(|effect| effect.look);
         reply_where_asked(
@@ -116,6 +128,62 @@ impl<K: Clone + Drop, B: Registry + Archive> Actor<K, B> {
         world.served(rt, shard, count);
         true
     }
+
+    // Processes the batch, with its own rows or with those of its shard's place.
+    fn process<R: Wait>(
+        &mut self,
+        rt: &R,
+        world: &World<K, B>,
+        place: &ShardPlace<K, B>,
+        before: u64,
+    )
+        requires shard { self.old.taker.shard < vec_len world.now.shards }
+        requires kind { is_logged place.now ≡ is_some self.old.taker.voice }
+        requires gains { ForSome (taken_in self.old.taker.voice) (Gains before self.old.bench.batch.items) }
+        requires few { vec_len self.old.bench.batch ≤ 16 }
+        requires none { self.old.bench.effects.items ≡ [] }
+        requires room { 16 ≤ vec_capacity self.old.bench.effects }
+        requires asked { map (λ a. a.evicts) self.old.bench.asked.items ≡ map is_evict self.old.bench.batch.items }
+        ensures effects { vec_len self.new.bench.effects ≡ vec_len self.old.bench.asked }
+        ensures asked { self.new.bench.asked ≡ self.old.bench.asked }
+        ensures replies { ForSome (taken_in self.old.taker.voice) (λ taken. AreReplies K.is_clone (cap_of B.shards) taken before (map (λ e. e.reply) self.new.bench.effects.items)) }
+        ensures taker { (self.new.taker.shard ≡ self.old.taker.shard) × (self.new.taker.count ≡ self.old.taker.count) × (taken_in self.new.taker.voice ≡ taken_in self.old.taker.voice) }
+    {
+        match &place.weights {
+            Weights::Alone(map) => {
+                let shard = self.taker.shard;
+                self.bench
+                    .process(rt, &mut self.state, map, world, shard, &mut self.seat);
+            }
+            Weights::WithRows(rows) => {
+                let ledger = world.outlet.is_ledger();
+                let mut rows = rows_after(rt, rows, self.taker.shard, before, ledger);
+                self.bench
+                    .process_logged(rt, &mut *rows, &mut self.taker, world);
+            }
+        }
+    }
+}
+
+// Lends the rows of this shard that so many messages leave, modulo 2^64, with a seat where evicted pairs go into a box. No type
+// says which lock has which rows, so the numbers are looked at; the first ones are the right ones.
+fn rows_after<'a, K: Clone + Drop, B: Registry + Archive, R: Wait>(
+    rt: &R,
+    rows: &'a ShortMutex<LoggedShard<K, B>>,
+    shard: usize,
+    before: u64,
+    seated: bool,
+) -> MutexGuard<'a, LoggedShard<K, B>>
+    ensures numbers { ((mutex_guard_value result).shard ≡ shard) × ((mutex_guard_value result).count ≡ before) }
+    ensures seat { is_some (mutex_guard_value result).seat ≡ seated }
+{
+    for _ in rt.forever() {
+        let rows = rows.lock(rt);
+        if rows.shard == shard && rows.count == before && rows.seat.is_some() == seated {
+            return rows;
+        }
+    }
+    unreachable!()
 }
 
 // Passes the gate, if there is one, once for each message.

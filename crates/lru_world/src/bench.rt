@@ -1,14 +1,15 @@
-//! What an actor works with: its shard, and the batch that is under way.
-ghost use Rattle.std.specs.Prelude.{◌≡◌, ℕ, Option, ◌%◌, ◌^◌, ◌<◌, ◌≤◌, [], All, map, length, count_by, sum_by, vec_len, vec_capacity, nat_eq, true, IfOk, IsTrue};
+//! The batch of an actor that is under way.
+ghost use Rattle.std.specs.Prelude.{◌≡◌, ℕ, Option, ◌%◌, ◌^◌, ◌<◌, ◌≤◌, [], All, map, length, count_by, sum_by, vec_len, vec_capacity, nat_eq, true, false, Some, IsSome, is_some, IsTrue};
 ghost use Rattle.std.specs.List.{zip};
 ghost use Rattle.std.specs.HashMap as hash;
-ghost use Rattle.lru_rules.specs.Limits.{cap_of};
-ghost use Rattle.lru_shard.specs.Shard.{shard};
-ghost use Rattle.lru_actors.specs.Messages.{state_of};
 ghost use Rattle.lru_actors.specs.Processing.{ProcessesAll};
-ghost use Rattle.lru_inbox.specs.Inboxes.{messages_of};
-ghost use Rattle.lru_inbox.specs.Replies.{StepsAll};
-ghost use Rattle.lru_world.specs.Batch.{is_evict, evicts_none, stays_inside, asked_by, replied, weight_taken, rows_taken, weight_put, heaviest_put, IsChange};
+ghost use Rattle.lru_inbox.specs.Inboxes.{messages_of, taken_in};
+ghost use Rattle.lru_rules.specs.Limits.{cap_of};
+ghost use Rattle.std.specs.Option.{ForSome};
+ghost use Rattle.lru_world.specs.Replying.{AreReplies, Gains};
+ghost use Rattle.lru_logged_shard.specs.Seats.{slips_at};
+ghost use Rattle.lru_world.specs.Outlets.{is_ledger};
+ghost use Rattle.lru_world.specs.Batch.{AddsSlips, StepsAll, StepsFrom, is_evict, evicts_none, stays_inside, asked_by, replied, weight_taken, rows_taken, weight_put, heaviest_put, IsChange};
 
 use crate::outlet::Outlet;
 use crate::world::{Change, World};
@@ -18,10 +19,13 @@ use lru_actors::process::process_batch;
 use lru_actors::state::ShardState;
 use lru_desks::DeskPutter;
 use lru_dispatch::Dispatch;
-use lru_ledgers::{PutSeat, Registry};
+use lru_inbox::Taker;
 use lru_letters::{Letter, ReplyCell};
+use lru_logged_shard::LoggedShard;
 use lru_logs::tie::Archive;
 use lru_mailbox::MailState;
+use lru_shared_ledger::{PutSeat, Registry};
+use lru_short_locks::ShortLock;
 use std::alloc::{AllocError, Global};
 use std::collections::HashMap;
 use std::sync::{Arc, Wait};
@@ -39,10 +43,9 @@ pub(crate) struct Asked<K: Drop, T: Drop> {
     pub(crate) reply: Option<Reply<K>>,
 }
 
-/// The shard of an actor, and the batch of messages that is under way, with what each one did.
+/// The batch of messages that is under way, with what each one did.
 #[derive(Drop)]
 pub(crate) struct Bench<K: Drop, T: Drop> {
-    pub(crate) state: ShardState<K>,
     pub(crate) asked: Vec<Asked<K, T>>,
     pub(crate) batch: Vec<LruMsg<K>>,
     pub(crate) effects: Vec<Effect<K>>,
@@ -50,14 +53,9 @@ pub(crate) struct Bench<K: Drop, T: Drop> {
 }
 
 impl<K: Clone + Drop, T: Drop> Bench<K, T> {
-    /// An empty shard among so many, with room for `capacity` rows. Their weights may sum up to what all shards together leave to
-    /// each.
-    pub(crate) fn new(alloc: Global, shards: usize, capacity: usize) -> Result<Self, AllocError>
-        requires { 0 < shards }
-        ensures { IfOk result (λ bench. bench.state ≡ state_of (shard [] (cap_of shards)) 0) }
-    {
+    /// No batch, with room for one.
+    pub(crate) fn new(alloc: Global) -> Result<Self, AllocError> {
         Ok(Bench {
-            state: ShardState::with_capacity(alloc, capacity, usize::MAX / shards)?,
             asked: Vec::with_capacity(alloc, MOST)?,
             batch: Vec::with_capacity(alloc, MOST)?,
             effects: Vec::with_capacity(alloc, MOST)?,
@@ -68,7 +66,6 @@ impl<K: Clone + Drop, T: Drop> Bench<K, T> {
     /// Takes letters apart: their messages are the batch.
     pub(crate) fn take_in<R: Wait>(&mut self, rt: &R, letters: &mut Vec<Letter<K, T>>)
         requires few { vec_len letters.old ≤ 16 }
-        ensures state { self.new.state ≡ self.old.state }
         ensures batch { self.new.batch.items ≡ messages_of letters.old.items }
         ensures asked { self.new.asked.items ≡ map asked_by letters.old.items }
         ensures effects { (self.new.effects.items ≡ []) × (16 ≤ vec_capacity self.new.effects) }
@@ -79,11 +76,12 @@ impl<K: Clone + Drop, T: Drop> Bench<K, T> {
         take_apart(letters, &mut self.batch, &mut self.asked);
     }
 
-    // Processes the batch, under the lock of the map where it may change a weight, and under that of the evicted pairs
-    // where it evicts.
+    // Processes the batch with rows that are the actor's own, under the lock of the map where it may change a weight.
     pub(crate) fn process<B: Registry + Archive, R: Wait>(
         &mut self,
         rt: &R,
+        state: &mut ShardState<K>,
+        weights: &ShortLock<HashMap<u64, usize>>,
         world: &World<K, B>,
         shard: usize,
         seat: &mut Option<PutSeat<B>>,
@@ -93,24 +91,91 @@ impl<K: Clone + Drop, T: Drop> Bench<K, T> {
         requires none { self.old.effects.items ≡ [] }
         requires room { 16 ≤ vec_capacity self.old.effects }
         requires asked { map (λ a. a.evicts) self.old.asked.items ≡ map is_evict self.old.batch.items }
-        ensures steps { StepsAll K.is_clone self.old.state self.old.batch.items self.new.effects.items self.new.state }
+        ensures steps { StepsAll K.is_clone state.old self.old.batch.items self.new.effects.items state.new }
+        ensures effects { vec_len self.new.effects ≡ vec_len self.old.asked }
         ensures asked { self.new.asked ≡ self.old.asked }
     {
         if all_stay_inside(&self.batch) {
             // no weight and no length is another afterwards
-            self.batch_inside::<MailState<(K, usize)>>();
+            self.batch_inside::<MailState<(K, usize)>>(state);
             return;
         }
-        let mut weights = world.shards[shard].map.write(rt);
+        let mut weights = weights.write(rt);
+        self.process_with(rt, state, &mut *weights, world, shard, seat);
+    }
+
+    // Processes the batch with the rows of a shard with a log, which are what all that was taken before leaves: then they are what
+    // all that was taken leaves. Its seat gets the slips of what is evicted, where that goes into a box.
+    pub(crate) fn process_logged<B: Registry + Archive, R: Wait>(
+        &mut self,
+        rt: &R,
+        rows: &mut LoggedShard<K, B>,
+        taker: &mut Taker<K, B>,
+        world: &World<K, B>,
+    )
+        requires shard { (taker.old.shard ≡ rows.old.shard) × (taker.old.shard < vec_len world.now.shards) }
+        requires gains { ForSome (taken_in taker.old.voice) (Gains rows.old.count self.old.batch.items) }
+        requires logged { IsSome taker.old.voice }
+        requires seat { is_some rows.old.seat ≡ is_ledger world.now.outlet }
+        requires few { vec_len self.old.batch ≤ 16 }
+        requires none { self.old.effects.items ≡ [] }
+        requires room { 16 ≤ vec_capacity self.old.effects }
+        requires asked { map (λ a. a.evicts) self.old.asked.items ≡ map is_evict self.old.batch.items }
+        ensures replies { ForSome (taken_in taker.old.voice) (λ taken. AreReplies K.is_clone (cap_of B.shards) taken rows.old.count (map (λ e. e.reply) self.new.effects.items)) }
+        ensures taker { (taker.new.shard ≡ taker.old.shard) × (taker.new.count ≡ taker.old.count) × (taken_in taker.new.voice ≡ taken_in taker.old.voice) }
+        ensures effects { vec_len self.new.effects ≡ vec_len self.old.asked }
+        ensures asked { self.new.asked ≡ self.old.asked }
+    {
+        let before = rows.count;
+        rows.meet(taker, before);
+        let shard = taker.shard;
+        self.process_with(
+            rt,
+            &mut rows.state,
+            &mut rows.weights,
+            world,
+            shard,
+            &mut rows.seat,
+        );
+        rows.count = taker.count;
+        match &mut taker.voice {
+            Some(voice) => rows.seen = voice.show(rows.count),
+            None => unreachable!(),
+        }
+    }
+
+    // Processes the batch with the map of weights, under the lock of the evicted pairs where it evicts.
+    pub(crate) fn process_with<B: Registry + Archive, R: Wait>(
+        &mut self,
+        rt: &R,
+        state: &mut ShardState<K>,
+        weights: &mut HashMap<u64, usize>,
+        world: &World<K, B>,
+        shard: usize,
+        seat: &mut Option<PutSeat<B>>,
+    )
+        requires shard { shard < vec_len world.now.shards }
+        requires few { vec_len self.old.batch ≤ 16 }
+        requires none { self.old.effects.items ≡ [] }
+        requires room { 16 ≤ vec_capacity self.old.effects }
+        requires asked { map (λ a. a.evicts) self.old.asked.items ≡ map is_evict self.old.batch.items }
+        ensures from { StepsFrom K.is_clone state.old (hash.get nat_eq weights.old) self.old.batch.items self.new.effects.items state.new (hash.get nat_eq weights.new) }
+        ensures steps { StepsAll K.is_clone state.old self.old.batch.items self.new.effects.items state.new }
+        ensures slips { is_ledger world.now.outlet ≡ true → AddsSlips state.old.shard.rows self.old.batch.items self.new.effects.items (slips_at seat.old) (slips_at seat.new) }
+        ensures seat { is_ledger world.now.outlet ≡ false → seat.new ≡ seat.old }
+        ensures seated { is_some seat.new ≡ is_some seat.old }
+        ensures effects { vec_len self.new.effects ≡ vec_len self.old.asked }
+        ensures asked { self.new.asked ≡ self.old.asked }
+    {
         if all_evict_none(&self.batch) {
-            let change = self.batch_held::<MailState<(K, usize)>>(&mut *weights);
+            let change = self.batch_held::<MailState<(K, usize)>>(state, weights);
             world.count(shard, &change);
             return;
         }
         match &world.outlet {
             Outlet::Mailbox(mailbox) => {
                 let mut queue = mailbox.lend(rt);
-                let change = self.batch_through(&mut *weights, &mut *queue);
+                let change = self.batch_through(state, weights, &mut *queue);
                 world.count(shard, &change);
                 drop(queue);
                 if change.evicted_len != 0 {
@@ -118,15 +183,15 @@ impl<K: Clone + Drop, T: Drop> Bench<K, T> {
                 }
             }
             Outlet::Ledger(ledger) => {
-                let mut held = held_seat(rt, seat);
+                let held = held_seat(rt, seat);
                 let mut lent = ledger.lend(rt);
                 let mut putter = DeskPutter {
                     desk: &mut *lent,
-                    seat: &mut held,
+                    seat: held,
                 };
-                let change = self.batch_through(&mut *weights, &mut putter);
+                let change = self.batch_through(state, weights, &mut putter);
                 world.count(shard, &change);
-                drop(putter);
+                let DeskPutter { seat: held, .. } = putter;
                 drop(lent);
                 *seat = Some(held);
                 if change.evicted_len != 0 {
@@ -138,43 +203,49 @@ impl<K: Clone + Drop, T: Drop> Bench<K, T> {
 
     // Processes a batch that neither changes a weight nor evicts: whatever the map and the queue of evicted pairs are, it
     // leaves them as they are.
-    fn batch_inside<D: Dispatch<K>>(&mut self) -> Change
+    fn batch_inside<D: Dispatch<K>>(&mut self, state: &mut ShardState<K>) -> Change
         requires inside { All (λ m. stays_inside m ≡ true) self.old.batch.items }
         requires few { vec_len self.old.batch ≤ 16 }
         requires none { self.old.effects.items ≡ [] }
         requires room { 16 ≤ vec_capacity self.old.effects }
         requires asked { map (λ a. a.evicts) self.old.asked.items ≡ map is_evict self.old.batch.items }
-        ensures processed { (look : ℕ → Option ℕ) (queue : D) → ProcessesAll D.Puts D.IsSame D.queue K.is_clone D.MayRefuse self.old.state look queue self.old.batch.items self.new.effects.items self.new.state look queue }
-        ensures steps { StepsAll K.is_clone self.old.state self.old.batch.items self.new.effects.items self.new.state }
-        ensures change { IsChange self.old.state self.old.batch.items self.new.effects.items self.new.state result }
-        ensures effects { vec_len self.new.effects ≤ vec_len self.old.asked }
+        ensures processed { (look : ℕ → Option ℕ) (queue : D) → ProcessesAll D.Puts D.IsSame D.queue K.is_clone D.MayRefuse state.old look queue self.old.batch.items self.new.effects.items state.new look queue }
+        ensures steps { StepsAll K.is_clone state.old self.old.batch.items self.new.effects.items state.new }
+        ensures change { IsChange state.old self.old.batch.items self.new.effects.items state.new result }
+        ensures effects { vec_len self.new.effects ≡ vec_len self.old.asked }
         ensures asked { self.new.asked ≡ self.old.asked }
     {
         let mut no_weights = HashMap::new(self.alloc);
-        self.batch_held::<D>(&mut no_weights)
+        self.batch_held::<D>(state, &mut no_weights)
     }
 
     // Processes a batch that does not evict: whatever the queue of evicted pairs is, it leaves it as it is.
-    fn batch_held<D: Dispatch<K>>(&mut self, weights: &mut HashMap<u64, usize>) -> Change
+    fn batch_held<D: Dispatch<K>>(
+        &mut self,
+        state: &mut ShardState<K>,
+        weights: &mut HashMap<u64, usize>,
+    ) -> Change
         requires held { All (λ m. evicts_none m ≡ true) self.old.batch.items }
         requires few { vec_len self.old.batch ≤ 16 }
         requires none { self.old.effects.items ≡ [] }
         requires room { 16 ≤ vec_capacity self.old.effects }
         requires asked { map (λ a. a.evicts) self.old.asked.items ≡ map is_evict self.old.batch.items }
-        ensures processed { (queue : D) → ProcessesAll D.Puts D.IsSame D.queue K.is_clone D.MayRefuse self.old.state (hash.get nat_eq weights.old) queue self.old.batch.items self.new.effects.items self.new.state (hash.get nat_eq weights.new) queue }
-        ensures steps { StepsAll K.is_clone self.old.state self.old.batch.items self.new.effects.items self.new.state }
-        ensures change { IsChange self.old.state self.old.batch.items self.new.effects.items self.new.state result }
-        ensures effects { vec_len self.new.effects ≤ vec_len self.old.asked }
+        ensures processed { (queue : D) → ProcessesAll D.Puts D.IsSame D.queue K.is_clone D.MayRefuse state.old (hash.get nat_eq weights.old) queue self.old.batch.items self.new.effects.items state.new (hash.get nat_eq weights.new) queue }
+        ensures from { StepsFrom K.is_clone state.old (hash.get nat_eq weights.old) self.old.batch.items self.new.effects.items state.new (hash.get nat_eq weights.new) }
+        ensures steps { StepsAll K.is_clone state.old self.old.batch.items self.new.effects.items state.new }
+        ensures change { IsChange state.old self.old.batch.items self.new.effects.items state.new result }
+        ensures effects { vec_len self.new.effects ≡ vec_len self.old.asked }
         ensures asked { self.new.asked ≡ self.old.asked }
     {
         let mut no_queue = MailState::new(self.alloc);
-        self.batch_through(weights, &mut no_queue)
+        self.batch_through(state, weights, &mut no_queue)
     }
 
     // Processes the batch. Each message has its effect, in order, and the change is that of the shard and of the pairs that
     // were evicted.
     fn batch_through<D: Dispatch<K>>(
         &mut self,
+        state: &mut ShardState<K>,
         weights: &mut HashMap<u64, usize>,
         dispatch: &mut D,
     ) -> Change
@@ -182,30 +253,25 @@ impl<K: Clone + Drop, T: Drop> Bench<K, T> {
         requires none { self.old.effects.items ≡ [] }
         requires room { 16 ≤ vec_capacity self.old.effects }
         requires asked { map (λ a. a.evicts) self.old.asked.items ≡ map is_evict self.old.batch.items }
-        ensures processed { ProcessesAll D.Puts D.IsSame D.queue K.is_clone D.MayRefuse self.old.state (hash.get nat_eq weights.old) dispatch.old self.old.batch.items self.new.effects.items self.new.state (hash.get nat_eq weights.new) dispatch.new }
-        ensures steps { StepsAll K.is_clone self.old.state self.old.batch.items self.new.effects.items self.new.state }
-        ensures change { IsChange self.old.state self.old.batch.items self.new.effects.items self.new.state result }
-        ensures effects { vec_len self.new.effects ≤ vec_len self.old.asked }
+        ensures processed { ProcessesAll D.Puts D.IsSame D.queue K.is_clone D.MayRefuse state.old (hash.get nat_eq weights.old) dispatch.old self.old.batch.items self.new.effects.items state.new (hash.get nat_eq weights.new) dispatch.new }
+        ensures from { StepsFrom K.is_clone state.old (hash.get nat_eq weights.old) self.old.batch.items self.new.effects.items state.new (hash.get nat_eq weights.new) }
+        ensures steps { StepsAll K.is_clone state.old self.old.batch.items self.new.effects.items state.new }
+        ensures change { IsChange state.old self.old.batch.items self.new.effects.items state.new result }
+        ensures effects { vec_len self.new.effects ≡ vec_len self.old.asked }
         ensures asked { self.new.asked ≡ self.old.asked }
     {
-        let weight_before = self.state.used_weight();
-        let len_before = self.state.len();
-        process_batch(
-            &mut self.state,
-            weights,
-            dispatch,
-            &mut self.batch,
-            &mut self.effects,
-        );
+        let weight_before = state.used_weight();
+        let len_before = state.len();
+        process_batch(state, weights, dispatch, &mut self.batch, &mut self.effects);
         let (evicted_weight, evicted_len) = evicted_in(&self.effects, &self.asked);
         Change {
             weight_before,
-            weight_after: self.state.used_weight(),
+            weight_after: state.used_weight(),
             len_before,
-            len_after: self.state.len(),
+            len_after: state.len(),
             evicted_weight,
             evicted_len,
-            refused: self.state.refused(),
+            refused: state.refused(),
             heaviest: heaviest_in(&self.effects),
         }
     }
@@ -370,7 +436,9 @@ pub(crate) fn note_replies<K: Drop, T: Drop>(
 }
 
 // The seat of an actor whose evicted pairs go into a box. It has one; were it not so, this would wait for it.
-fn held_seat<B: Registry, R: Wait>(rt: &R, seat: &mut Option<PutSeat<B>>) -> PutSeat<B> {
+fn held_seat<B: Registry, R: Wait>(rt: &R, seat: &mut Option<PutSeat<B>>) -> PutSeat<B>
+    ensures { seat.old ≡ Some result }
+{
     for _ in rt.forever() {
         if let Some(held) = seat.take() {
             return held;

@@ -1,6 +1,9 @@
 //! Where evicted pairs wait for those who take them.
-use lru_ledgers::{LedgerBox, Registry, TakeSeat};
-use lru_mailboxes::Mailbox;
+ghost use Rattle.std.specs.Prelude.{◌≡◌};
+ghost use Rattle.lru_world.specs.Outlets.{is_ledger};
+
+use lru_shared_ledger::{LedgerBox, Registry, TakeSeat};
+use lru_shared_mailbox::Mailbox;
 use std::alloc::Global;
 use std::marker::Brand;
 use std::sync::{Arc, Wait};
@@ -44,6 +47,13 @@ impl<K: Drop, B: Registry> Outlet<K, B> {
                 }
             }
         }
+    }
+
+    /// Whether it counts every pair.
+    pub fn is_ledger(&self) -> bool
+        ensures { result ≡ is_ledger self.now }
+    {
+        matches!(self, Outlet::Ledger(_))
     }
 
     /// No pair waits that is put from now on; what waits can still be taken.

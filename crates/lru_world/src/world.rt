@@ -1,29 +1,35 @@
 //! What actors, workers and callers share.
-ghost use Rattle.std.specs.Prelude.{◌≡◌, ◌+◌, ◌-◌, ◌<◌, [], vec_len, IfOk, OnOk, IsSome, is_some};
+ghost use Rattle.std.specs.Prelude.{◌≡◌, ◌+◌, ◌-◌, ◌<◌, [], All, vec_len, IfOk, OnOk, IsSome, is_some};
 ghost use Rattle.std.specs.Option.{ForSome};
+ghost use Rattle.std.specs.Sync.Mutex.{mutex_guard_value};
 ghost use Rattle.lru_logs.specs.Logs.{log, hand, of_log, blank_logs, blank_fronts};
 ghost use Rattle.lru_inbox.specs.Inboxes.{taken_in};
+ghost use Rattle.lru_logged_shard.specs.Looking.{Looks};
+ghost use Rattle.lru_logged_shard.specs.Seats.{slips_at};
+ghost use Rattle.lru_rules.specs.Limits.{cap_of};
 ghost use Rattle.lru_world.specs.Replying.{HasNothing, AreTakers};
+ghost use Rattle.lru_world.specs.Places.{is_logged};
 
 use crate::asking::{Held, may_ask};
 use crate::outlet::Outlet;
 use crate::rest::Rest;
 use crate::trigger::Trigger;
 use lru_actors::message::LruMsg;
-use lru_inbox::Taker;
-use lru_ledgers::Registry;
+use lru_inbox::{Caller, Inbox, Taker};
 use lru_letters::Letter;
+use lru_logged_shard::LoggedShard;
 use lru_logs::tie::Archive;
 use lru_logs::voice::Voice;
 use lru_rules::counters::shift;
 use lru_rules::eviction::is_past;
 use lru_shared_inbox::SharedInbox;
-use lru_short_locks::ShortLock;
+use lru_shared_ledger::{PutSeat, Registry};
+use lru_short_locks::{ShortLock, ShortMutex};
 use std::alloc::{AllocError, Global};
 use std::collections::HashMap;
 use std::marker::Brand;
-use std::sync::Wait;
 use std::sync::atomic::{AtomicBool, AtomicU64, AtomicUsize, Ordering};
+use std::sync::{MutexGuard, Wait};
 
 /// What all shards together are held to.
 #[derive(Clone, Copy, Debug, PartialEq, Eq)]
@@ -34,13 +40,22 @@ pub struct Limits {
     pub len_watermark: Option<usize>,
 }
 
+/// The weights of a shard's rows, for those who look.
+#[derive(Drop)]
+pub enum Weights<K: Clone + Drop, B: Registry + Archive> {
+    /// The weight of each row, by hash. The rows are its actor's own.
+    Alone(ShortLock<HashMap<u64, usize>>),
+    /// With the rows, where there is a log.
+    WithRows(ShortMutex<LoggedShard<K, B>>),
+}
+
 /// What is shared of one shard.
 #[derive(Drop)]
-pub struct ShardPlace<K: Clone + Drop, B: Archive> {
+pub struct ShardPlace<K: Clone + Drop, B: Registry + Archive> {
     /// The messages that its actor is to take.
     pub mailbox: SharedInbox<K, B>,
-    /// The weight of each row, by hash.
-    pub map: ShortLock<HashMap<u64, usize>>,
+    /// The weights of its rows.
+    pub weights: Weights<K, B>,
     /// How many rows there are.
     pub len: AtomicUsize,
     /// How many messages were refused, modulo 2^64.
@@ -49,24 +64,64 @@ pub struct ShardPlace<K: Clone + Drop, B: Archive> {
     served: AtomicU64,
 }
 
-impl<K: Clone + Drop, B: Archive> ShardPlace<K, B> {
-    /// The place of an empty shard of this number, with room for so many weights, and its empty log, if
-    /// there is one.
-    pub fn new(
+impl<K: Clone + Drop, B: Registry + Archive> ShardPlace<K, B> {
+    /// The place of an empty shard of this number without a log, with room for so many weights.
+    pub fn plain(alloc: Global, shard: usize, capacity: usize) -> Result<Self, AllocError> {
+        let map = HashMap::with_capacity(alloc, capacity)?;
+        let mailbox = SharedInbox::new(alloc, shard, None);
+        Ok(ShardPlace::new(mailbox, Weights::Alone(ShortLock::new(map))))
+    }
+
+    /// The place of an empty shard of this number, one of so many, with its empty log, with room for so many rows, and with a seat
+    /// where evicted pairs go into a box.
+    pub fn logged(
         alloc: Global,
         shard: usize,
-        voice: Option<Voice<LruMsg<K>, B>>,
+        shards: usize,
         capacity: usize,
+        voice: Voice<LruMsg<K>, B>,
+        seat: Option<PutSeat<B>>,
     ) -> Result<Self, AllocError>
-        requires { ForSome voice (λ v. v.token.me ≡ (of_log (log shard [] []), [])) }
+        requires fresh { ForSome (slips_at seat) (λ slips. slips ≡ []) }
+        requires some { 0 < shards }
+        requires all { B.shards ≡ shards }
+        requires log { voice.token.me ≡ (of_log (log shard [] []), []) }
     {
-        Ok(ShardPlace {
-            mailbox: SharedInbox::new(alloc, shard, voice),
-            map: ShortLock::new(HashMap::with_capacity(alloc, capacity)?),
+        let mut voice = voice;
+        let rows = LoggedShard::new(alloc, shard, shards, capacity, voice.seen(), seat)?;
+        let mailbox = SharedInbox::new(alloc, shard, Some(voice));
+        Ok(ShardPlace::new(mailbox, Weights::WithRows(ShortMutex::new(rows))))
+    }
+
+    fn new(mailbox: SharedInbox<K, B>, weights: Weights<K, B>) -> Self {
+        ShardPlace {
+            mailbox,
+            weights,
             len: AtomicUsize::new(0),
             refused: AtomicU64::new(0),
             served: AtomicU64::new(0),
-        })
+        }
+    }
+
+    /// Whether there is a log.
+    pub fn is_logged(&self) -> bool
+        ensures { result ≡ is_logged self.now }
+    {
+        matches!(self.weights, Weights::WithRows(_))
+    }
+
+    /// What stood there, which nobody else holds: the mailbox, and the rows where there is a log.
+    pub fn into_parts(self) -> (Inbox<K, B>, Option<LoggedShard<K, B>>) {
+        let ShardPlace {
+            mailbox,
+            weights,
+            ..
+        } = self;
+        let rows = match weights {
+            Weights::Alone(_) => None,
+            Weights::WithRows(rows) => Some(rows.into_inner()),
+        };
+        (mailbox.into_inner(), rows)
     }
 
     // How many messages were put, modulo 2^64, if the actor is done with all but those that are lost.
@@ -83,7 +138,38 @@ impl<K: Clone + Drop, B: Archive> ShardPlace<K, B> {
 
     /// The weight of the row with this hash, if there is one.
     pub fn weight_of(&self, rt: &impl Wait, hash: u64) -> Option<usize> {
-        self.map.read(rt).get(&hash).copied()
+        match &self.weights {
+            Weights::Alone(map) => map.read(rt).get(&hash).copied(),
+            Weights::WithRows(rows) => rows.lock(rt).weight_of(hash),
+        }
+    }
+
+    /// As `weight_of`, in that of this shard, which has a log, for one who then knows of which rows it is told.
+    pub fn look(
+        &self,
+        rt: &impl Wait,
+        shard: usize,
+        caller: &mut Caller<K, B>,
+        hash: u64,
+    ) -> Option<usize>
+        ensures { Looks (cap_of B.shards) shard hash caller.old.voice.token.me.0.fronts result caller.new.voice.token.me.0.fronts }
+    {
+        self.rows_of(rt, shard).look(caller, hash)
+    }
+
+    // Lends the rows of this shard, which has a log.
+    fn rows_of(&self, rt: &impl Wait, shard: usize) -> MutexGuard<'_, LoggedShard<K, B>>
+        ensures { (mutex_guard_value result).shard ≡ shard }
+    {
+        for _ in rt.forever() {
+            if let Weights::WithRows(rows) = &self.weights {
+                let rows = rows.lock(rt);
+                if rows.shard == shard {
+                    return rows;
+                }
+            }
+        }
+        unreachable!()
     }
 
     /// Closes the mailbox. Who waits for a reply to a message that is left behind is told.
@@ -153,22 +239,26 @@ fn add(counter: &AtomicUsize, amount: usize) {
 
 impl<K: Clone + Drop, B: Registry + Archive> World<K, B> {
     /// So many empty shards, each with room for `capacity` rows. Where there are logs, `logs` speaks for all of them and for those
-    /// who take, and then for those alone.
+    /// who take, and then for those alone; and each shard gets a seat, in order, as long as there are any.
     pub fn new(
         alloc: Global,
         logs: &mut Option<Voice<LruMsg<K>, B>>,
+        seats: Vec<PutSeat<B>>,
         count: usize,
         capacity: usize,
         limits: Limits,
         outlet: Outlet<K, B>,
     ) -> Result<Self, AllocError>
-        requires { ForSome logs.old (λ v. v.token.me ≡ (hand (blank_logs 0 count) (blank_fronts 0 count) [], [])) }
+        requires some { 0 < count }
+        requires named { IsSome logs.old → B.shards ≡ count }
+        requires logs { ForSome logs.old (λ v. v.token.me ≡ (hand (blank_logs 0 count) (blank_fronts 0 count) [], [])) }
+        requires fresh { All (λ s. s.share.slips ≡ []) seats.items }
         ensures count { IfOk result (λ world. vec_len world.shards ≡ count) }
         ensures limits { IfOk result (λ world. world.limits ≡ limits) }
         ensures logs { OnOk result (AreTakers 0 count logs.new × (is_some logs.new ≡ is_some logs.old)) }
     {
         Ok(World {
-            shards: empty_places(alloc, logs, count, capacity)?,
+            shards: empty_places(alloc, logs, seats, count, capacity)?,
             outlet,
             trigger: Trigger::new(),
             limits,
@@ -182,6 +272,14 @@ impl<K: Clone + Drop, B: Registry + Archive> World<K, B> {
             rest: Rest::new(),
             stop: AtomicBool::new(false),
         })
+    }
+
+    /// The places of the shards, which nobody else holds.
+    pub fn into_shards(self) -> Vec<ShardPlace<K, B>>
+        ensures { result ≡ self.shards }
+    {
+        let World { shards, .. } = self;
+        shards
     }
 
     /// Brings the counters after a batch of this shard, each in one step. Its caller holds the lock of the shard's map.
@@ -355,24 +453,28 @@ pub fn next_taker<K: Drop, B: Archive>(
 }
 
 // The places of so many shards: with logs, where there is what speaks for them.
-fn empty_places<K: Clone + Drop, B: Archive>(
+fn empty_places<K: Clone + Drop, B: Registry + Archive>(
     alloc: Global,
     logs: &mut Option<Voice<LruMsg<K>, B>>,
+    seats: Vec<PutSeat<B>>,
     count: usize,
     capacity: usize,
 ) -> Result<Vec<ShardPlace<K, B>>, AllocError>
-    requires { ForSome logs.old (λ v. v.token.me ≡ (hand (blank_logs 0 count) (blank_fronts 0 count) [], [])) }
+    requires some { 0 < count }
+    requires named { IsSome logs.old → B.shards ≡ count }
+    requires logs { ForSome logs.old (λ v. v.token.me ≡ (hand (blank_logs 0 count) (blank_fronts 0 count) [], [])) }
+    requires fresh { All (λ s. s.share.slips ≡ []) seats.items }
     ensures places { IfOk result (λ places. vec_len places ≡ count) }
     ensures logs { OnOk result (AreTakers 0 count logs.new × (is_some logs.new ≡ is_some logs.old)) }
 {
     match logs {
-        Some(rest) => logged_places(alloc, rest, count, capacity),
+        Some(rest) => logged_places(alloc, rest, seats, count, capacity),
         None => plain_places(alloc, count, capacity),
     }
 }
 
 // The places of so many shards without logs.
-fn plain_places<K: Clone + Drop, B: Archive>(
+fn plain_places<K: Clone + Drop, B: Registry + Archive>(
     alloc: Global,
     count: usize,
     capacity: usize,
@@ -381,26 +483,32 @@ fn plain_places<K: Clone + Drop, B: Archive>(
 {
     let mut places = Vec::with_capacity(alloc, count)?;
     for shard in 0..count {
-        places.push(ShardPlace::new(alloc, shard, None, capacity)?)?;
+        places.push(ShardPlace::plain(alloc, shard, capacity)?)?;
     }
     Ok(places)
 }
 
 // The places of so many shards with their logs. What spoke for all logs and those who take then speaks for those alone.
-fn logged_places<K: Clone + Drop, B: Archive>(
+fn logged_places<K: Clone + Drop, B: Registry + Archive>(
     alloc: Global,
     rest: &mut Voice<LruMsg<K>, B>,
+    seats: Vec<PutSeat<B>>,
     count: usize,
     capacity: usize,
 ) -> Result<Vec<ShardPlace<K, B>>, AllocError>
-    requires { rest.old.token.me ≡ (hand (blank_logs 0 count) (blank_fronts 0 count) [], []) }
+    requires some { 0 < count }
+    requires named { B.shards ≡ count }
+    requires rest { rest.old.token.me ≡ (hand (blank_logs 0 count) (blank_fronts 0 count) [], []) }
+    requires fresh { All (λ s. s.share.slips ≡ []) seats.items }
     ensures all { IfOk result (λ places. vec_len places ≡ count) }
     ensures rest { OnOk result (rest.new.token.me ≡ (hand [] (blank_fronts 0 count) [], [])) }
 {
     let mut places = Vec::with_capacity(alloc, count)?;
+    let mut seats = seats.into_iter();
     for shard in 0..count {
         let voice = rest.next_log()?;
-        places.push(ShardPlace::new(alloc, shard, Some(voice), capacity)?)?;
+        let seat = seats.next();
+        places.push(ShardPlace::logged(alloc, shard, count, capacity, voice, seat)?)?;
     }
     Ok(places)
 }

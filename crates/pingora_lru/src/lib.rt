@@ -29,8 +29,8 @@ pub mod lru_core {
 
 /// N shards for many threads, each of which keeps the history of its calls, with a receipt for each call.
 pub mod recorded {
-    pub use lru_journals::entry::{Call, Entry, Names, Receipt, Reply};
-    pub use lru_journals::journal::Seat;
-    pub use lru_journals::tie::{Blank, Registry};
-    pub use lru_recorded::recorded::{Recorded, RecordedLru};
+    pub use lru_journal::entry::{Call, Entry, Names, Receipt, Reply};
+    pub use lru_journal::journal::Seat;
+    pub use lru_journal::tie::{Blank, Registry};
+    pub use lru_shared_recording::recorded::{Recorded, RecordedLru};
 }

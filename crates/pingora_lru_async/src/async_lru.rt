@@ -19,16 +19,20 @@ pub use lru_async::async_lru::{AsyncLru, Closed, ShardData};
 pub use lru_async::builder::{AsyncLruBuilder, Settings};
 /// One whose evicted pairs are counted.
 pub use lru_async::ledger_lru::LedgerLru;
-/// One that keeps logs.
-pub use lru_async::logged_lru::LoggedLru;
 /// A receiver of its evicted pairs.
 pub use lru_async::receiver::EvictionReceiver;
 /// Why a message was not sent, and why nothing was built.
-pub use lru_async::refusals::{BuildError, SendRefused};
+pub use lru_sends::refusals::{BuildError, SendRefused};
 /// Where evicted pairs go.
 pub use lru_dispatch::{Dispatch, Putter};
 /// Who calls an order with logs.
 pub use lru_inbox::Caller;
+/// One whose whole history is accounted for once it is closed, how it is made, and what it came to.
+pub use lru_accounts::{Account, AccountedLru, build_accounted};
+/// What a shard came to, with its log.
+pub use lru_logged_shard::ShardEnd;
+/// One that keeps logs.
+pub use lru_logged::logged_lru::LoggedLru;
 /// What names the logs of an order, and a blank to build one from.
 pub use lru_logs::tie::{Archive, Blank as LogBlank};
 /// Messages on their way, with the cells for their replies.

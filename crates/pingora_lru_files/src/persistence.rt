@@ -26,6 +26,6 @@ pub use lru_memory_folder::memory_folder::MemoryFolder;
 /// What a save, a load or a cleanup did.
 pub use lru_folder::reports::{ShardLoadReport, ShardSaveReport, TempFileCleanupReport};
 /// Saves each shard into its file.
-pub use lru_saving::saving::save_shards;
+pub use lru_saving::save_shards::save_shards;
 /// A save of shards that is made one shard at a time.
 pub use lru_saving::shard_saver::ShardSaver;

@@ -13,7 +13,7 @@ use lru_folder::errors::ShardSaveError;
 use lru_folder::folder::Folder;
 use lru_folder::reports::{ShardLoadReport, ShardSaveReport};
 use lru_loading::loading::load_shards;
-use lru_saving::saving::save_shards;
+use lru_saving::save_shards::save_shards;
 use pingora_lru::lru_core::LruCore;
 use rand_core::Rng;
 use std::alloc::{AllocError, Global};

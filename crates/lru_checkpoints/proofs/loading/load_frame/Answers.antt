@@ -8,7 +8,7 @@ use Rattle.lru_checkpoints.proofs.Loaded.{fault_so, bytes_so}
 use Rattle.lru_checkpoints.proofs.loading.load_frame.Goals as goal
 
 pub returns-in_default-clause-touches : goal.returns-in_default-clause-touches
-returns-in_default-clause-touches g c k = touches_started g.F.Folder.meaning (λ q. ⊥) c.args.folder.now (λ m s. g.met.F.Folder.only_now c.args.folder.now m k s)
+returns-in_default-clause-touches g c k = touches_started g.F.Folder.meaning (λ q. ⊥) c.args.folder.now k
 
 pub returns-in-Err-decode-clause-written : goal.returns-in-Err-decode-clause-written
 returns-in-Err-decode-clause-written g c k rows fits there =

@@ -5,10 +5,10 @@ use Rattle.lru_whole_files.proofs.Touched.{touches_started}
 use Rattle.lru_checkpoints.proofs.saving.save_frame.Goals as goal
 
 pub returns-in_default-clause-touches : goal.returns-in_default-clause-touches
-returns-in_default-clause-touches g c k = touches_started g.F.Folder.meaning _ c.args.folder.now (λ m s. g.met.F.Folder.only_now c.args.folder.now m k s)
+returns-in_default-clause-touches g c k = touches_started g.F.Folder.meaning _ c.args.folder.now k
 
 pub returns-in_default-encode-clause-touches : goal.returns-in_default-encode-clause-touches
-returns-in_default-encode-clause-touches g c k = touches_started g.F.Folder.meaning _ c.args.folder.now (λ m s. g.met.F.Folder.only_now c.args.folder.now m k s)
+returns-in_default-encode-clause-touches g c k = touches_started g.F.Folder.meaning _ c.args.folder.now k
 
 pub returns-in-Ok-write_file-clause-touches : goal.returns-in-Ok-write_file-clause-touches
 returns-in-Ok-write_file-clause-touches g c k =

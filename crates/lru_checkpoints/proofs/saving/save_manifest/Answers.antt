@@ -10,19 +10,19 @@ pub returns-in_default-clause-replaces : goal.returns-in_default-clause-replaces
 returns-in_default-clause-replaces g c k =
     let start = c.args.folder.now in
     not_yet g.F.Folder.meaning (manifest_temp_path c.args.dir.now c.args.file_name.now) (manifest_path c.args.dir.now c.args.file_name.now) (manifest_bytes c.args.manifest.now)
-    (temp-apart-manifest c.args.dir.now c.args.file_name.now) start start (touches_started g.F.Folder.meaning _ start (λ m s. g.met.F.Folder.only_now start m k s))
+    (temp-apart-manifest c.args.dir.now c.args.file_name.now) start start (touches_started g.F.Folder.meaning _ start k)
 
 pub returns-in_default-manifest_path-clause-replaces : goal.returns-in_default-manifest_path-clause-replaces
 returns-in_default-manifest_path-clause-replaces g c k =
     let start = c.args.folder.now in
     not_yet g.F.Folder.meaning (manifest_temp_path c.args.dir.now c.args.file_name.now) (manifest_path c.args.dir.now c.args.file_name.now) (manifest_bytes c.args.manifest.now)
-    (temp-apart-manifest c.args.dir.now c.args.file_name.now) start start (touches_started g.F.Folder.meaning _ start (λ m s. g.met.F.Folder.only_now start m k s))
+    (temp-apart-manifest c.args.dir.now c.args.file_name.now) start start (touches_started g.F.Folder.meaning _ start k)
 
 pub returns-in_default-encode_manifest-clause-replaces : goal.returns-in_default-encode_manifest-clause-replaces
 returns-in_default-encode_manifest-clause-replaces g c k =
     let start = c.args.folder.now in
     not_yet g.F.Folder.meaning (manifest_temp_path c.args.dir.now c.args.file_name.now) (manifest_path c.args.dir.now c.args.file_name.now) (manifest_bytes c.args.manifest.now)
-    (temp-apart-manifest c.args.dir.now c.args.file_name.now) start start (touches_started g.F.Folder.meaning _ start (λ m s. g.met.F.Folder.only_now start m k s))
+    (temp-apart-manifest c.args.dir.now c.args.file_name.now) start start (touches_started g.F.Folder.meaning _ start k)
 
 pub replace_file-requires : goal.replace_file-requires
 replace_file-requires g c same =

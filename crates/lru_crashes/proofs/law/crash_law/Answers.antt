@@ -7,13 +7,13 @@ returns-clause-stop g c run stopped =
     let m = g.F.Folder.meaning in
     let n = g.row.N in
     run_back m n run (m.files run.old)
-    ((leaves_saved run.dir run.file_name n run.core m (λ f k files s. g.met.F.Folder.only_now f files k s) run.drawn run.rest run.old run.new run.answer run.keeps run.saves).each (m.files run.found) stopped)
+    ((leaves_saved run.dir run.file_name n run.core m run.drawn run.rest run.old run.new run.answer run.keeps run.saves).each (m.files run.found) stopped)
 
 pub returns-clause-loss : goal.returns-clause-loss
 returns-clause-loss g c run lost =
     let m = g.F.Folder.meaning in
     let n = g.row.N in
-    let from = (loses_saved run.dir run.file_name n run.core m (λ f k files s. g.met.F.Folder.only_now f files k s) run.drawn run.rest run.old run.new run.answer run.keeps run.saves).each (m.files run.found) lost in
+    let from = (loses_saved run.dir run.file_name n run.core m run.drawn run.rest run.old run.new run.answer run.keeps run.saves).each (m.files run.found) lost in
     (from.0, (from.1.0, run_back m n run from.0 from.1.1))
 
 pub returns-clause-stop_since_load : goal.returns-clause-stop_since_load
@@ -21,13 +21,13 @@ returns-clause-stop_since_load g c run first stopped =
     let m = g.F.Folder.meaning in
     let n = g.row.N in
     run_back m n run (m.files first.begun)
-    ((leaves_both run.dir run.file_name n run.core m (λ f k files s. g.met.F.Folder.only_now f files k s) run.small first.before first.held first.begun run.old run.new first.answer run.drawn run.rest run.answer
+    ((leaves_both run.dir run.file_name n run.core m run.small first.before first.held first.begun run.old run.new first.answer run.drawn run.rest run.answer
     first.keeps run.keeps first.loads run.saves).each (m.files run.found) stopped)
 
 pub returns-clause-loss_since_load : goal.returns-clause-loss_since_load
 returns-clause-loss_since_load g c run first lost =
     let m = g.F.Folder.meaning in
     let n = g.row.N in
-    let from = (loses_both run.dir run.file_name n run.core m (λ f k files s. g.met.F.Folder.only_now f files k s) run.small first.before first.held first.begun run.old run.new first.answer run.drawn run.rest run.answer
+    let from = (loses_both run.dir run.file_name n run.core m run.small first.before first.held first.begun run.old run.new first.answer run.drawn run.rest run.answer
     first.keeps run.keeps first.loads run.saves).each (m.files run.found) lost in
     (from.0, (from.1.0, run_back m n run from.0 from.1.1))

@@ -4,4 +4,4 @@ use Rattle.lru_generations.proofs.before.keep_before.Goals as goal
 
 pub returns-in-None-clause-touches : goal.returns-in-None-clause-touches
 returns-in-None-clause-touches g c k =
-    touches_started g.F.Folder.meaning (IsBeforeFile c.args.dir.now c.args.file_name.now) c.args.folder.now (λ m s. g.met.F.Folder.only_now c.args.folder.now m k s)
+    touches_started g.F.Folder.meaning (IsBeforeFile c.args.dir.now c.args.file_name.now) c.args.folder.now k

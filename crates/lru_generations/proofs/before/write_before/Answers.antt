@@ -13,7 +13,7 @@ use Rattle.lru_generations.proofs.before.write_before.Goals as goal
 
 pub returns-in_default-clause-touches : goal.returns-in_default-clause-touches
 returns-in_default-clause-touches g c k =
-    touches_started g.F.Folder.meaning (IsBeforeFile c.args.dir.now c.args.file_name.now) c.args.folder.now (λ m s. g.met.F.Folder.only_now c.args.folder.now m k s)
+    touches_started g.F.Folder.meaning (IsBeforeFile c.args.dir.now c.args.file_name.now) c.args.folder.now k
 
 pub returns-in_err-save_manifest-clause-touches : goal.returns-in_err-save_manifest-clause-touches
 returns-in_err-save_manifest-clause-touches g c k =

@@ -7,7 +7,7 @@ use Rattle.lru_generations.specs.Before.{before_text}
 use Rattle.lru_generations.proofs.generations.manifest_before.Goals as goal
 
 pub returns-in_default-clause-touches : goal.returns-in_default-clause-touches
-returns-in_default-clause-touches g c k = touches_started g.F.Folder.meaning (λ q. ⊥) c.args.folder.now (λ m s. g.met.F.Folder.only_now c.args.folder.now m k s)
+returns-in_default-clause-touches g c k = touches_started g.F.Folder.meaning (λ q. ⊥) c.args.folder.now k
 
 pub returns-clause-written : goal.returns-clause-written
 returns-clause-written g c k manifest is there =

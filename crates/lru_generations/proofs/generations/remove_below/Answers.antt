@@ -6,7 +6,7 @@ use Rattle.lru_generations.proofs.generations.remove_below.Goals as goal
 
 pub returns-then-manifest-saturating_sub-clause-touches : goal.returns-then-manifest-saturating_sub-clause-touches
 returns-then-manifest-saturating_sub-clause-touches g c k =
-    touches_started g.F.Folder.meaning (IsOlderFrame c.args.dir.now c.args.file_name.now c.args.newest) c.args.folder.now (λ m s. g.met.F.Folder.only_now c.args.folder.now m k s)
+    touches_started g.F.Folder.meaning (IsOlderFrame c.args.dir.now c.args.file_name.now c.args.newest) c.args.folder.now k
 
 pub returns-clause-touches : goal.returns-clause-touches
 returns-clause-touches g c k =

@@ -4,8 +4,8 @@ use Rattle.lru_generations.proofs.generations.remove_older.Goals as goal
 
 pub returns-in-Err-clause-touches : goal.returns-in-Err-clause-touches
 returns-in-Err-clause-touches g c k =
-    touches_started g.F.Folder.meaning (IsOlderFrame c.args.dir.now c.args.file_name.now c.args.newest) c.args.folder.now (λ m s. g.met.F.Folder.only_now c.args.folder.now m k s)
+    touches_started g.F.Folder.meaning (IsOlderFrame c.args.dir.now c.args.file_name.now c.args.newest) c.args.folder.now k
 
 pub returns-in-Ok-None-clause-touches : goal.returns-in-Ok-None-clause-touches
 returns-in-Ok-None-clause-touches g c k =
-    touches_started g.F.Folder.meaning (IsOlderFrame c.args.dir.now c.args.file_name.now c.args.newest) c.args.folder.now (λ m s. g.met.F.Folder.only_now c.args.folder.now m k s)
+    touches_started g.F.Folder.meaning (IsOlderFrame c.args.dir.now c.args.file_name.now c.args.newest) c.args.folder.now k

@@ -1,7 +1,7 @@
-use Rattle.std.proofs.Common.{subst, arith}
+use Rattle.std.proofs.Common.{subst}
 use Rattle.lru_folder.specs.Files.{Files}
 use Rattle.lru_folder.specs.Meaning.{Meaning}
-use Rattle.lru_folder.proofs.LossLemmas.{spread-self}
+use Rattle.lru_folder.proofs.LossLemmas.{lost_now, spread-self}
 use Rattle.lru_checkpoints.specs.Checkpoints.{HasCheckpoint}
 use Rattle.lru_checkpoints.specs.Generations.{IsNext}
 use Rattle.lru_generations.proofs.SavedNext.{next_later}
@@ -78,6 +78,6 @@ returns-clause-before g c k generation rows good =
     let touched = c.remove_older-removed.ensures.touches k-2 in
     let next : IsNext dir file_name (m.files start) number = subst (λ (f : Files). IsNext dir file_name f number) (c.manifest_before-found.ensures.files k) (c.in-Ok.ensures.next k-1) in
     let h : HasCheckpoint K.bytes_of K.is_value V.bytes_of V.is_value dir file_name generation rows (m.files start)
-    = good (m.files start) (g.met.F.Folder.counts_lost start (m.clock start) (m.files start) k (omega arith) (spread-self (m.loose start) (m.files start))) in
+    = good (m.files start) (lost_now m start k (m.files start) (spread-self (m.loose start) (m.files start))) in
     still_before dir file_name number K.bytes_of K.is_value V.bytes_of V.is_value c.args.shards.now m start mid new touched generation rows (next_number dir file_name number K.bytes_of K.is_value V.bytes_of V.is_value (m.files start) next generation rows h)
     (c.in-Ok.ensures.before k-1 generation rows (looked_for_good K.bytes_of K.is_value V.bytes_of V.is_value dir file_name m start one looked generation rows good))

@@ -12,7 +12,7 @@ use Rattle.lru_generations.specs.Before.{before_text}
 use Rattle.lru_generations.proofs.loading.load_before.Goals as goal
 
 pub returns-in_default-clause-touches : goal.returns-in_default-clause-touches
-returns-in_default-clause-touches g c k = touches_started g.F.Folder.meaning (λ q. ⊥) c.args.folder.now (λ m s. g.met.F.Folder.only_now c.args.folder.now m k s)
+returns-in_default-clause-touches g c k = touches_started g.F.Folder.meaning (λ q. ⊥) c.args.folder.now k
 
 pub returns-in-Err-clause-written : goal.returns-in-Err-clause-written
 returns-in-Err-clause-written g c k generation shards before =

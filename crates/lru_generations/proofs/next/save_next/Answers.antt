@@ -1,6 +1,6 @@
-use Rattle.std.proofs.Common.{◌≡◌, ℕ, suc, Some, inr, arith}
+use Rattle.std.proofs.Common.{◌≡◌, ℕ, suc, Some, inr}
 use Rattle.lru_folder.specs.Meaning.{Meaning}
-use Rattle.lru_folder.proofs.LossLemmas.{spread-self}
+use Rattle.lru_folder.proofs.LossLemmas.{lost_now, spread-self}
 use Rattle.lru_manifests.specs.Manifests.{IsManifest}
 use Rattle.lru_checkpoints.specs.Checkpoints.{Shards, HasCheckpoint, manifest_of}
 use Rattle.lru_generations.specs.Before.{SavesNext}
@@ -75,7 +75,7 @@ returns-in-Ok-save_after-clause-before g c k generation rows good =
     let saves : SavesNext K.bytes_of K.is_value V.bytes_of V.is_value c.args.dir.now c.args.file_name.now m c.args.shards.now start new
     = saves_next K.bytes_of K.is_value V.bytes_of V.is_value c.args.dir.now c.args.file_name.now c.args.shards.now m start one (c.load_manifest.ensures.touches k) (c.load_manifest.ensures.files k) new newest number numbers (c.save_after.ensures.saves k-1) known in
     let h : HasCheckpoint K.bytes_of K.is_value V.bytes_of V.is_value c.args.dir.now c.args.file_name.now generation rows (m.files start)
-    = good (m.files start) (g.met.F.Folder.counts_lost start (m.clock start) (m.files start) k (omega arith) (spread-self (m.loose start) (m.files start))) in
+    = good (m.files start) (lost_now m start k (m.files start) (spread-self (m.loose start) (m.files start))) in
     at_end K.bytes_of K.is_value V.bytes_of V.is_value c.args.dir.now c.args.file_name.now m generation number rows c.args.shards.now start new (known generation rows h).1 saves h good (c.in-Ok-save_after.ensures.for_good k-1)
 
 pub returns-in-Err-save_after-clause-reason : goal.returns-in-Err-save_after-clause-reason

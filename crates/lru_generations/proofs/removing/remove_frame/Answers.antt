@@ -10,7 +10,7 @@ use Rattle.lru_generations.proofs.removing.remove_frame.Goals as goal
 
 pub returns-in_default-clause-touches : goal.returns-in_default-clause-touches
 returns-in_default-clause-touches g c k =
-    touches_started g.F.Folder.meaning (λ q. q ≡ frame_path c.args.dir.now c.args.file_name.now c.args.manifest.now.generation c.args.shard) c.args.folder.now (λ m s. g.met.F.Folder.only_now c.args.folder.now m k s)
+    touches_started g.F.Folder.meaning (λ q. q ≡ frame_path c.args.dir.now c.args.file_name.now c.args.manifest.now.generation c.args.shard) c.args.folder.now k
 
 pub returns-in-Ok-remove_file-clause-gone : goal.returns-in-Ok-remove_file-clause-gone
 returns-in-Ok-remove_file-clause-gone g c k =

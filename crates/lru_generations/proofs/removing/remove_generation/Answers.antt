@@ -11,7 +11,7 @@ use Rattle.lru_generations.proofs.removing.remove_generation.Goals as goal
 pub loop-shard-init : goal.loop-shard-init
 loop-shard-init g c = record {
   gone = λ k shard none. absurd (omega (arith, none));
-  touches = λ k. touches_started g.F.Folder.meaning _ c.args.folder.now (λ m s. g.met.F.Folder.only_now c.args.folder.now m k s);
+  touches = λ k. touches_started g.F.Folder.meaning _ c.args.folder.now k;
   firm = λ k q l. l;
   quiet = λ k. refl;
   places = λ k. refl;

@@ -73,8 +73,7 @@ loop-path-preserved g c =
           cause = called.cause (so_far.kept.0 k);
           called = called.last (so_far.kept.0 k);
           spares = subst (λ p. SparesAllBut m (p ∷ []) c.loop-path.folder c.remove.new.self) c.deref.ensures
-              (spares_removed m c.deref.result.now c.loop-path.folder c.remove.new.self (λ f s. g.met.F.Folder.only_now c.loop-path.folder f (so_far.kept.0 k) s)
-              (λ f s. g.met.F.Folder.counts_lost c.loop-path.folder (m.clock c.loop-path.folder) f (so_far.kept.0 k) (omega arith) s)
+              (spares_removed m c.deref.result.now c.loop-path.folder c.remove.new.self (so_far.kept.0 k)
               (called.time (so_far.kept.0 k)) (called.loss (so_far.kept.0 k)));
           kept = called.kept.0 (so_far.kept.0 k);
         }),
@@ -127,8 +126,7 @@ loop-path-preserved-in-Err g c =
           cause = called.cause (so_far.kept.0 k);
           called = called.last (so_far.kept.0 k);
           spares = subst (λ p. SparesAllBut m (p ∷ []) c.loop-path.folder c.remove.new.self) c.deref.ensures
-              (spares_removed m c.deref.result.now c.loop-path.folder c.remove.new.self (λ f s. g.met.F.Folder.only_now c.loop-path.folder f (so_far.kept.0 k) s)
-              (λ f s. g.met.F.Folder.counts_lost c.loop-path.folder (m.clock c.loop-path.folder) f (so_far.kept.0 k) (omega arith) s)
+              (spares_removed m c.deref.result.now c.loop-path.folder c.remove.new.self (so_far.kept.0 k)
               (called.time (so_far.kept.0 k)) (called.loss (so_far.kept.0 k)));
           kept = called.kept.0 (so_far.kept.0 k);
         }),
@@ -170,5 +168,5 @@ returns-clause-spares g c k =
     let end = c.loop-path.folder in
     let tried = returns-clause-removals g c in
     subst (λ (ps : List (List ℕ)). SparesAllBut m ps start end) (tried.1 k).tried
-    (each_in_order m (RemovesOne m) (λ f kept files s. g.met.F.Folder.only_now f files kept s) (λ n r old new step. step.kept) (λ (r : Removal). r.path) (λ n r old new step. step.spares)
+    (each_in_order m (RemovesOne m) (λ n r old new step. step.kept) (λ (r : Removal). r.path) (λ n r old new step. step.spares)
     0 tried.0 start end k (tried.2 k))

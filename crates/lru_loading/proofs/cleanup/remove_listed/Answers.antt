@@ -55,9 +55,9 @@ returns-clause-spares g c k =
 pub returns-in_err-paths-clause-spares : goal.returns-in_err-paths-clause-spares
 returns-in_err-paths-clause-spares g c k =
     let start = c.args.folder.now in
-    spares_started g.F.Folder.meaning (temp_paths c.args.dir_path.now c.args.file_name.now (g.F.Folder.meaning.files start)) start (λ m s. g.met.F.Folder.only_now start m k s)
+    spares_started g.F.Folder.meaning (temp_paths c.args.dir_path.now c.args.file_name.now (g.F.Folder.meaning.files start)) start k
 
 pub returns-in_err-failures-clause-spares : goal.returns-in_err-failures-clause-spares
 returns-in_err-failures-clause-spares g c k =
     let start = c.args.folder.now in
-    spares_started g.F.Folder.meaning (temp_paths c.args.dir_path.now c.args.file_name.now (g.F.Folder.meaning.files start)) start (λ m s. g.met.F.Folder.only_now start m k s)
+    spares_started g.F.Folder.meaning (temp_paths c.args.dir_path.now c.args.file_name.now (g.F.Folder.meaning.files start)) start k

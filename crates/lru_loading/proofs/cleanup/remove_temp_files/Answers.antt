@@ -13,23 +13,23 @@ returns-in-Ok-clause-spares g c k =
     let temps : Files → List (List ℕ) = temp_paths c.args.dir_path.now c.args.file_name.now in
     let same = (c.list.ensures.time k).leaves in
     spares_then m (temps (m.files start)) start listed c.remove_listed.new.folder
-    (spares_looking m (temps (m.files start)) start listed (λ f s. g.met.F.Folder.only_now start f k s) (c.list.ensures.time k) (c.list.ensures.loss k))
+    (spares_looking m (temps (m.files start)) start listed k (c.list.ensures.time k) (c.list.ensures.loss k))
     (subst (λ (f : Files). SparesAllBut m (temps f) listed c.remove_listed.new.folder) same (c.remove_listed.ensures.spares (c.list.ensures.kept.0 k)))
 
 pub returns-in-Err-NotFound-clause-spares : goal.returns-in-Err-NotFound-clause-spares
 returns-in-Err-NotFound-clause-spares g c k =
     let start = c.args.folder.now in
     let temps = temp_paths c.args.dir_path.now c.args.file_name.now (g.F.Folder.meaning.files start) in
-    spares_looking g.F.Folder.meaning temps start c.list.new.self (λ m s. g.met.F.Folder.only_now start m k s) (c.list.ensures.time k) (c.list.ensures.loss k)
+    spares_looking g.F.Folder.meaning temps start c.list.new.self k (c.list.ensures.time k) (c.list.ensures.loss k)
 
 pub returns-in-Err-Memory-clause-spares : goal.returns-in-Err-Memory-clause-spares
 returns-in-Err-Memory-clause-spares g c k =
     let start = c.args.folder.now in
     let temps = temp_paths c.args.dir_path.now c.args.file_name.now (g.F.Folder.meaning.files start) in
-    spares_looking g.F.Folder.meaning temps start c.list.new.self (λ m s. g.met.F.Folder.only_now start m k s) (c.list.ensures.time k) (c.list.ensures.loss k)
+    spares_looking g.F.Folder.meaning temps start c.list.new.self k (c.list.ensures.time k) (c.list.ensures.loss k)
 
 pub returns-in-Err-Io-clause-spares : goal.returns-in-Err-Io-clause-spares
 returns-in-Err-Io-clause-spares g c k =
     let start = c.args.folder.now in
     let temps = temp_paths c.args.dir_path.now c.args.file_name.now (g.F.Folder.meaning.files start) in
-    spares_looking g.F.Folder.meaning temps start c.list.new.self (λ m s. g.met.F.Folder.only_now start m k s) (c.list.ensures.time k) (c.list.ensures.loss k)
+    spares_looking g.F.Folder.meaning temps start c.list.new.self k (c.list.ensures.time k) (c.list.ensures.loss k)

@@ -148,7 +148,7 @@ returns-clause-loads g c =
         in_order = so_far.load.1;
         spares = λ k. spares_then m (temps (F.meaning.files start)) start mid after
             (spares_none m (temps (F.meaning.files start)) start mid
-            (all_in_order m (LoadsOne m dir name) (λ f kept files s. g.met.F.Folder.only_now f files kept s) (λ n turn old new step. step.kept) (λ n turn old new step. step.spares)
+            (all_in_order m (LoadsOne m dir name) (λ n turn old new step. step.kept) (λ n turn old new step. step.spares)
             0 so_far.load.0.turns start mid k (so_far.load.1 k)))
             (subst (λ (f : Files). SparesAllBut m (temps f) mid after) (so_far.files k) (cleaned.spares (so_far.kept.0 k)));
         cleaned = λ k. elim c.remove_temp_files-temp_cleanup.result as (λ (r : Result TempFileCleanupReport AllocError). IfOk r (IsCleanup m dir name mid after) → OnErr r (F.meaning.files after ≡ F.meaning.files mid)

@@ -6,7 +6,7 @@ use Rattle.lru_loading.proofs.loading.read_opened.Goals.{else-loop-folder-test, 
 
 pub returns-in_err-bytes-clause-spares : goal.returns-in_err-bytes-clause-spares
 returns-in_err-bytes-clause-spares g c k =
-    spares_started g.F.Folder.meaning [] c.args.folder.now (λ m s. g.met.F.Folder.only_now c.args.folder.now m k s)
+    spares_started g.F.Folder.meaning [] c.args.folder.now k
 
 pub loop-folder-init : goal.loop-folder-init
 loop-folder-init g c = record {
@@ -14,7 +14,7 @@ loop-folder-init g c = record {
   whole = search rules;
   files = search rules;
   quiet = search rules;
-  spares = λ k. spares_started g.F.Folder.meaning [] c.args.folder.now (λ m s. g.met.F.Folder.only_now c.args.folder.now m k s);
+  spares = λ k. spares_started g.F.Folder.meaning [] c.args.folder.now k;
   places = search rules;
   kept = search rules;
 }

@@ -9,26 +9,26 @@ returns-in-Err-Folder-clause-named g c k =
 
 pub returns-in_default-clause-spares : goal.returns-in_default-clause-spares
 returns-in_default-clause-spares g c k =
-    spares_started g.F.Folder.meaning [] c.args.folder.now (λ m s. g.met.F.Folder.only_now c.args.folder.now m k s)
+    spares_started g.F.Folder.meaning [] c.args.folder.now k
 
 pub returns-in-Err-NotFound-clause-spares : goal.returns-in-Err-NotFound-clause-spares
 returns-in-Err-NotFound-clause-spares g c k =
     let start = c.args.folder.now in
     let opened = c.open.new.self in
-    spares_looking g.F.Folder.meaning [] start opened (λ m s. g.met.F.Folder.only_now start m k s) (c.open.ensures.time k) (c.open.ensures.loss k)
+    spares_looking g.F.Folder.meaning [] start opened k (c.open.ensures.time k) (c.open.ensures.loss k)
 
 pub returns-in-Err-clause-spares : goal.returns-in-Err-clause-spares
 returns-in-Err-clause-spares g c k =
     let start = c.args.folder.now in
     let opened = c.open.new.self in
-    spares_looking g.F.Folder.meaning [] start opened (λ m s. g.met.F.Folder.only_now start m k s) (c.open.ensures.time k) (c.open.ensures.loss k)
+    spares_looking g.F.Folder.meaning [] start opened k (c.open.ensures.time k) (c.open.ensures.loss k)
 
 pub returns-in-Ok-read_opened-clause-spares : goal.returns-in-Ok-read_opened-clause-spares
 returns-in-Ok-read_opened-clause-spares g c k =
     let start = c.args.folder.now in
     let opened = c.open.new.self in
     spares_then g.F.Folder.meaning [] start opened c.read_opened.new.folder
-    (spares_looking g.F.Folder.meaning [] start opened (λ m s. g.met.F.Folder.only_now start m k s) (c.open.ensures.time k) (c.open.ensures.loss k))
+    (spares_looking g.F.Folder.meaning [] start opened k (c.open.ensures.time k) (c.open.ensures.loss k))
     (c.read_opened.ensures.spares (c.open.ensures.kept.0 k))
 
 pub returns-in-Err-Memory-clause-spares : goal.returns-in-Err-Memory-clause-spares
@@ -36,7 +36,7 @@ returns-in-Err-Memory-clause-spares g c k =
     let start = c.args.folder.now in
     let opened = c.open.new.self in
     spares_then g.F.Folder.meaning [] start opened c.read_opened.new.folder
-    (spares_looking g.F.Folder.meaning [] start opened (λ m s. g.met.F.Folder.only_now start m k s) (c.open.ensures.time k) (c.open.ensures.loss k))
+    (spares_looking g.F.Folder.meaning [] start opened k (c.open.ensures.time k) (c.open.ensures.loss k))
     (c.read_opened.ensures.spares (c.open.ensures.kept.0 k))
 
 pub returns-in-Err-Folder-clause-spares : goal.returns-in-Err-Folder-clause-spares
@@ -44,5 +44,5 @@ returns-in-Err-Folder-clause-spares g c k =
     let start = c.args.folder.now in
     let opened = c.open.new.self in
     spares_then g.F.Folder.meaning [] start opened c.read_opened.new.folder
-    (spares_looking g.F.Folder.meaning [] start opened (λ m s. g.met.F.Folder.only_now start m k s) (c.open.ensures.time k) (c.open.ensures.loss k))
+    (spares_looking g.F.Folder.meaning [] start opened k (c.open.ensures.time k) (c.open.ensures.loss k))
     (c.read_opened.ensures.spares (c.open.ensures.kept.0 k))

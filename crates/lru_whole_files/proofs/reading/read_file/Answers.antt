@@ -6,7 +6,7 @@ pub returns-in-Err-NotFound-clause-touches : goal.returns-in-Err-NotFound-clause
 returns-in-Err-NotFound-clause-touches g c k =
     let start = c.args.folder.now in
     touches_looked g.F.Folder.meaning (λ q. ⊥) start start c.open.new.self
-    (touches_started g.F.Folder.meaning (λ q. ⊥) start (λ m s. g.met.F.Folder.only_now start m k s)) (c.open.ensures.time k) (c.open.ensures.loss k)
+    (touches_started g.F.Folder.meaning (λ q. ⊥) start k) (c.open.ensures.time k) (c.open.ensures.loss k)
 
 pub returns-in-Err : goal.returns-in-Err
 returns-in-Err g c =
@@ -15,7 +15,7 @@ returns-in-Err g c =
     record {
       found = λ k. tt;
       touches = λ k. touches_looked F.meaning (λ q. ⊥) start start c.open.new.self
-          (touches_started F.meaning (λ q. ⊥) start (λ m s. g.met.F.Folder.only_now start m k s)) (c.open.ensures.time k) (c.open.ensures.loss k);
+          (touches_started F.meaning (λ q. ⊥) start k) (c.open.ensures.time k) (c.open.ensures.loss k);
       named = λ k. c.open.ensures.last k;
       reason = λ k.
           let cause = c.in-Err.ensures.cause k in
@@ -36,7 +36,7 @@ returns-in-Ok-read_opened-clause-touches g c k =
     let start = c.args.folder.now in
     touches_then g.F.Folder.meaning (λ q. ⊥) start c.open.new.self c.read_opened.new.folder
     (touches_looked g.F.Folder.meaning (λ q. ⊥) start start c.open.new.self
-    (touches_started g.F.Folder.meaning (λ q. ⊥) start (λ m s. g.met.F.Folder.only_now start m k s)) (c.open.ensures.time k) (c.open.ensures.loss k))
+    (touches_started g.F.Folder.meaning (λ q. ⊥) start k) (c.open.ensures.time k) (c.open.ensures.loss k))
     (c.read_opened.ensures.touches (c.open.ensures.kept.0 k))
 
 pub returns-in-Err-read_opened-clause-touches : goal.returns-in-Err-read_opened-clause-touches
@@ -44,5 +44,5 @@ returns-in-Err-read_opened-clause-touches g c k =
     let start = c.args.folder.now in
     touches_then g.F.Folder.meaning (λ q. ⊥) start c.open.new.self c.read_opened.new.folder
     (touches_looked g.F.Folder.meaning (λ q. ⊥) start start c.open.new.self
-    (touches_started g.F.Folder.meaning (λ q. ⊥) start (λ m s. g.met.F.Folder.only_now start m k s)) (c.open.ensures.time k) (c.open.ensures.loss k))
+    (touches_started g.F.Folder.meaning (λ q. ⊥) start k) (c.open.ensures.time k) (c.open.ensures.loss k))
     (c.read_opened.ensures.touches (c.open.ensures.kept.0 k))

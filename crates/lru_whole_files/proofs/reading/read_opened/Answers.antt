@@ -6,7 +6,7 @@ use Rattle.lru_whole_files.proofs.reading.read_opened.Goals.{else-loop-folder-te
 
 pub returns-in_err-bytes-clause-touches : goal.returns-in_err-bytes-clause-touches
 returns-in_err-bytes-clause-touches g c k =
-    touches_started g.F.Folder.meaning (λ q. ⊥) c.args.folder.now (λ m s. g.met.F.Folder.only_now c.args.folder.now m k s)
+    touches_started g.F.Folder.meaning (λ q. ⊥) c.args.folder.now k
 
 pub loop-folder-init : goal.loop-folder-init
 loop-folder-init g c = record {
@@ -14,7 +14,7 @@ loop-folder-init g c = record {
   whole = search rules;
   files = search rules;
   quiet = search rules;
-  touches = λ k. touches_started g.F.Folder.meaning (λ q. ⊥) c.args.folder.now (λ m s. g.met.F.Folder.only_now c.args.folder.now m k s);
+  touches = λ k. touches_started g.F.Folder.meaning (λ q. ⊥) c.args.folder.now k;
   places = search rules;
   kept = search rules;
 }

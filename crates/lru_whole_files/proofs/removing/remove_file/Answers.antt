@@ -1,6 +1,4 @@
-use Rattle.std.proofs.Common.{◌≡◌, ap, arith, rules, Err}
-use Rattle.lru_folder.specs.Files.{Files}
-use Rattle.lru_folder.specs.Losses.{IsSpread}
+use Rattle.std.proofs.Common.{◌≡◌, ap, rules, Err}
 use Rattle.lru_folder.specs.Meaning.{Meaning}
 use Rattle.lru_whole_files.proofs.Touched.{touches_started, touches_removed}
 use Rattle.lru_whole_files.proofs.Removed.{removed_none}
@@ -12,9 +10,7 @@ returns-in-Ok-clause-touches g c k =
     let m : Meaning _ = F.meaning in
     let path = c.args.path.now in
     let start = c.args.folder.now in
-    let law : (f : Files) → IsSpread (F.meaning.loose start) (F.meaning.files start) f → F.meaning.lost_since start (F.meaning.clock start) f
-    = λ f h. g.met.F.Folder.counts_lost start (F.meaning.clock start) f k (omega arith) h in
-    touches_removed m path start start c.remove.new.self law (touches_started m (λ q. q ≡ path) start (λ f s. g.met.F.Folder.only_now start f k s)) (c.remove.ensures.time k) (c.remove.ensures.loss k)
+    touches_removed m path start start c.remove.new.self k (touches_started m (λ q. q ≡ path) start k) (c.remove.ensures.time k) (c.remove.ensures.loss k)
 
 pub returns-in-Err-NotFound-clause-done : goal.returns-in-Err-NotFound-clause-done
 returns-in-Err-NotFound-clause-done g c k =
@@ -27,9 +23,7 @@ returns-in-Err-NotFound-clause-touches g c k =
     let m : Meaning _ = F.meaning in
     let path = c.args.path.now in
     let start = c.args.folder.now in
-    let law : (f : Files) → IsSpread (F.meaning.loose start) (F.meaning.files start) f → F.meaning.lost_since start (F.meaning.clock start) f
-    = λ f h. g.met.F.Folder.counts_lost start (F.meaning.clock start) f k (omega arith) h in
-    touches_removed m path start start c.remove.new.self law (touches_started m (λ q. q ≡ path) start (λ f s. g.met.F.Folder.only_now start f k s)) (c.remove.ensures.time k) (c.remove.ensures.loss k)
+    touches_removed m path start start c.remove.new.self k (touches_started m (λ q. q ≡ path) start k) (c.remove.ensures.time k) (c.remove.ensures.loss k)
 
 pub returns-in-Err-clause-touches : goal.returns-in-Err-clause-touches
 returns-in-Err-clause-touches g c k =
@@ -37,9 +31,7 @@ returns-in-Err-clause-touches g c k =
     let m : Meaning _ = F.meaning in
     let path = c.args.path.now in
     let start = c.args.folder.now in
-    let law : (f : Files) → IsSpread (F.meaning.loose start) (F.meaning.files start) f → F.meaning.lost_since start (F.meaning.clock start) f
-    = λ f h. g.met.F.Folder.counts_lost start (F.meaning.clock start) f k (omega arith) h in
-    touches_removed m path start start c.remove.new.self law (touches_started m (λ q. q ≡ path) start (λ f s. g.met.F.Folder.only_now start f k s)) (c.remove.ensures.time k) (c.remove.ensures.loss k)
+    touches_removed m path start start c.remove.new.self k (touches_started m (λ q. q ≡ path) start k) (c.remove.ensures.time k) (c.remove.ensures.loss k)
 
 pub returns-in-Err-clause-reason : goal.returns-in-Err-clause-reason
 returns-in-Err-clause-reason g c k =

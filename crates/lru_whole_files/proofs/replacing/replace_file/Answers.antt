@@ -1,6 +1,4 @@
 use Rattle.std.proofs.Common.{ap, subst, sym, arith, Err}
-use Rattle.lru_folder.specs.Files.{Files}
-use Rattle.lru_folder.specs.Losses.{IsSpread}
 use Rattle.lru_folder.specs.Meaning.{Meaning}
 use Rattle.lru_whole_files.specs.Replacing.{IsReplaced}
 use Rattle.lru_whole_files.proofs.Replaced.{not_yet, is_replaced, replaced, stays_firm}
@@ -16,10 +14,8 @@ returns-in-Err-rename-clause-replaces g c k =
     let m : Meaning _ = F.meaning in
     let mid = c.write_file.new.folder in
     let k-1 = c.write_file.ensures.kept.0 k in
-    let law : (f : Files) → IsSpread (F.meaning.loose mid) (F.meaning.files mid) f → F.meaning.lost_since mid (F.meaning.clock mid) f
-    = λ f h. g.met.F.Folder.counts_lost mid (F.meaning.clock mid) f k-1 (omega arith) h in
     replaced m c.args.temp.now c.args.path.now c.args.bytes.now c.requires c.args.folder.now mid c.rename.new.self (c.write_file.ensures.touches k) (c.in_default.ensures.written k)
-    law (c.rename.ensures.time k-1) (c.rename.ensures.loss k-1)
+    k-1 (c.rename.ensures.time k-1) (c.rename.ensures.loss k-1)
 
 pub returns-in-Err-rename-clause-reason : goal.returns-in-Err-rename-clause-reason
 returns-in-Err-rename-clause-reason g c k =
@@ -50,10 +46,8 @@ returns-clause-replaces g c k =
     let m : Meaning _ = F.meaning in
     let mid = c.write_file.new.folder in
     let k-1 = c.write_file.ensures.kept.0 k in
-    let law : (f : Files) → IsSpread (F.meaning.loose mid) (F.meaning.files mid) f → F.meaning.lost_since mid (F.meaning.clock mid) f
-    = λ f h. g.met.F.Folder.counts_lost mid (F.meaning.clock mid) f k-1 (omega arith) h in
     replaced m c.args.temp.now c.args.path.now c.args.bytes.now c.requires c.args.folder.now mid c.rename.new.self (c.write_file.ensures.touches k) (c.in_default.ensures.written k)
-    law (c.rename.ensures.time k-1) (c.rename.ensures.loss k-1)
+    k-1 (c.rename.ensures.time k-1) (c.rename.ensures.loss k-1)
 
 pub returns-clause-firm : goal.returns-clause-firm
 returns-clause-firm g c k =

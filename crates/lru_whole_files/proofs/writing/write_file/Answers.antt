@@ -1,6 +1,4 @@
-use Rattle.std.proofs.Common.{◌≡◌, ◌∙◌, arith}
-use Rattle.lru_folder.specs.Files.{Files}
-use Rattle.lru_folder.specs.Losses.{IsSpread}
+use Rattle.std.proofs.Common.{◌≡◌, ◌∙◌}
 use Rattle.lru_folder.specs.Meaning.{Meaning}
 use Rattle.lru_whole_files.proofs.Touched.{touches_started, touches_created, touches_written, touches_looked, whole, is_written}
 use Rattle.lru_whole_files.proofs.writing.write_file.Goals as goal
@@ -11,10 +9,8 @@ returns-in-Err-clause-touches g c k =
     let m : Meaning _ = F.meaning in
     let path = c.args.path.now in
     let start = c.args.folder.now in
-    let law : (at : _) → F.meaning.keeps at → (f : Files) → IsSpread (F.meaning.loose at) (F.meaning.files at) f → F.meaning.lost_since at (F.meaning.clock at) f
-    = λ at kept f h. g.met.F.Folder.counts_lost at (F.meaning.clock at) f kept (omega arith) h in
-    let none = touches_started m (λ q. q ≡ path) start (λ f s. g.met.F.Folder.only_now start f k s) in
-    let one = touches_created m path start start c.create.new.self (law start k) none (c.create.ensures.time k) (c.create.ensures.loss k) in
+    let none = touches_started m (λ q. q ≡ path) start k in
+    let one = touches_created m path start start c.create.new.self k none (c.create.ensures.time k) (c.create.ensures.loss k) in
     one
 
 pub returns-in-Err-write-clause-touches : goal.returns-in-Err-write-clause-touches
@@ -23,13 +19,11 @@ returns-in-Err-write-clause-touches g c k =
     let m : Meaning _ = F.meaning in
     let path = c.args.path.now in
     let start = c.args.folder.now in
-    let law : (at : _) → F.meaning.keeps at → (f : Files) → IsSpread (F.meaning.loose at) (F.meaning.files at) f → F.meaning.lost_since at (F.meaning.clock at) f
-    = λ at kept f h. g.met.F.Folder.counts_lost at (F.meaning.clock at) f kept (omega arith) h in
-    let none = touches_started m (λ q. q ≡ path) start (λ f s. g.met.F.Folder.only_now start f k s) in
-    let one = touches_created m path start start c.create.new.self (law start k) none (c.create.ensures.time k) (c.create.ensures.loss k) in
+    let none = touches_started m (λ q. q ≡ path) start k in
+    let one = touches_created m path start start c.create.new.self k none (c.create.ensures.time k) (c.create.ensures.loss k) in
     let k-1 = c.create.ensures.kept.0 k in
     let created = c.in_default.ensures.done k in
-    let two = touches_written m path start c.create.new.self c.write.new.self (law c.create.new.self k-1) one c.args.bytes.now (F.opened c.create.new.self) created.2
+    let two = touches_written m path start c.create.new.self c.write.new.self k-1 one c.args.bytes.now (F.opened c.create.new.self) created.2
     (c.write.ensures.time k-1) (c.write.ensures.loss k-1) in
     two
 
@@ -39,13 +33,11 @@ returns-in-Err-flush-clause-touches g c k =
     let m : Meaning _ = F.meaning in
     let path = c.args.path.now in
     let start = c.args.folder.now in
-    let law : (at : _) → F.meaning.keeps at → (f : Files) → IsSpread (F.meaning.loose at) (F.meaning.files at) f → F.meaning.lost_since at (F.meaning.clock at) f
-    = λ at kept f h. g.met.F.Folder.counts_lost at (F.meaning.clock at) f kept (omega arith) h in
-    let none = touches_started m (λ q. q ≡ path) start (λ f s. g.met.F.Folder.only_now start f k s) in
-    let one = touches_created m path start start c.create.new.self (law start k) none (c.create.ensures.time k) (c.create.ensures.loss k) in
+    let none = touches_started m (λ q. q ≡ path) start k in
+    let one = touches_created m path start start c.create.new.self k none (c.create.ensures.time k) (c.create.ensures.loss k) in
     let k-1 = c.create.ensures.kept.0 k in
     let created = c.in_default.ensures.done k in
-    let two = touches_written m path start c.create.new.self c.write.new.self (law c.create.new.self k-1) one c.args.bytes.now (F.opened c.create.new.self) created.2
+    let two = touches_written m path start c.create.new.self c.write.new.self k-1 one c.args.bytes.now (F.opened c.create.new.self) created.2
     (c.write.ensures.time k-1) (c.write.ensures.loss k-1) in
     let k-2 = c.write.ensures.kept.0 k-1 in
     let three = touches_looked m (λ q. q ≡ path) start c.write.new.self c.flush.new.self two (c.flush.ensures.time k-2) (c.flush.ensures.loss k-2) in
@@ -57,13 +49,11 @@ returns-in-Err-sync-clause-touches g c k =
     let m : Meaning _ = F.meaning in
     let path = c.args.path.now in
     let start = c.args.folder.now in
-    let law : (at : _) → F.meaning.keeps at → (f : Files) → IsSpread (F.meaning.loose at) (F.meaning.files at) f → F.meaning.lost_since at (F.meaning.clock at) f
-    = λ at kept f h. g.met.F.Folder.counts_lost at (F.meaning.clock at) f kept (omega arith) h in
-    let none = touches_started m (λ q. q ≡ path) start (λ f s. g.met.F.Folder.only_now start f k s) in
-    let one = touches_created m path start start c.create.new.self (law start k) none (c.create.ensures.time k) (c.create.ensures.loss k) in
+    let none = touches_started m (λ q. q ≡ path) start k in
+    let one = touches_created m path start start c.create.new.self k none (c.create.ensures.time k) (c.create.ensures.loss k) in
     let k-1 = c.create.ensures.kept.0 k in
     let created = c.in_default.ensures.done k in
-    let two = touches_written m path start c.create.new.self c.write.new.self (law c.create.new.self k-1) one c.args.bytes.now (F.opened c.create.new.self) created.2
+    let two = touches_written m path start c.create.new.self c.write.new.self k-1 one c.args.bytes.now (F.opened c.create.new.self) created.2
     (c.write.ensures.time k-1) (c.write.ensures.loss k-1) in
     let k-2 = c.write.ensures.kept.0 k-1 in
     let three = touches_looked m (λ q. q ≡ path) start c.write.new.self c.flush.new.self two (c.flush.ensures.time k-2) (c.flush.ensures.loss k-2) in
@@ -77,13 +67,11 @@ returns-clause-touches g c k =
     let m : Meaning _ = F.meaning in
     let path = c.args.path.now in
     let start = c.args.folder.now in
-    let law : (at : _) → F.meaning.keeps at → (f : Files) → IsSpread (F.meaning.loose at) (F.meaning.files at) f → F.meaning.lost_since at (F.meaning.clock at) f
-    = λ at kept f h. g.met.F.Folder.counts_lost at (F.meaning.clock at) f kept (omega arith) h in
-    let none = touches_started m (λ q. q ≡ path) start (λ f s. g.met.F.Folder.only_now start f k s) in
-    let one = touches_created m path start start c.create.new.self (law start k) none (c.create.ensures.time k) (c.create.ensures.loss k) in
+    let none = touches_started m (λ q. q ≡ path) start k in
+    let one = touches_created m path start start c.create.new.self k none (c.create.ensures.time k) (c.create.ensures.loss k) in
     let k-1 = c.create.ensures.kept.0 k in
     let created = c.in_default.ensures.done k in
-    let two = touches_written m path start c.create.new.self c.write.new.self (law c.create.new.self k-1) one c.args.bytes.now (F.opened c.create.new.self) created.2
+    let two = touches_written m path start c.create.new.self c.write.new.self k-1 one c.args.bytes.now (F.opened c.create.new.self) created.2
     (c.write.ensures.time k-1) (c.write.ensures.loss k-1) in
     let k-2 = c.write.ensures.kept.0 k-1 in
     let three = touches_looked m (λ q. q ≡ path) start c.write.new.self c.flush.new.self two (c.flush.ensures.time k-2) (c.flush.ensures.loss k-2) in
@@ -97,13 +85,11 @@ returns-clause-written g c k =
     let m : Meaning _ = F.meaning in
     let path = c.args.path.now in
     let start = c.args.folder.now in
-    let law : (at : _) → F.meaning.keeps at → (f : Files) → IsSpread (F.meaning.loose at) (F.meaning.files at) f → F.meaning.lost_since at (F.meaning.clock at) f
-    = λ at kept f h. g.met.F.Folder.counts_lost at (F.meaning.clock at) f kept (omega arith) h in
-    let none = touches_started m (λ q. q ≡ path) start (λ f s. g.met.F.Folder.only_now start f k s) in
-    let one = touches_created m path start start c.create.new.self (law start k) none (c.create.ensures.time k) (c.create.ensures.loss k) in
+    let none = touches_started m (λ q. q ≡ path) start k in
+    let one = touches_created m path start start c.create.new.self k none (c.create.ensures.time k) (c.create.ensures.loss k) in
     let k-1 = c.create.ensures.kept.0 k in
     let created = c.in_default.ensures.done k in
-    let two = touches_written m path start c.create.new.self c.write.new.self (law c.create.new.self k-1) one c.args.bytes.now (F.opened c.create.new.self) created.2
+    let two = touches_written m path start c.create.new.self c.write.new.self k-1 one c.args.bytes.now (F.opened c.create.new.self) created.2
     (c.write.ensures.time k-1) (c.write.ensures.loss k-1) in
     let k-2 = c.write.ensures.kept.0 k-1 in
     let three = touches_looked m (λ q. q ≡ path) start c.write.new.self c.flush.new.self two (c.flush.ensures.time k-2) (c.flush.ensures.loss k-2) in

@@ -26,13 +26,6 @@ invariant_of-self g c =
     let edit = edits_update _ _ c.index_mut-unit.result.now c.args.key c.update_or_admit-answer.result c.update_or_admit-answer.new.self c.update_or_admit-answer.ensures in
     kept_by g.row.N i.units.items i.totals.weight i.totals.len c.self.invariant (c.args.key % g.row.N) lt c.index_mut-unit.result.now c.index_mut-unit.ensures.value c.args.key refl c.update_or_admit-answer.new.self c.of-after.ensures.valid edit c.of-before.result.weight c.of-before.result.len c.of-after.result.weight c.of-after.result.len c.change.new.self.weight c.change.new.self.len c.of-before.ensures.weight c.of-before.ensures.len c.of-after.ensures.weight c.of-after.ensures.len c.change.ensures.weight c.change.ensures.len
 
-pub invariant_of-self-2 : goal.invariant_of-self-2
-invariant_of-self-2 g c =
-    let i = c.self.inside in
-    let lt : c.args.key % g.row.N < g.row.N = omega (arith, c.self.invariant.some) in
-    let edit = edits_update _ _ c.index_mut-unit.result.now c.args.key c.update_or_admit-answer.result c.update_or_admit-answer.new.self c.update_or_admit-answer.ensures in
-    kept_by g.row.N i.units.items i.totals.weight i.totals.len c.self.invariant (c.args.key % g.row.N) lt c.index_mut-unit.result.now c.index_mut-unit.ensures.value c.args.key refl c.update_or_admit-answer.new.self c.of-after.ensures.valid edit c.of-before.result.weight c.of-before.result.len c.of-after.result.weight c.of-after.result.len c.change.new.self.weight c.change.new.self.len c.of-before.ensures.weight c.of-before.ensures.len c.of-after.ensures.weight c.of-after.ensures.len c.change.ensures.weight c.change.ensures.len
-
 pub returns : goal.returns
 returns g c =
     let i = c.self.inside in

@@ -14,8 +14,8 @@ invariant_of-self g c =
     (c.args.told.told c.in-Some.seen c.in-Some.is) c.args.self.now.told c.if-of-shard.true c.learn.ensures.both in
     record { told = one ∙ ap (λ m. (of_fronts m.0.fronts, [])) (sym one) }
 
-pub returns-in-Some : goal.returns-in-Some
-returns-in-Some g c =
+pub returns-in-Some-clause-learned : goal.returns-in-Some-clause-learned
+returns-in-Some-clause-learned g c =
     let xs = shown c.in-Some.seen.me.0 in
     let fs = c.args.self.now.voice.token.me.0.fronts in
     let of_told = c.args.told.told c.in-Some.seen c.in-Some.is in

@@ -3,7 +3,8 @@ use Rattle.lru_folder.specs.Files.{Files, Same}
 use Rattle.lru_folder.specs.Folder.{Passes}
 use Rattle.lru_memory_folder.specs.Calls.{SyncsNames}
 use Rattle.lru_memory_folder.specs.MadeInside.{texts_of}
-use Rattle.lru_memory_folder.specs.Memory.{Memory, files_of, memory_meaning}
+use Rattle.lru_memory_folder.specs.Memory.{Memory, files_of}
+use Rattle.lru_memory_folder.specs.MemoryLaws.{memory_meaning}
 use Rattle.lru_memory_folder.specs.OpenInside.{opened_in}
 use Rattle.lru_memory_folder.specs.Plans.{nothing}
 use Rattle.lru_memory_folder.proofs.MemoryLemmas.{passes, planned}

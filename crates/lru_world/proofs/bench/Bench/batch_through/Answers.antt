@@ -1,5 +1,5 @@
 use Rattle.std.proofs.Common.{ap, ◌%◌, ◌^◌, ◌∙◌, length, arith}
-use Rattle.lru_inbox.proofs.Steps.{steps_all}
+use Rattle.lru_world.proofs.Stepping.{steps_from}
 use Rattle.lru_world.proofs.Evicted.{as_many, all_taken, length-flags}
 use Rattle.std.proofs.lemmas.List.{length-map}
 use Rattle.lru_world.specs.Batch.{is_evict}
@@ -30,5 +30,9 @@ returns-clause-effects g c =
     let many = as_many g.K.Clone.is_clone g.D.Dispatch.Puts g.D.Dispatch.IsSame g.D.Dispatch.queue g.D.Dispatch.MayRefuse c.args.self.now.batch.items c.process_batch.new.effects.items _ _ _ _ _ _ c.process_batch.ensures.processed in
     omega (arith, many, length-flags c.args.self.now.asked.items, length-map c.args.self.now.batch.items is_evict, ap length c.requires.asked, c.process_batch.new.effects.ok.0, c.args.self.now.asked.ok.0)
 
+pub returns-clause-from : goal.returns-clause-from
+returns-clause-from g c = steps_from g.K.Clone.is_clone g.D.Dispatch.Puts g.D.Dispatch.IsSame g.D.Dispatch.queue g.D.Dispatch.MayRefuse c.args.self.now.batch.items c.process_batch.new.effects.items _ _ _ _ _ _ c.process_batch.ensures.processed
+
 pub returns-clause-steps : goal.returns-clause-steps
-returns-clause-steps g c = steps_all g.K.Clone.is_clone g.D.Dispatch.Puts g.D.Dispatch.IsSame g.D.Dispatch.queue g.D.Dispatch.MayRefuse c.args.self.now.batch.items c.process_batch.new.effects.items _ _ _ _ _ _ c.process_batch.ensures.processed
+returns-clause-steps g c =
+    (_, _, steps_from g.K.Clone.is_clone g.D.Dispatch.Puts g.D.Dispatch.IsSame g.D.Dispatch.queue g.D.Dispatch.MayRefuse c.args.self.now.batch.items c.process_batch.new.effects.items _ _ _ _ _ _ c.process_batch.ensures.processed)

@@ -1,0 +1,10 @@
+//! Orders served by actors whose whole history is accounted for: once one is closed, each shard's log, the rows that were left, and
+//! the slips of those that were evicted agree.
+#![tactic(auto)]
+
+mod accounted_lru;
+mod build;
+mod ending;
+
+pub use accounted_lru::{Account, AccountedLru};
+pub use build::build_accounted;

@@ -1,0 +1,26 @@
+use Rattle.std.proofs.Common.{[], ◌∷◌, ◌++◌, sym, ap, ◌∙◌, subst}
+use Rattle.std.proofs.Math.Logic.{∥∥₁_map}
+use Rattle.lru_schedules.specs.Turns.{weight_in}
+use Rattle.lru_logs.specs.Logs.{of_fronts, joined, Shows}
+use Rattle.lru_inbox.specs.Inboxes.{shown}
+use Rattle.lru_logged_shard.proofs.Meeting.{seen_with}
+use Rattle.lru_logged_shard.proofs.logged_shard.LoggedShard.look.Goals as goal
+
+pub returns-clause-told : goal.returns-clause-told
+returns-clause-told g c =
+    let xs = shown c.args.self.now.seen.me.0 in
+    let old = c.args.caller.now.voice.token.me.0.fronts in
+    let one = ap (λ m. m.0.fronts) c.args.self.now.told in
+    let b = seen_with c.args.self.now.shard xs old c.args.self.now.seen.me.0.fronts one (subst (λ m. Shows (joined m.0 (of_fronts c.args.self.now.seen.me.0.fronts))) c.args.caller.now.told c.note.ensures.shows) in (
+      xs,
+      b.0,
+      ap (λ m. m.0.fronts) c.note.ensures.both ∙ ap (λ fs. old ++ fs) one,
+      b.1,
+      b.2,
+      ∥∥₁_map c.args.self.now.kept (λ k. record {
+        state = _;
+        look = _;
+        left = k.left;
+        weighs = c.weight_of.ensures ∙ k.left.map_is c.args.hash ∙ ap (λ s. weight_in s.shard.rows c.args.hash) (sym k.left.state);
+      }),
+    )

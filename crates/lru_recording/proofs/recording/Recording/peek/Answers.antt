@@ -1,0 +1,17 @@
+use Rattle.std.proofs.Common.{◌≡◌, ◌∙◌, max, refl, ap, sym, subst}
+use Rattle.std.specs.Prelude.{Some}
+use Rattle.lru_shard.specs.Shard.{Shard}
+use Rattle.lru_journal.specs.declared.entry.Call.TheVariants.{Peek}
+use Rattle.lru_journal.specs.declared.entry.Reply.TheVariants.{Flag}
+use Rattle.lru_recording.proofs.Calls.{stands_peek}
+use Rattle.lru_recording.proofs.Noted.{keeps}
+use Rattle.lru_recording.proofs.recording.Recording.peek.Goals as goal
+
+pub invariant_of-self-2 : goal.invariant_of-self-2
+invariant_of-self-2 g c =
+    let old = c.args.self.now in
+    let new = old.unit in
+    let kept = keeps g.row.N old.journal.number c.note.new.self.number _ _ old.unit new old.journal.history.items c.reserve.new.self.history.items c.note.new.self.history.items (Peek c.args.key) _ (Some (Flag c.holds-answer.result)) old.below old.capped old.ends old.right old.homes
+    (c.requires.home) (refl) (stands_peek old.unit c.args.key c.holds-answer.result c.holds-answer.ensures)
+    (refl) c.reserve.ensures.history.1 c.note.ensures.history.1 (c.note.ensures.history.0 ∙ c.reserve.ensures.history.0) in
+    record { below = kept.below; capped = kept.capped; ends = kept.told.ends; right = kept.told.right; homes = kept.told.homes }

@@ -1,0 +1,17 @@
+use Rattle.std.proofs.Common.{◌≡◌, ◌∙◌, max, refl, ap, sym, subst}
+use Rattle.std.specs.Prelude.{Some}
+use Rattle.lru_shard.specs.Shard.{Shard}
+use Rattle.lru_journal.specs.declared.entry.Call.TheVariants.{PeekLru}
+use Rattle.lru_recording.specs.Replies.{paired}
+use Rattle.lru_recording.proofs.Calls.{stands_last}
+use Rattle.lru_recording.proofs.Noted.{keeps}
+use Rattle.lru_recording.proofs.recording.Recording.peek_lru.Goals as goal
+
+pub invariant_of-self-2 : goal.invariant_of-self-2
+invariant_of-self-2 g c =
+    let old = c.args.self.now in
+    let new = old.unit in
+    let kept = keeps g.row.N old.journal.number c.note.new.self.number _ _ old.unit new old.journal.history.items c.reserve.new.self.history.items c.note.new.self.history.items PeekLru _ (Some c.paired.result) old.below old.capped old.ends old.right old.homes
+    refl (refl) (stands_last old.unit c.in_ok-answer.answer c.in_ok-answer.ensures)
+    (ap Some c.paired.ensures) c.reserve.ensures.history.1 c.note.ensures.history.1 (c.note.ensures.history.0 ∙ c.reserve.ensures.history.0) in
+    record { below = kept.below; capped = kept.capped; ends = kept.told.ends; right = kept.told.right; homes = kept.told.homes }
