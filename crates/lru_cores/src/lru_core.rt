@@ -61,7 +61,7 @@ impl<T, const N: usize> Model for LruCore<T, N> {
     ghost invariant = { λ c. AreUnits N c.units.items c.totals.weight c.totals.len };
 }
 
-// The first unit that holds a row, from this one on and round the circle.
+// The first shard that holds a row, from this one on and round the circle.
 fn first_held<T>(units: &Vec<LruUnit<T>>, from: usize) -> Option<usize>
     requires { from < vec_len units.now }
     ensures held { IfSome result (λ at. IsVictim (lists_of units.now.items) from at) }
@@ -77,7 +77,7 @@ fn first_held<T>(units: &Vec<LruUnit<T>>, from: usize) -> Option<usize>
     None
 }
 
-// The first unit that holds a row, behind this one and round the circle.
+// The first shard that holds a row, behind this one and round the circle.
 fn next_held<T>(units: &Vec<LruUnit<T>>, from: usize) -> Option<usize>
     requires { from < vec_len units.now }
     ensures held { IfSome result (λ at. IsNext (lists_of units.now.items) from at) }
@@ -93,7 +93,7 @@ fn next_held<T>(units: &Vec<LruUnit<T>>, from: usize) -> Option<usize>
     None
 }
 
-// Empty units, each with room for `capacity` rows.
+// Empty shards, each with room for `capacity` rows.
 fn empty_units<T: Drop>(
     alloc: Global,
     count: usize,

@@ -356,7 +356,7 @@ impl<T, const N: usize> Lru<T, N> {
         unreachable!()
     }
 
-    // Brings the counters after a call on a shard's unit, while its lock is held.
+    // Brings the counters after a call on a shard, while its lock is held.
     fn note(&self, shard: usize, before: Totals, after: Totals)
         requires { shard < N }
     {
