@@ -6,7 +6,7 @@ ghost use Rattle.lru_cores.specs.Sparing.{IsNext, IsLast, GivesUp, HasPut};
 ghost use Rattle.lru_cores.specs.Representation.Units.{lists_of};
 
 pub use lru_rules::eviction::EvictError;
-use lru_rules::eviction::{drawn_shards, is_past, longer_of, place_after};
+use lru_rules::eviction::{drawn_shards, is_past, longer_of, shard_after};
 use lru_rules::totals::Totals;
 use lru_shard::unit::{Cause, LruUnit, LruUnitIter, Refused};
 use rand_core::Rng;
@@ -69,7 +69,7 @@ fn first_held<T>(units: &Vec<LruUnit<T>>, from: usize) -> Option<usize>
     ensures none { IfNone result ((k : ℕ) → k < length (lists_of units.now.items) → slice_index_or (lists_of units.now.items) ((from + k) % length (lists_of units.now.items)) [] ≡ []) }
 {
     for steps in 0..units.len() {
-        let at = place_after(from, steps, units.len());
+        let at = shard_after(from, steps, units.len());
         if units[at].len() > 0 {
             return Some(at);
         }
@@ -85,7 +85,7 @@ fn next_held<T>(units: &Vec<LruUnit<T>>, from: usize) -> Option<usize>
     ensures none { IfNone result (IsLast (lists_of units.now.items) from) }
 {
     for steps in 1..units.len() {
-        let at = place_after(from, steps, units.len());
+        let at = shard_after(from, steps, units.len());
         if units[at].len() > 0 {
             return Some(at);
         }
