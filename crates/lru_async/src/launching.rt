@@ -59,6 +59,19 @@ fn seats_apart<B: Registry>(
     (Vec::new(alloc), seats)
 }
 
+// The actor of one of N shards.
+fn actor_of_one<K: Clone + Drop, const N: usize, B: Registry + Archive>(
+    alloc: Global,
+    taker: Taker<K, B>,
+    capacity: usize,
+    seat: Option<PutSeat<B>>,
+) -> Result<Actor<K, B>, AllocError>
+    requires { 0 < N }
+    ensures { IfOk result (λ actor. actor.shards ≡ N) }
+{
+    Actor::new(alloc, taker, N, capacity, seat)
+}
+
 // Starts the threads of a builder. Its type parameters stand in the order of the builder's.
 pub(crate) fn launch<
     K: Hash + Eq + Clone + Drop + Send + Sync + 'static,
@@ -187,7 +200,7 @@ impl<
         ensures others { vec_len self.new.callback_workers ≡ vec_len self.old.callback_workers }
     {
         self.actors.reserve(1)?;
-        let actor = self.actor_of_one(taker, capacity, seat)?;
+        let actor = actor_of_one::<K, N, B>(self.alloc, taker, capacity, seat)?;
         let gate = match gate {
             Some(gate) => Some(Arc::try_clone(gate)?),
             None => None,
@@ -252,18 +265,6 @@ impl<
 }
 
 impl<K: Clone + Drop, const N: usize, B: Registry + Archive> AsyncLru<K, N, B> {
-    // The actor of one of the shards.
-    fn actor_of_one(
-        &self,
-        taker: Taker<K, B>,
-        capacity: usize,
-        seat: Option<PutSeat<B>>,
-    ) -> Result<Actor<K, B>, AllocError>
-        ensures { IfOk result (λ actor. actor.shards ≡ N) }
-    {
-        Actor::new(self.alloc, taker, N, capacity, seat)
-    }
-
     // With a receiver of its evicted pairs.
     pub(crate) fn with_receiver(
         self,
