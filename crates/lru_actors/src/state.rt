@@ -238,7 +238,7 @@ impl<K: Clone + Drop> ShardState<K> {
     }
 
     /// Serves a message: the rows, and what the effect tells, are as the table of messages says. A message that
-    /// a unit would refuse, for Length, Weight or Memory, changes the count of refused messages alone.
+    /// a shard would refuse, for Length, Weight or Memory, changes the count of refused messages alone.
     pub fn step(&mut self, msg: LruMsg<K>) -> Effect<K>
         ensures { Steps K.is_clone self.old msg result self.new }
     {

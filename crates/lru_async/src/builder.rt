@@ -39,6 +39,16 @@ pub struct Settings {
     pub seed: u64,
 }
 
+// Refuses settings without callback workers.
+fn want_callback_workers(settings: &Settings) -> Result<(), BuildError>
+    ensures { settings.now.num_callback_workers ≡ 0 → result ≡ Err NoCallbackWorkers }
+{
+    if settings.num_callback_workers == 0 {
+        return Err(BuildError::NoCallbackWorkers);
+    }
+    Ok(())
+}
+
 /// Makes an [`AsyncLru`]. Each setter answers the builder with one setting changed.
 #[derive(Drop)]
 pub struct AsyncLruBuilder<K, C, const N: usize, G = NoGate> {
@@ -162,9 +172,7 @@ impl<
         ensures refused { self.settings.num_callback_workers ≡ 0 → result ≡ Err NoCallbackWorkers }
         ensures limits { IfOk result (λ lru. limits_of lru ≡ limits_told self.settings) }
     {
-        if self.settings.num_callback_workers == 0 {
-            return Err(BuildError::NoCallbackWorkers);
-        }
+        want_callback_workers(&self.settings)?;
         let alloc = self.alloc;
         let puts: Vec<PutSeat<Brand>> = Vec::new(alloc);
         let takes: Vec<TakeSeat<Brand>> = Vec::new(alloc);
@@ -203,10 +211,7 @@ impl<
         ensures refused { self.settings.num_callback_workers ≡ 0 → result ≡ Err NoCallbackWorkers }
         ensures limits { IfOk result (λ lru. limits_of lru ≡ limits_told self.settings) }
     {
-        let callers = self.settings.num_callback_workers;
-        if callers == 0 {
-            return Err(BuildError::NoCallbackWorkers);
-        }
+        want_callback_workers(&self.settings)?;
         let alloc = self.alloc;
         let Blank { tie, token } = blank;
         let Ok(tie) = Arc::new(alloc, tie) else {

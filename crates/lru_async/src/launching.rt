@@ -8,7 +8,7 @@ ghost use Rattle.std.specs.Arc.{arc_value};
 ghost use Rattle.lru_async.specs.Orders.{limits_of, limits_told, HasWorkers};
 
 use crate::async_lru::AsyncLru;
-use crate::builder::AsyncLruBuilder;
+use crate::builder::{AsyncLruBuilder, Settings};
 use crate::receiver::EvictionReceiver;
 use crate::threads::{Placed, start_actor, start_callback_worker, start_eviction_worker};
 use lru_actors::message::LruMsg;
@@ -22,7 +22,7 @@ use lru_world::actor::Actor;
 use lru_world::callback::{AsyncEvictionCallback, Gate};
 use lru_world::outlet::Outlet;
 use lru_world::world::{Limits, World, next_taker};
-use std::alloc::Global;
+use std::alloc::{AllocError, Global};
 use std::hash::Hash;
 use std::sync::{Arc, Wait};
 use std::thread::Threads;
@@ -32,6 +32,16 @@ fn seed_of(seed: u64, number: usize) -> u64
     ensures { result ≡ (seed + number) % 2 ^ 64 }
 {
     seed.wrapping_add(number as u64)
+}
+
+// The limits that a builder was told.
+fn limits_told(settings: &Settings) -> Limits
+    ensures { result ≡ limits_told settings.now }
+{
+    Limits {
+        weight_limit: settings.weight_limit,
+        len_watermark: settings.len_watermark,
+    }
 }
 
 // The seats of those who put, for the rows of the shards, and for their actors: where there are logs the rows have them.
@@ -47,6 +57,19 @@ fn seats_apart<B: Registry>(
         return (seats, Vec::new(alloc));
     }
     (Vec::new(alloc), seats)
+}
+
+// The actor of one of N shards.
+fn actor_of_one<K: Clone + Drop, const N: usize, B: Registry + Archive>(
+    alloc: Global,
+    taker: Taker<K, B>,
+    capacity: usize,
+    seat: Option<PutSeat<B>>,
+) -> Result<Actor<K, B>, AllocError>
+    requires { 0 < N }
+    ensures { IfOk result (λ actor. actor.shards ≡ N) }
+{
+    Actor::new(alloc, taker, N, capacity, seat)
 }
 
 // Starts the threads of a builder. Its type parameters stand in the order of the builder's.
@@ -75,10 +98,6 @@ pub(crate) fn launch<
     ensures workers { IfOk result (λ lru. HasWorkers lru builder.settings) }
 {
     let settings = builder.settings;
-    let limits = Limits {
-        weight_limit: settings.weight_limit,
-        len_watermark: settings.len_watermark,
-    };
     let mut logs = logs;
     let (row_seats, puts) = seats_apart(alloc, logs.is_some(), puts);
     let world = World::new(
@@ -87,7 +106,7 @@ pub(crate) fn launch<
         row_seats,
         N,
         settings.capacity,
-        limits,
+        limits_told(&settings),
         outlet,
     )?;
     let Ok(world) = Arc::new(alloc, world) else {
@@ -181,7 +200,7 @@ impl<
         ensures others { vec_len self.new.callback_workers ≡ vec_len self.old.callback_workers }
     {
         self.actors.reserve(1)?;
-        let actor = Actor::new(self.alloc, taker, N, capacity, seat)?;
+        let actor = actor_of_one::<K, N, B>(self.alloc, taker, capacity, seat)?;
         let gate = match gate {
             Some(gate) => Some(Arc::try_clone(gate)?),
             None => None,

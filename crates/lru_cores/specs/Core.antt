@@ -1,4 +1,4 @@
--- A core: N lists of rows, its limits, and what it has evicted.
+-- A core: N shards, each a list of rows, its limits, and what it has evicted.
 use Rattle.std.specs.Prelude.{◌≡◌, ℕ, ◌%◌, List, [], length, slice_index_or, slice_set, sum_by, All, ◌<◌, Option, refl}
 use Rattle.std.specs.Coded.{Coded, code_by, coded×, coded_ℕ, coded_list, coded_option}
 use Rattle.lru_shard.specs.Row.{Row, row_code, weight_of, times}

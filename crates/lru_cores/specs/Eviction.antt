@@ -16,7 +16,7 @@ module _ {T : Type 0} where
   abbrev pub start : Core T → ℕ → ℕ → ℕ
   start c a b = longer_of a b (length (list_at c a)) (length (list_at c b))
 
-  -- the first list that isn't empty, from this one on and round the circle: fewer places on than there are lists
+  -- the first shard that isn't empty, from this one on and round the circle: fewer steps on than there are shards
   pub record IsVictim (lists : List (List (Row T))) (from victim : ℕ) : Type 0 where
     pub steps : ℕ
     pub near : steps < length lists
@@ -24,7 +24,7 @@ module _ {T : Type 0} where
     pub held : 0 < length (slice_index_or lists victim [])
     pub empty_before : (j : ℕ) → j < steps → slice_index_or lists ((from + j) % length lists) [] ≡ []
 
-  -- the core after the last row of a list, this one, was evicted
+  -- the core after the last row of a shard, this one, was evicted
   abbrev pub evicted : Core T → ℕ → Row T → Core T
   evicted c s r = record {
     lists = (with_list c s (without_last (list_at c s))).lists;
@@ -34,7 +34,7 @@ module _ {T : Type 0} where
     evicted_len = (c.evicted_len + 1) % 2 ^ 64;
   }
 
-  -- `evict_shard`: the last row of a list leaves, if there is one, whatever the limits are
+  -- `evict_shard`: the last row of a shard leaves, if there is one, whatever the limits are
   abbrev pub EvictsFrom : Core T → ℕ → Option (T × ℕ) → Core T → Type 0
   EvictsFrom old s answer new =
       MatchOption (last_row (list_at old s)) ((answer ≡ None) × (new ≡ old)) (λ r. (answer ≡ Some (pair_of r)) × (new ≡ evicted old s r))

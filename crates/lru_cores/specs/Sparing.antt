@@ -8,11 +8,11 @@ use Rattle.lru_cores.specs.CoreCalls.{CoreAdmits}
 use Rattle.lru_cores.specs.Eviction.{is_over, IsVictim, evicted}
 
 module _ {T : Type 0} where
-  -- the lists without the row of a key
+  -- the shards' rows without that of a key
   abbrev pub besides : List (List (Row T)) → ℕ → List (List (Row T))
   besides lists k = map (λ rows. without rows k) lists
 
-  -- whose last row leaves where a key is spared: that of the first list, from the key's own on and round the circle, that has a row
+  -- whose last row leaves where a key is spared: that of the first shard, from the key's own on and round the circle, that has a row
   -- besides the key's; where none has, that of the key's own
   abbrev pub GivesUp : Core T → ℕ → ℕ → Type 0
   GivesUp c k victim =
@@ -47,7 +47,7 @@ module _ {T : Type 0} where
       (mid : Core T) × (CoreAdmits old k d w (Ok s) mid × SparesToLimit Step visit mid k new)
   CoreAdmitsAndEvicts Step visit old k d w (Err r) new = CoreAdmits old k d w (Err r) new
 
-  -- a row stands first in the list of its key, unless no row is left at all
+  -- a row stands first in the shard of its key, unless no row is left at all
   abbrev pub StandsFirst : Core T → Row T → Type 0
   StandsFirst c r = 0 < core_len c → slice_get (list_at c (home c r.key)) 0 ≡ Some r
 
@@ -57,7 +57,7 @@ module _ {T : Type 0} where
     pub own : row.key ≡ k
     pub first : StandsFirst c row
 
-  -- the first list that is not empty behind this one, round the circle
+  -- the first shard that is not empty behind this one, round the circle
   pub record IsNext (lists : List (List (Row T))) (from next : ℕ) : Type 0 where
     pub steps : ℕ
     pub some : 0 < steps
@@ -66,6 +66,6 @@ module _ {T : Type 0} where
     pub held : 0 < length (slice_index_or lists next [])
     pub empty_between : (j : ℕ) → 0 < j → j < steps → slice_index_or lists ((from + j) % length lists) [] ≡ []
 
-  -- there is none: each list but this one is empty
+  -- there is none: each shard but this one is empty
   abbrev pub IsLast : List (List (Row T)) → ℕ → Type 0
   IsLast lists from = (j : ℕ) → 0 < j → j < length lists → slice_index_or lists ((from + j) % length lists) [] ≡ []

@@ -6,7 +6,7 @@ ghost use Rattle.lru_cores.specs.Sparing.{IsNext, IsLast, GivesUp, HasPut};
 ghost use Rattle.lru_cores.specs.Representation.Units.{lists_of};
 
 pub use lru_rules::eviction::EvictError;
-use lru_rules::eviction::{drawn_shards, is_past, longer_of, place_after};
+use lru_rules::eviction::{drawn_shards, is_past, longer_of, shard_after};
 use lru_rules::totals::Totals;
 use lru_shard::unit::{Cause, LruUnit, LruUnitIter, Refused};
 use rand_core::Rng;
@@ -61,7 +61,7 @@ impl<T, const N: usize> Model for LruCore<T, N> {
     ghost invariant = { λ c. AreUnits N c.units.items c.totals.weight c.totals.len };
 }
 
-// The first unit that holds a row, from this one on and round the circle.
+// The first shard that holds a row, from this one on and round the circle.
 fn first_held<T>(units: &Vec<LruUnit<T>>, from: usize) -> Option<usize>
     requires { from < vec_len units.now }
     ensures held { IfSome result (λ at. IsVictim (lists_of units.now.items) from at) }
@@ -69,7 +69,7 @@ fn first_held<T>(units: &Vec<LruUnit<T>>, from: usize) -> Option<usize>
     ensures none { IfNone result ((k : ℕ) → k < length (lists_of units.now.items) → slice_index_or (lists_of units.now.items) ((from + k) % length (lists_of units.now.items)) [] ≡ []) }
 {
     for steps in 0..units.len() {
-        let at = place_after(from, steps, units.len());
+        let at = shard_after(from, steps, units.len());
         if units[at].len() > 0 {
             return Some(at);
         }
@@ -77,7 +77,7 @@ fn first_held<T>(units: &Vec<LruUnit<T>>, from: usize) -> Option<usize>
     None
 }
 
-// The first unit that holds a row, behind this one and round the circle.
+// The first shard that holds a row, behind this one and round the circle.
 fn next_held<T>(units: &Vec<LruUnit<T>>, from: usize) -> Option<usize>
     requires { from < vec_len units.now }
     ensures held { IfSome result (λ at. IsNext (lists_of units.now.items) from at) }
@@ -85,7 +85,7 @@ fn next_held<T>(units: &Vec<LruUnit<T>>, from: usize) -> Option<usize>
     ensures none { IfNone result (IsLast (lists_of units.now.items) from) }
 {
     for steps in 1..units.len() {
-        let at = place_after(from, steps, units.len());
+        let at = shard_after(from, steps, units.len());
         if units[at].len() > 0 {
             return Some(at);
         }
@@ -93,7 +93,7 @@ fn next_held<T>(units: &Vec<LruUnit<T>>, from: usize) -> Option<usize>
     None
 }
 
-// Empty units, each with room for `capacity` rows.
+// Empty shards, each with room for `capacity` rows.
 fn empty_units<T: Drop>(
     alloc: Global,
     count: usize,

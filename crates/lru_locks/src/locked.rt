@@ -9,7 +9,7 @@ use lru_rules::totals::Totals;
 use lru_shard::unit::{Cause, LruUnit, Refused};
 use std::alloc::{AllocError, Global};
 
-// What lies behind a shard's lock. Its calls are all that is done under the lock, on the unit that it lends.
+// What lies behind a shard's lock. Its calls are all that is done under the lock, on the shard that it lends.
 #[derive(Drop)]
 pub(crate) struct Locked<T, const N: usize> {
     // which shard it is; it lies beside the lock's own word

@@ -9,7 +9,7 @@ use crate::shed::Room;
 use crossbeam_utils::CachePadded;
 use lru_batches::Admission;
 use lru_rules::counters::{growth, shift};
-use lru_rules::eviction::{EvictError, Readings, drawn_shards, longer_of, place_after};
+use lru_rules::eviction::{EvictError, Readings, drawn_shards, longer_of, shard_after};
 use lru_rules::totals::{Totals, Units};
 use lru_shard::unit::{Cause, LruUnit, Refused};
 use lru_short_locks::ShortLock;
@@ -356,7 +356,7 @@ impl<T, const N: usize> Lru<T, N> {
         unreachable!()
     }
 
-    // Brings the counters after a call on a shard's unit, while its lock is held.
+    // Brings the counters after a call on a shard, while its lock is held.
     fn note(&self, shard: usize, before: Totals, after: Totals)
         requires { shard < N }
     {
@@ -587,7 +587,7 @@ impl<T: Drop, const N: usize> Lru<T, N> {
         ensures { IfSome result (λ pair. pair.1 ≤ cap_of N) }
     {
         for steps in 0..N {
-            let shard = place_after(own, steps, N);
+            let shard = shard_after(own, steps, N);
             if let Some(pair) = self.evict_besides(rt, shard, key) {
                 return Some(pair);
             }
@@ -708,7 +708,7 @@ impl<T: Drop, const N: usize> Lru<T, N> {
         ensures { IfSome result (λ pair. pair.1 ≤ cap_of N) }
     {
         for steps in 1..N {
-            let shard = place_after(from, steps, N);
+            let shard = shard_after(from, steps, N);
             if let Some(pair) = self.evict_from(rt, shard) {
                 return Some(pair);
             }

@@ -33,7 +33,7 @@ pub struct Kept<T, const N: usize> {
     pub ghost own: { IsOwn N number unit },
 }
 
-/// The units and the histories of the first shards, in their order.
+/// The first shards and their histories, in their order.
 #[derive(Drop)]
 pub struct Gathered<T, const N: usize> {
     /// The shards.

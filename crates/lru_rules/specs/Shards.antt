@@ -15,6 +15,6 @@ module _ {T : Type 0} where
     pub cap : u.cap ≡ cap_of n
     pub light : weight_of u.rows ≤ cap_of n
 
-  -- each of these shards, by its place
+  -- each of these shards, by its number
   abbrev pub AreOwn : ℕ → List (Shard T) → Type 0
   AreOwn n us = (s : ℕ) (u : Shard T) → slice_get us s ≡ Some u → IsOwn n s u

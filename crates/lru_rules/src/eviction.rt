@@ -64,9 +64,9 @@ impl Readings {
     }
 }
 
-/// The place that lies so many steps on, in a circle of `count` places.
+/// The shard that lies so many steps on, in a circle of `count` shards.
 #[inline(always)]
-pub fn place_after(from: usize, steps: usize, count: usize) -> usize
+pub fn shard_after(from: usize, steps: usize, count: usize) -> usize
     requires from { from < count }
     requires steps { steps < count }
     ensures place { result ≡ (from + steps) % count }

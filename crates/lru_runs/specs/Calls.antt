@@ -1,5 +1,5 @@
 -- Calls of a core with their replies, and whole runs, over the stream of random words that evictions draw from: each call is
--- the shard's call on the key's own list, an eviction, or a look.
+-- the shard's call on the key's own shard, an eviction, or a look.
 use Rattle.std.specs.Prelude.{◌≡◌, ℕ, ◌+◌, ◌<◌, length, min, List, [], ◌∷◌, option_map, Ok, Err}
 use Rattle.lru_runs.specs.declared.calls.Call.{Call}
 use Rattle.lru_runs.specs.declared.calls.Call.TheVariants.{Admit, InsertTail, IncrementWeight, UpdateOrAdmit, SetWeight, Promote, PromoteTopN, Remove, EvictShard, EvictStep, EvictToLimit, SetWeightLimit, Peek, PeekWeight, PeekLru, Totals}

@@ -12,7 +12,7 @@ module _ {T : Type 0} where
   abbrev pub rows_in : List (Placed ℕ T) → List (Row T)
   rows_in ps = map row_in ps
 
-  -- what a unit keeps
+  -- what a shard keeps
   pub record IsKept (rows : Recency ℕ T) (used cap : ℕ) : Type 0 where
     pub valid : IsShard (shard (rows_in rows.rows) cap)
     pub used_is : used ≡ weight_of (rows_in rows.rows)

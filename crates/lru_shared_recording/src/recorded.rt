@@ -22,7 +22,7 @@ use lru_journal::tie::{Tie, Token};
 use lru_recording::gathered::{Gathered, Room};
 use lru_recording::recording::Recording;
 use lru_rules::counters::shift;
-use lru_rules::eviction::{EvictError, Readings, drawn_shards, longer_of, place_after};
+use lru_rules::eviction::{EvictError, Readings, drawn_shards, longer_of, shard_after};
 use lru_rules::totals::{Totals, Units};
 use lru_shard::unit::{Cause, LruUnit, Refused};
 use rand_core::Rng;
@@ -450,7 +450,7 @@ impl<T: Drop, B: Registry, const N: usize> RecordedLru<T, B, N> {
         ensures seat { seat.new.number ≡ seat.old.number }
     {
         for steps in 0..N {
-            let shard = place_after(from, steps, N);
+            let shard = shard_after(from, steps, N);
             let pair = self.evict_from(rt, seat, shard, Call::EvictToLimit)?;
             if pair.is_some() {
                 return Ok(pair);

@@ -141,7 +141,7 @@ fn number_in(call: Call) -> Option<u64> {
     }
 }
 
-// Whether each call is of this shard and has the plain list's reply, and the list at the end is the unit's.
+// Whether each call is of this shard and has the plain list's reply, and the list at the end is the shard's.
 fn is_legal<const N: usize>(
     alloc: Global,
     shard: usize,
@@ -200,7 +200,7 @@ fn is_tied<B: Registry>(histories: &[Vec<Entry>], seats: &[Seat<B>]) -> bool {
     left == 0
 }
 
-/// Whether all histories are legal, with the units at their ends, and the receipts are their entries, each once.
+/// Whether all histories are legal, with the shards at their ends, and the receipts are their entries, each once.
 pub fn is_right<B: Registry, const N: usize>(
     alloc: Global,
     recorded: &Recorded<u64, B, N>,

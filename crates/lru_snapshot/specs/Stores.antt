@@ -55,7 +55,7 @@ AreSaved n result = IsOkAnd result (λ report. report.saved_shards ≡ n)
 abbrev pub AreLoaded : ℕ → LoadResult → Type 0
 AreLoaded n result = IsOkAnd result (λ report. report.loaded_shards ≡ n)
 
--- A core without rows that loads all shards from files that tell another's rows has its lists.
+-- A core without rows that loads all shards from files that tell another's rows has those rows.
 abbrev pub Restores : Files → List ℕ → List ℕ → ℕ → Core Keyed → LoadResult → Core Keyed → Type 0
 Restores files dir file n old result new = (saved : Core Keyed) → TellCore files dir file n saved → HasNoRows old
     → AreLoaded n result → (s : ℕ) → s < n → list_at new s ≡ list_at saved s

@@ -1,7 +1,6 @@
 // N shards of one owner.
 
 use pingora_lru::lru_core::LruCore;
-use pingora_lru::unit::Cause;
 use rand_core::Rng;
 use std::alloc::Global;
 
@@ -17,22 +16,4 @@ pub fn over_budget<R: Rng>(
         core.admit(*id, *id, *bytes).ok()?;
     }
     core.evict_to_limit(alloc, rng).ok()
-}
-
-/// Tells the core that an object has another size now; its place in the order stays.
-pub fn resize(core: &mut LruCore<u64, 16>, key: u64, bytes: usize) -> Result<bool, Cause> {
-    match core.set_weight(key, bytes) {
-        Ok(was) => Ok(was.is_some()),
-        Err(cause) => Err(cause),
-    }
-}
-
-/// What a key weighs, with its place as it was.
-pub fn look(core: &LruCore<u64, 16>, key: u64) -> usize {
-    core.peek_weight(key).unwrap_or(0)
-}
-
-/// A key was used: it moves only where it is not among the first 8 of its shard.
-pub fn used(core: &mut LruCore<u64, 16>, key: u64) -> bool {
-    core.promote_top_n(key, 8)
 }

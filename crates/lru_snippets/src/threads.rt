@@ -1,7 +1,6 @@
 // N shards for many threads.
 
 use pingora_lru::Lru;
-use pingora_lru::batch::Admission;
 use pingora_lru::recorded::{RecordedLru, Registry, Seat};
 use pingora_lru_async::async_lru::{AsyncLru, SendRefused};
 use rand_core::Rng;
@@ -24,11 +23,6 @@ pub fn make_room<R: Rng>(
         Ok(pairs) => pairs,
         Err(stopped) => stopped.evicted, // no memory for more of them
     }
-}
-
-/// Admits a batch; each answer stands in its place.
-pub fn serve_batch(rt: &impl Wait, lru: &Lru<u64, 16>, batch: &mut Vec<Admission<u64>>) {
-    lru.admit_many(rt, batch);
 }
 
 /// As `serve`, with a receipt for each call in the thread's own seat.

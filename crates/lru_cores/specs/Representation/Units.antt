@@ -1,4 +1,4 @@
--- What a core keeps of its units.
+-- What a core keeps of its shards.
 use Rattle.std.specs.Prelude.{◌≡◌, ℕ, ◌<◌, ◌%◌, List, [], slice_index_or, length, map, All, sum_by}
 use Rattle.lru_shard.specs.Row.{Row, weight_of, times}
 use Rattle.lru_shard.specs.Shard.{Shard, IsShard}

@@ -81,7 +81,7 @@ pub fn load_core<F: Folder, L: Log, const N: usize>(
     ensures loads { LoadsCore F.meaning
         dir_path.now file_name.now N core.old folder.old result core.new folder.new }
 
-    // A core without rows that loads all shards from files that tell another's rows has its lists. Where the files hold
+    // A core without rows that loads all shards from files that tell another's rows has those rows. Where the files hold
     // another core and the device did not fail, it does load all, or the result tells that memory was refused.
     ensures restores { F.meaning.keeps folder.old → Restores (F.meaning.files folder.old) dir_path.now file_name.now N core.old result core.new }
     ensures all { F.meaning.keeps folder.old → F.meaning.faults folder.new ≡ F.meaning.faults folder.old → LoadsAllHeld (F.meaning.files folder.old) dir_path.now file_name.now N core.old result }
@@ -111,7 +111,7 @@ pub fn load_core<F: Folder, L: Log, const N: usize>(
 
 /// Saves a core into a folder, and loads it from there into another one.
 ///
-/// Where all shards are saved and loaded, a core that had no rows has the same lists as the one that was saved. Where
+/// Where all shards are saved and loaded, a core that had no rows has the same shards as the one that was saved. Where
 /// neither the device nor memory fails, all are.
 pub fn save_and_load<F: Folder, R: Rng, L: Log, const N: usize>(
     alloc: Global,

@@ -9,9 +9,9 @@ pub loop-steps-preserved : goal.loop-steps-preserved
 loop-steps-preserved g c =
     let units = c.args.units.now.items in
     let long = length-map units (λ (u : Shard g.row.T.Denot). u.rows) in
-    let at = c.place_after-at.result in
-    let place : (c.args.from + c.loop-steps.steps) % length (lists_of units) ≡ at = ap (λ n. (c.args.from + c.loop-steps.steps) % n) (omega (arith, long)) ∙ sym c.place_after-at.ensures.place in
-    let rows = get_or-map (λ (u : Shard g.row.T.Denot). u.rows) units at c.index.result.now [] (omega (arith, c.place_after-at.ensures.below)) ∙ ap (λ (u : Shard g.row.T.Denot). u.rows) (sym c.index.ensures) in
+    let at = c.shard_after-at.result in
+    let place : (c.args.from + c.loop-steps.steps) % length (lists_of units) ≡ at = ap (λ n. (c.args.from + c.loop-steps.steps) % n) (omega (arith, long)) ∙ sym c.shard_after-at.ensures.place in
+    let rows = get_or-map (λ (u : Shard g.row.T.Denot). u.rows) units at c.index.result.now [] (omega (arith, c.shard_after-at.ensures.below)) ∙ ap (λ (u : Shard g.row.T.Denot). u.rows) (sym c.index.ensures) in
     λ j some lt. elim (cases_lt j c.loop-steps.steps) [
       | inl below ↦ c.loop-steps.invariant j some below
       | inr ge ↦
@@ -24,9 +24,9 @@ pub returns-then-len-gt0-clause-held : goal.returns-then-len-gt0-clause-held
 returns-then-len-gt0-clause-held g c =
     let units = c.args.units.now.items in
     let long = length-map units (λ (u : Shard g.row.T.Denot). u.rows) in
-    let at = c.place_after-at.result in
-    let place : (c.args.from + c.loop-steps.steps) % length (lists_of units) ≡ at = ap (λ n. (c.args.from + c.loop-steps.steps) % n) (omega (arith, long)) ∙ sym c.place_after-at.ensures.place in
-    let rows = get_or-map (λ (u : Shard g.row.T.Denot). u.rows) units at c.index.result.now [] (omega (arith, c.place_after-at.ensures.below)) ∙ ap (λ (u : Shard g.row.T.Denot). u.rows) (sym c.index.ensures) in
+    let at = c.shard_after-at.result in
+    let place : (c.args.from + c.loop-steps.steps) % length (lists_of units) ≡ at = ap (λ n. (c.args.from + c.loop-steps.steps) % n) (omega (arith, long)) ∙ sym c.shard_after-at.ensures.place in
+    let rows = get_or-map (λ (u : Shard g.row.T.Denot). u.rows) units at c.index.result.now [] (omega (arith, c.shard_after-at.ensures.below)) ∙ ap (λ (u : Shard g.row.T.Denot). u.rows) (sym c.index.ensures) in
     record {
       steps = c.loop-steps.steps;
       some = omega arith;

@@ -7,6 +7,6 @@ loop-steps-init g c = (no_empties g.row.N c.args.seat.now.receipts.items, refl)
 
 pub loop-steps-preserved : goal.loop-steps-preserved
 loop-steps-preserved g c = (
-  one_empty g.row.N c.place_after-shard.result c.loop-steps.steps c.in_ok-pair.pair c.args.seat.now.receipts.items c.loop-steps.seat.receipts.items c.evict_from.new.seat.receipts.items (sym c.is_some.ensures ∙ c.if-is_some.false) c.place_after-shard.ensures.below c.loop-steps.invariant.0 c.in_ok-pair.ensures.ok,
+  one_empty g.row.N c.shard_after-shard.result c.loop-steps.steps c.in_ok-pair.pair c.args.seat.now.receipts.items c.loop-steps.seat.receipts.items c.evict_from.new.seat.receipts.items (sym c.is_some.ensures ∙ c.if-is_some.false) c.shard_after-shard.ensures.below c.loop-steps.invariant.0 c.in_ok-pair.ensures.ok,
   c.in_ok-pair.ensures.seat ∙ c.loop-steps.invariant.1,
 )
