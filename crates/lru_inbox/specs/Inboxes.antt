@@ -65,7 +65,8 @@ module _ {K T : Type 0} where
       (letter : Letter K T) × (letter.message ≡ Evict) × (old.post.closed ≡ false) × (old.post.evict ≡ None) × (new.post ≡ urged old.post letter) × (l' ≡ option_map (λ x. put_in x (Evict ∷ [])) l)
   PutsEvict old l (Err (Waiting _)) new l' = (old.post.closed ≡ false) × IsSome old.post.evict × (new.post ≡ old.post) × (l' ≡ l)
   PutsEvict old l (Err (Closed _)) new l' = (old.post.closed ≡ true) × (new.post ≡ old.post) × (l' ≡ l)
-  PutsEvict old l (Err (Memory _)) new l' = ((old.post.pushed ≡ 18446744073709551615) ⊎ (old.room ≡ 0)) × (new.post ≡ old.post) × (l' ≡ l)
+  PutsEvict old l (Err (Memory _)) new l' =
+      (old.post.closed ≡ false) × ((old.post.pushed ≡ 18446744073709551615) ⊎ ((old.post.evict ≡ None) × (old.room ≡ 0))) × (new.post ≡ old.post) × (l' ≡ l)
 
 -- the log that is spoken for, and what was taken, where there is a log
 abbrev pub log_in : {E B : Type 0} {A : Ghosts B} → Option (Voice E B A) → Option (Log E)

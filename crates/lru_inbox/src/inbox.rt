@@ -102,13 +102,14 @@ impl<K: Clone + Drop, B: Archive> Inbox<K, B> {
         Ok(self.state.pushed())
     }
 
-    /// Asks for one eviction. It is refused too while one that was asked for like this waits.
+    /// Asks for one eviction, as `push` puts a letter. It is refused too while one that was asked for like this waits. A refusal
+    /// changes nothing.
     pub fn push_evict(&mut self) -> Result<(), MailError<Letter<K, Told<K, B>>>>
         ensures put { PutsEvict self.old.state (log_in self.old.log) result self.new.state (log_in self.new.log) }
         ensures shard { self.new.shard ≡ self.old.shard }
     {
         let letter = Letter::new(LruMsg::Evict);
-        if self.state.pushed() == u64::MAX {
+        if self.state.pushed() == u64::MAX && !self.state.is_closed() {
             return Err(MailError::Memory(letter));
         }
         self.state.push_evict(letter)?;
