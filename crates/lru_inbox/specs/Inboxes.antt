@@ -54,7 +54,7 @@ module _ {K T : Type 0} where
   Refuses old letter (Waiting held) = ⊥
 
   -- a letter is put last, and its message comes last in the log; or it is refused, and nothing changes
-  abbrev pub PutsLetter : Mail (Letter K T) → Option (Log (LruMsg K)) → Letter K T → Result (Unit {0}) (MailError (Letter K T)) → Mail (Letter K T) → Option (Log (LruMsg K)) → Type 0
+  abbrev pub PutsLetter : {A : Type 0} → Mail (Letter K T) → Option (Log (LruMsg K)) → Letter K T → Result A (MailError (Letter K T)) → Mail (Letter K T) → Option (Log (LruMsg K)) → Type 0
   PutsLetter old l letter (Ok _) new l' =
       (old.post.closed ≡ false) × (new.post ≡ posted old.post letter) × (l' ≡ option_map (λ x. put_in x (letter.message ∷ [])) l)
   PutsLetter old l letter (Err refused) new l' = Refuses old letter refused × (new.post ≡ old.post) × (l' ≡ l)
