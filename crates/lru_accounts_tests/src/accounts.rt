@@ -36,29 +36,36 @@ struct Tally {
     left: usize,
 }
 
-// Admits keys 0 to 19, of weight 3 each, and removes the last one. Whether each was sent.
-fn fills<B: Registry + Archive, R: Wait>(
+// Admits keys 0 to 19, of weight 3 each, and removes the last one. Who sent that, if all was sent.
+fn fill<B: Registry + Archive, R: Wait>(
     rt: &R,
     logged: &LoggedLru<u64, 1, B>,
-    caller: &mut Caller<u64, B>,
-) -> bool {
-    let mut sent = true;
+) -> Option<Caller<u64, B>> {
+    let mut caller = logged.caller(rt).ok()?;
     for key in 0..20u64 {
-        sent = logged.admit(rt, caller, key, 3).is_ok() && sent;
+        if logged.admit(rt, &mut caller, key, 3).is_err() {
+            return None;
+        }
     }
     logged.lru().wait_until_quiet(rt);
-    logged.remove(rt, caller, &19).is_ok() && sent
+    if logged.remove(rt, &mut caller, &19).is_err() {
+        return None;
+    }
+    // what waits at a close is left behind
+    logged.lru().wait_until_quiet(rt);
+    Some(caller)
 }
 
 // What the account says of one shard, whose log has all that the caller had seen.
 fn tallied<B: Registry + Archive>(
     account: Account<u64, B>,
-    caller: &mut Caller<u64, B>,
+    caller: Caller<u64, B>,
 ) -> Option<Tally> {
     let Account { shards, settled } = account;
     let mut shards = shards;
+    let mut caller = caller;
     let mut end = shards.pop()?;
-    end.recognize(caller);
+    end.recognize(&mut caller);
     Some(Tally {
         held: end.state.len(),
         evicted: settled.puts.first()?.len(),
@@ -87,15 +94,9 @@ fn closed<
 {
     let builder = AsyncLru::<u64, 1>::builder(alloc, 10, quiet);
     let accounted = build_accounted::<u64, Quiet, 1, _, R, B>(builder, rt, blank, blanks).ok()?;
-    let logged = accounted.logged();
-    let mut caller = logged.caller(&rt).ok()?;
-    let sent = fills(&rt, logged, &mut caller);
+    let caller = fill(&rt, accounted.logged());
     let account = accounted.close(&rt);
-    if sent {
-        tallied(account, &mut caller)
-    } else {
-        None
-    }
+    tallied(account, caller?)
 }
 
 #[test]
