@@ -157,11 +157,12 @@ module _ {K : Type 0} where
     reply_at cap done (m ∷ ms) [] old look q new look' q' ts l s i e r at is = absurd s
     reply_at cap done (m ∷ ms) (f ∷ es) old look q new look' q' ts l s zero e r at is =
         let same : f ≡ e = cc in
+        let left = left_one cap done old look q m f s.0 s.1.0 s.1.1.0 s.1.1.1.0 ts l in
         record {
-          state = s.0;
-          look = s.1.0;
-          left = is_left cap (ts ++ turn (sent None m) f ∷ []) (done ++ m ∷ []) s.0 s.1.0 (left_one cap done old look q m f s.0 s.1.0 s.1.1.0 s.1.1.1.0 ts l);
-          tells = reply_one cap done old look q m f s.0 s.1.0 s.1.1.0 s.1.1.1.0 r (ap (λ (x : Effect K). x.reply) same ∙ is);
+          turns = ts ++ turn (sent None m) f ∷ [];
+          messages_are = left.messages_are;
+          allowed = left.allowed;
+          tells = subst (λ (z : State K). Tells IsClone z.shard.rows r) left.state (reply_one cap done old look q m f s.0 s.1.0 s.1.1.0 s.1.1.1.0 r (ap (λ (x : Effect K). x.reply) same ∙ is));
         }
     reply_at cap done (m ∷ ms) (f ∷ es) old look q new look' q' ts l s (suc i) e r at is =
         subst (λ xs. IsReply IsClone cap xs r) (append_assoc done (m ∷ []) (take (suc i) ms))

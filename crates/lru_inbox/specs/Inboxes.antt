@@ -54,7 +54,7 @@ module _ {K T : Type 0} where
   Refuses old letter (Waiting held) = ⊥
 
   -- a letter is put last, and its message comes last in the log; or it is refused, and nothing changes
-  abbrev pub PutsLetter : Mail (Letter K T) → Option (Log (LruMsg K)) → Letter K T → Result (Unit {0}) (MailError (Letter K T)) → Mail (Letter K T) → Option (Log (LruMsg K)) → Type 0
+  abbrev pub PutsLetter : {A : Type 0} → Mail (Letter K T) → Option (Log (LruMsg K)) → Letter K T → Result A (MailError (Letter K T)) → Mail (Letter K T) → Option (Log (LruMsg K)) → Type 0
   PutsLetter old l letter (Ok _) new l' =
       (old.post.closed ≡ false) × (new.post ≡ posted old.post letter) × (l' ≡ option_map (λ x. put_in x (letter.message ∷ [])) l)
   PutsLetter old l letter (Err refused) new l' = Refuses old letter refused × (new.post ≡ old.post) × (l' ≡ l)
@@ -65,7 +65,8 @@ module _ {K T : Type 0} where
       (letter : Letter K T) × (letter.message ≡ Evict) × (old.post.closed ≡ false) × (old.post.evict ≡ None) × (new.post ≡ urged old.post letter) × (l' ≡ option_map (λ x. put_in x (Evict ∷ [])) l)
   PutsEvict old l (Err (Waiting _)) new l' = (old.post.closed ≡ false) × IsSome old.post.evict × (new.post ≡ old.post) × (l' ≡ l)
   PutsEvict old l (Err (Closed _)) new l' = (old.post.closed ≡ true) × (new.post ≡ old.post) × (l' ≡ l)
-  PutsEvict old l (Err (Memory _)) new l' = ((old.post.pushed ≡ 18446744073709551615) ⊎ (old.room ≡ 0)) × (new.post ≡ old.post) × (l' ≡ l)
+  PutsEvict old l (Err (Memory _)) new l' =
+      (old.post.closed ≡ false) × ((old.post.pushed ≡ 18446744073709551615) ⊎ ((old.post.evict ≡ None) × (old.room ≡ 0))) × (new.post ≡ old.post) × (l' ≡ l)
 
 -- the log that is spoken for, and what was taken, where there is a log
 abbrev pub log_in : {E B : Type 0} {A : Ghosts B} → Option (Voice E B A) → Option (Log E)

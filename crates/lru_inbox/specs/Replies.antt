@@ -20,10 +20,10 @@ module _ {K : Type 0} where
 
   -- the weight of this hash among the rows that these messages leave; none where it has no row
   pub record IsWeight (cap : ℕ) (messages : List (LruMsg K)) (hash : ℕ) (weight : Option ℕ) : Type 0 where
-    pub state : State K
-    pub look : ℕ → Option ℕ
-    pub left : IsLeft cap messages state look
-    pub weighs : weight ≡ weight_in state.shard.rows hash
+    pub turns : List (Turn K)
+    pub messages_are : map (λ t. t.msg) turns ≡ messages
+    pub allowed : AreAllowed cap [] turns
+    pub weighs : weight ≡ weight_in (rows_left [] turns) hash
 
   -- `IsClone` is what a clone of a key may be
   module _ (IsClone : K → K → Type 0) where
@@ -36,7 +36,7 @@ module _ {K : Type 0} where
 
     -- it tells of the rows that these messages leave
     pub record IsReply (cap : ℕ) (messages : List (LruMsg K)) (r : Reply K) : Type 0 where
-      pub state : State K
-      pub look : ℕ → Option ℕ
-      pub left : IsLeft cap messages state look
-      pub tells : Tells state.shard.rows r
+      pub turns : List (Turn K)
+      pub messages_are : map (λ t. t.msg) turns ≡ messages
+      pub allowed : AreAllowed cap [] turns
+      pub tells : Tells (rows_left [] turns) r

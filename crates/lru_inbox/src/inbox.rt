@@ -1,8 +1,8 @@
 //! A mailbox with its log.
-ghost use Rattle.std.specs.Prelude.{◌≡◌, ◌+◌, ◌≤◌, false, [], ◌∷◌, ◌++◌, length, take, map, option_map, vec_len, vec_capacity, IfOk, IfErr, OnErr, IsSome, IfSome, is_some};
+ghost use Rattle.std.specs.Prelude.{◌≡◌, ◌+◌, ◌%◌, ◌^◌, ◌≤◌, false, [], ◌∷◌, ◌++◌, length, take, map, option_map, vec_len, vec_capacity, IfOk, IfErr, OnErr, IsSome, IfSome, is_some};
 ghost use Rattle.std.specs.Option.{ForSome};
 ghost use Rattle.lru_mailbox.specs.Mail.{empty, served, shut, left};
-ghost use Rattle.lru_logs.specs.Logs.{log, of_log, log_of, seen_of};
+ghost use Rattle.lru_logs.specs.Logs.{log, of_log, log_of, seen_of, taken_from};
 ghost use Rattle.lru_inbox.specs.Inboxes.{IsInbox, messages_of, log_in, taken_in, Sends, PutsLetter, PutsEvict, Refuses};
 
 use crate::caller::Caller;
@@ -89,7 +89,7 @@ impl<K: Clone + Drop, B: Archive> Inbox<K, B> {
         requires { IsSome self.old.log }
         ensures sent { IfOk result (λ n. Sends self.old.shard letter.message caller.old.voice.token.me.0.fronts caller.new.voice.token.me.0.fronts) }
         ensures number { IfOk result (λ n. length (seen_of self.old.shard caller.new.voice.token.me.0.fronts) ≡ n) }
-        ensures refused { IfErr result (λ e. Refuses self.old.state letter e) }
+        ensures put { PutsLetter self.old.state (log_in self.old.log) letter result self.new.state (log_in self.new.log) }
         ensures same { OnErr result (caller.new ≡ caller.old) }
         ensures shard { self.new.shard ≡ self.old.shard }
     {
@@ -102,13 +102,14 @@ impl<K: Clone + Drop, B: Archive> Inbox<K, B> {
         Ok(self.state.pushed())
     }
 
-    /// Asks for one eviction. It is refused too while one that was asked for like this waits.
+    /// Asks for one eviction, as `push` puts a letter. It is refused too while one that was asked for like this waits. A refusal
+    /// changes nothing.
     pub fn push_evict(&mut self) -> Result<(), MailError<Letter<K, Told<K, B>>>>
         ensures put { PutsEvict self.old.state (log_in self.old.log) result self.new.state (log_in self.new.log) }
         ensures shard { self.new.shard ≡ self.old.shard }
     {
         let letter = Letter::new(LruMsg::Evict);
-        if self.state.pushed() == u64::MAX {
+        if self.state.pushed() == u64::MAX && !self.state.is_closed() {
             return Err(MailError::Memory(letter));
         }
         self.state.push_evict(letter)?;
@@ -133,7 +134,9 @@ impl<K: Clone + Drop, B: Archive> Inbox<K, B> {
         ensures moved { into.new.items ≡ into.old.items ++ take max self.old.state.post.waiting }
         ensures capacity { vec_capacity into.new ≡ vec_capacity into.old }
         ensures rest { self.new.state.post ≡ served max self.old.state.post }
+        ensures log { log_in self.new.log ≡ option_map (λ l. taken_from l result) (log_in self.old.log) }
         ensures taken { taken_in taker.new.voice ≡ option_map (λ t. t ++ messages_of (take max self.old.state.post.waiting)) (taken_in taker.old.voice) }
+        ensures counted { taker.new.count ≡ (taker.old.count + result) % 2 ^ 64 }
         ensures shards { (self.new.shard ≡ self.old.shard) × (taker.new.shard ≡ taker.old.shard) }
     {
         // Read for the proof alone, which learns from it that the numbers of all letters are below 2^64.

@@ -30,6 +30,7 @@ impl<K: Drop, B: Archive> Taker<K, B> {
     pub fn new(shard: usize, voice: Option<Voice<LruMsg<K>, B>>) -> Self
         requires { ForSome voice (λ v. v.token.me ≡ (of_taker shard [], [])) }
         ensures shard { result.shard ≡ shard }
+        ensures count { result.count ≡ 0 }
         ensures voice { result.voice ≡ voice }
     {
         Taker {

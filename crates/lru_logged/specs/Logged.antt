@@ -8,7 +8,7 @@ use Rattle.lru_logs.specs.declared.hand.Front.{Front}
 use Rattle.lru_logs.specs.Logs.{Begins, seen_of}
 use Rattle.lru_inbox.specs.declared.caller.Caller.{Caller}
 use Rattle.lru_inbox.specs.Replies.{IsReply}
-use Rattle.lru_logged_shard.specs.Looking.{Looks}
+use Rattle.lru_logged_shard.specs.Looking.{LearnsWeight}
 use Rattle.lru_async.specs.declared.async_lru.ShardData.{ShardData}
 
 module _ {K B : Type 0} {A : archive.Ghosts B} where
@@ -42,12 +42,12 @@ module _ {K B : Type 0} {A : archive.Ghosts B} where
 
   -- one looks at the weight of a hash: it is that of the rows which a beginning of the shard's log leaves, and that is seen too
   abbrev pub Looked : ℕ → ℕ → ℕ → Caller K B A → Option ℕ → Caller K B A → Type 0
-  Looked cap shard hash old weight new = Looks cap shard hash (fronts_of old) weight (fronts_of new)
+  Looked cap shard hash old weight new = LearnsWeight cap shard hash (fronts_of old) weight (fronts_of new)
 
   -- a row of this hash is found where a look tells of one; what was seen by the look is seen afterwards, and perhaps more
   abbrev pub Found : ℕ → ℕ → ℕ → Caller K B A → Bool → Caller K B A → Type 0
   Found cap shard hash old found new =
-      (weight : Option ℕ) × (looked later : List (Front (LruMsg K))) × Looks cap shard hash (fronts_of old) weight looked × (fronts_of new ≡ later ++ looked) × (found ≡ is_some weight)
+      (weight : Option ℕ) × (looked later : List (Front (LruMsg K))) × LearnsWeight cap shard hash (fronts_of old) weight looked × (fronts_of new ≡ later ++ looked) × (found ≡ is_some weight)
 
   -- these are the rows that some messages leave, which begin with all that was seen of the shard's log
   abbrev pub IsRows : (K → K → Type 0) → ℕ → Caller K B A → ShardData K → Type 0

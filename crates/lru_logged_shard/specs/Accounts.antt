@@ -15,11 +15,12 @@ abbrev pub row_of_slip : Slip → ℕ × ℕ
 row_of_slip s = (s.hash, s.weight)
 
 module _ {K : Type 0} where
-  -- the hash and the weight of the row that a message evicts, if it is not refused
+  -- the hash and the weight of the row that a message takes out by eviction, where it is served: the last one
   abbrev pub evicted_row : List (Row K) → LruMsg K → Option (ℕ × ℕ)
   evicted_row rows Evict = option_map (λ r. (r.key, r.weight)) (last_row rows)
   evicted_row rows _ = None
 
+  -- of the row that is evicted in a turn: none where its message was refused
   abbrev pub row_leaving : List (Row K) → Turn K → List (ℕ × ℕ)
   row_leaving rows t = if t.effect.refused then [] else option_to_list (evicted_row rows t.msg)
 

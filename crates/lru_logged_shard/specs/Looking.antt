@@ -7,7 +7,7 @@ use Rattle.lru_inbox.specs.Replies.{IsWeight}
 
 -- it is the weight of the hash among the rows that a beginning of the shard's log leaves: of the same log as all that was seen.
 -- That beginning is seen too, behind what was seen before
-abbrev pub Looks : {K : Type 0} → ℕ → ℕ → ℕ → List (Front (LruMsg K)) → Option ℕ → List (Front (LruMsg K)) → Type 0
-Looks {K} cap shard hash old weight new =
+abbrev pub LearnsWeight : {K : Type 0} → ℕ → ℕ → ℕ → List (Front (LruMsg K)) → Option ℕ → List (Front (LruMsg K)) → Type 0
+LearnsWeight {K} cap shard hash old weight new =
     (messages whole : List (LruMsg K)) × (new ≡ old ++ front shard messages ∷ []) × Begins messages whole × Begins (seen_of shard old) whole
     × ∥ IsWeight cap messages hash weight ∥₁

@@ -7,7 +7,7 @@ ghost use Rattle.lru_logs.specs.Logs.{front, of_fronts};
 ghost use Rattle.lru_inbox.specs.Inboxes.{shown, taken_in};
 ghost use Rattle.lru_logged_shard.specs.Accounts.{IsKept};
 ghost use Rattle.lru_logged_shard.specs.Seats.{slips_at};
-ghost use Rattle.lru_logged_shard.specs.Looking.{Looks};
+ghost use Rattle.lru_logged_shard.specs.Looking.{LearnsWeight};
 
 use lru_actors::message::LruMsg;
 use lru_actors::state::ShardState;
@@ -55,7 +55,7 @@ impl<K: Clone + Drop, B: Registry + Archive> LoggedShard<K, B> {
         requires here { seen.table_id ≡ B.log }
         requires fresh { ForSome (slips_at seat) (λ slips. slips ≡ []) }
         requires nothing { seen.me ≡ (of_fronts (front shard [] ∷ []), []) }
-        ensures shard { IfOk result (λ s. s.shard ≡ shard) }
+        ensures { IfOk result (λ s. (s.shard ≡ shard) × (s.seen ≡ seen) × (s.seat ≡ seat)) }
     {
         Ok(LoggedShard {
             shard,
@@ -76,8 +76,8 @@ impl<K: Clone + Drop, B: Registry + Archive> LoggedShard<K, B> {
 
     /// As `weight_of`, for one who then knows that it is told of the rows which a beginning of the shard's log leaves.
     pub fn look(&mut self, caller: &mut Caller<K, B>, hash: u64) -> Option<usize>
-        ensures told { Looks (cap_of B.shards) self.old.shard hash caller.old.voice.token.me.0.fronts result caller.new.voice.token.me.0.fronts }
-        ensures same { (self.new.shard ≡ self.old.shard) × (self.new.count ≡ self.old.count) }
+        ensures told { LearnsWeight (cap_of B.shards) self.old.shard hash caller.old.voice.token.me.0.fronts result caller.new.voice.token.me.0.fronts }
+        ensures same { (self.new.shard ≡ self.old.shard) × (self.new.count ≡ self.old.count) × (self.new.state ≡ self.old.state) × (self.new.weights ≡ self.old.weights) × (self.new.seat ≡ self.old.seat) × (shown self.new.seen.me.0 ≡ shown self.old.seen.me.0) }
     {
         caller.voice.note(&mut self.seen);
         self.weight_of(hash)

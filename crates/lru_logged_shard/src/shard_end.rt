@@ -1,8 +1,9 @@
 //! What a shard with a log came to.
-ghost use Rattle.std.specs.Prelude.{◌≡◌, [], ◌∷◌};
+ghost use Rattle.std.specs.Prelude.{◌≡◌, [], ◌∷◌, Some, IsSome};
 ghost use Rattle.std.specs.Option.{ForSome};
 ghost use Rattle.lru_rules.specs.Limits.{cap_of};
 ghost use Rattle.lru_logs.specs.Logs.{Begins, accepted, hand, log_of, seen_of};
+ghost use Rattle.lru_inbox.specs.Inboxes.{log_in};
 ghost use Rattle.lru_logged_shard.specs.Accounts.{IsAccount};
 
 use crate::logged_shard::LoggedShard;
@@ -44,6 +45,8 @@ impl<K: Clone + Drop, B: Registry + Archive> LoggedShard<K, B> {
     /// seat or no log, or where messages that were taken are not processed.
     pub fn end(self, inbox: Inbox<K, B>, shard: usize) -> Option<(ShardEnd<K, B>, PutSeat<B>)>
         ensures shard { ForSome result (λ r. r.0.shard ≡ shard) }
+        ensures all { ForSome result (λ r. (r.0.state ≡ self.state) × (Some r.1 ≡ self.seat) × (Some (log_of r.0.log.token.me.0) ≡ log_in inbox.log)) }
+        ensures some { self.shard ≡ shard → inbox.shard ≡ shard → inbox.state.post.taken ≡ self.count → IsSome inbox.log → IsSome self.seat → IsSome result }
         ensures account { ForSome result (λ r. ∥ IsAccount (cap_of B.shards) (log_of r.0.log.token.me.0).taken r.0.state r.1.share.slips ∥₁) }
     {
         let LoggedShard {

@@ -95,7 +95,11 @@ impl BuildError {
 }
 
 impl From<std::alloc::AllocError> for BuildError {
-    fn from(_refused: std::alloc::AllocError) -> BuildError {
-        BuildError::Memory
+    ghost use Rattle.lru_sends.specs.declared.refusals.BuildError.TheVariants.{Memory};
+
+    ghost from_gives = { λ _ error. error ≡ Memory };
+
+    fn from(_refused: std::alloc::AllocError) -> Self {
+        Self::Memory
     }
 }

@@ -22,7 +22,7 @@ use Rattle.lru_logged_shard.specs.Accounts.{IsKept}
 use Rattle.lru_logged_shard.proofs.Accounts.{kept_more}
 use Rattle.lru_world.specs.declared.bench.Asked.{Asked}
 use Rattle.lru_world.specs.Batch.{replied, AddsSlips, StepsFrom}
-use Rattle.lru_world.specs.Replying.{AreReplies, Gains, HasRoom}
+use Rattle.lru_world.specs.Replying.{AreReplies, Gains, TookPast}
 
 -- lists
 get_left : {A : Type 0} (xs ys : List A) (i : ℕ) (x : A) → slice_get xs i ≡ Some x → slice_get (xs ++ ys) i ≡ Some x
@@ -44,7 +44,7 @@ take_past [] ys n = ap (λ k. take k ys) (let z : 0 + n ≡ n = omega arith in z
 take_past (x ∷ xs) ys n = ap (λ k. take k (x ∷ (xs ++ ys))) (let z : suc (length xs) + n ≡ suc (length xs + n) = omega arith in z) ∙ ap (λ l. x ∷ l) (take_past xs ys n)
 
 -- its number
-pub number_is : {A : Type 0} (before len most : ℕ) (taken : List A) → len < most → HasRoom before most taken → ((before + len) % 2 ^ 64 + 1) % 2 ^ 64 ≡ before + suc len
+pub number_is : {A : Type 0} (before len most : ℕ) (taken : List A) → len < most → TookPast before most taken → ((before + len) % 2 ^ 64 + 1) % 2 ^ 64 ≡ before + suc len
 number_is before len most taken few room =
     let a : before + len < 2 ^ 64 = omega (arith, room.0, room.1, few) in
     let b : before + len + 1 < 2 ^ 64 = omega (arith, room.0, room.1, few) in
@@ -113,11 +113,11 @@ module _ {K : Type 0} (IsClone : K → K → Type 0) (cap : ℕ) where
         = ap (λ xs. xs ++ take (suc i) gained) first_is ∙ sym (take_past gains.0 gained (suc i)) ∙ ap (λ n. take (n + suc i) (gains.0 ++ gained)) gains.1 ∙ ap (take (before + suc i)) (sym gains.2) in
         ∥∥₁_map left (λ was. subst (λ xs. IsReply IsClone cap xs r) is (reply_at IsClone cap done gained es old look steps.0 new look' steps.1 was.turns (by_turns cap done old look was) steps.2 i f.0 r f.1 f.2))
 
-  pub batch_room : (o : Option (List (LruMsg K))) (before count most : ℕ) (gained : List (LruMsg K)) → ForSome o (λ taken. before ≡ length taken) → count ≡ length gained → most < 2 ^ 64
-      → ForSome (option_map (λ t. t ++ gained) o) (λ taken. most ≡ length taken) → ForSome (option_map (λ t. t ++ gained) o) (λ taken. HasRoom before count taken)
-  batch_room None before count most gained b c fits m = λ x e. absurd (none_some x e)
-  batch_room (Some taken) before count most gained b c fits m = λ x e.
-      subst (HasRoom before count) (some_same (taken ++ gained) x e)
+  pub batch_past : (o : Option (List (LruMsg K))) (before count most : ℕ) (gained : List (LruMsg K)) → ForSome o (λ taken. before ≡ length taken) → count ≡ length gained → most < 2 ^ 64
+      → ForSome (option_map (λ t. t ++ gained) o) (λ taken. most ≡ length taken) → ForSome (option_map (λ t. t ++ gained) o) (λ taken. TookPast before count taken)
+  batch_past None before count most gained b c fits m = λ x e. absurd (none_some x e)
+  batch_past (Some taken) before count most gained b c fits m = λ x e.
+      subst (TookPast before count) (some_same (taken ++ gained) x e)
       (let h = b taken refl in let l = length-append taken gained in let n = m (taken ++ gained) refl in (omega (arith, h, c, l), omega (arith, n, fits)))
 
 module _ {K B : Type 0} {A : Ghosts B} where

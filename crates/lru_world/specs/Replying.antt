@@ -17,9 +17,9 @@ AreReplies {K} IsClone cap taken before replies =
 abbrev pub HasNothing : {A : Type 0} → Option (List A) → Type 0
 HasNothing taken = ForSome taken (λ t. t ≡ [])
 
--- so many messages were taken after so many before
-abbrev pub HasRoom : {A : Type 0} → ℕ → ℕ → List A → Type 0
-HasRoom before count taken = (before + count ≤ length taken) × (length taken < 2 ^ 64)
+-- after so many messages at least so many more were taken, and all that were taken are fewer than the numbers of messages
+abbrev pub TookPast : {A : Type 0} → ℕ → ℕ → List A → Type 0
+TookPast before count taken = (before + count ≤ length taken) × (length taken < 2 ^ 64)
 
 -- these messages were taken after so many before
 abbrev pub Gains : {A : Type 0} → ℕ → List A → List A → Type 0

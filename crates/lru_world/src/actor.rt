@@ -7,7 +7,7 @@ ghost use Rattle.lru_inbox.specs.Inboxes.{taken_in};
 ghost use Rattle.lru_inbox.specs.Replies.{IsReply};
 ghost use Rattle.lru_world.specs.Batch.{is_evict};
 ghost use Rattle.lru_world.specs.Places.{is_logged};
-ghost use Rattle.lru_world.specs.Replying.{AreReplies, Gains, HasNothing, HasRoom};
+ghost use Rattle.lru_world.specs.Replying.{AreReplies, Gains, HasNothing, TookPast};
 
 use crate::bench::{Asked, Bench, MOST, clear, evictions_in, note_replies};
 use crate::callback::Gate;
@@ -205,7 +205,7 @@ fn reply_where_asked<K: Clone + Drop, B: Archive, R: Wait>(
     asked: &mut Vec<Asked<K, Told<K, B>>>,
 )
     requires each { vec_len effects.old ≡ vec_len asked.old }
-    requires taken { ForSome (taken_in taker.old.voice) (λ taken. HasRoom before (vec_len asked.old) taken) }
+    requires taken { ForSome (taken_in taker.old.voice) (λ taken. TookPast before (vec_len asked.old) taken) }
     requires replies { ForSome (taken_in taker.old.voice) (λ taken. AreReplies K.is_clone (cap_of B.shards) taken before (map (λ e. e.reply) effects.old.items)) }
     ensures taker { (taker.new.shard ≡ taker.old.shard) × (taken_in taker.new.voice ≡ taken_in taker.old.voice) }
 {
@@ -222,7 +222,7 @@ fn reply_all<K: Clone + Drop, B: Archive, R: Wait>(
     before: u64,
     asked: &mut Vec<Asked<K, Told<K, B>>>,
 )
-    requires taken { ForSome (taken_in taker.old.voice) (λ taken. HasRoom before (vec_len asked.old) taken) }
+    requires taken { ForSome (taken_in taker.old.voice) (λ taken. TookPast before (vec_len asked.old) taken) }
     requires replies { ForSome (taken_in taker.old.voice) (λ taken. AreReplies K.is_clone (cap_of B.shards) taken before (map (λ a. a.reply) asked.old.items)) }
     ensures taker { (taker.new.shard ≡ taker.old.shard) × (taken_in taker.new.voice ≡ taken_in taker.old.voice) }
 {

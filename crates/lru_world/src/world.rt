@@ -4,7 +4,7 @@ ghost use Rattle.std.specs.Option.{ForSome};
 ghost use Rattle.std.specs.Sync.Mutex.{mutex_guard_value};
 ghost use Rattle.lru_logs.specs.Logs.{log, hand, of_log, blank_logs, blank_fronts};
 ghost use Rattle.lru_inbox.specs.Inboxes.{taken_in};
-ghost use Rattle.lru_logged_shard.specs.Looking.{Looks};
+ghost use Rattle.lru_logged_shard.specs.Looking.{LearnsWeight};
 ghost use Rattle.lru_logged_shard.specs.Seats.{slips_at};
 ghost use Rattle.lru_rules.specs.Limits.{cap_of};
 ghost use Rattle.lru_world.specs.Replying.{HasNothing, AreTakers};
@@ -152,7 +152,7 @@ impl<K: Clone + Drop, B: Registry + Archive> ShardPlace<K, B> {
         caller: &mut Caller<K, B>,
         hash: u64,
     ) -> Option<usize>
-        ensures { Looks (cap_of B.shards) shard hash caller.old.voice.token.me.0.fronts result caller.new.voice.token.me.0.fronts }
+        ensures { LearnsWeight (cap_of B.shards) shard hash caller.old.voice.token.me.0.fronts result caller.new.voice.token.me.0.fronts }
     {
         self.rows_of(rt, shard).look(caller, hash)
     }
@@ -239,7 +239,8 @@ fn add(counter: &AtomicUsize, amount: usize) {
 
 impl<K: Clone + Drop, B: Registry + Archive> World<K, B> {
     /// So many empty shards, each with room for `capacity` rows. Where there are logs, `logs` speaks for all of them and for those
-    /// who take, and then for those alone; and each shard gets a seat, in order, as long as there are any.
+    /// who take, and then for those alone; and each shard gets a seat, in order, as long as there are any: it lies beside the rows,
+    /// has the slips of what the shard evicts, and `LoggedShard::end` gives it back. A seat that no shard gets is let go.
     pub fn new(
         alloc: Global,
         logs: &mut Option<Voice<LruMsg<K>, B>>,

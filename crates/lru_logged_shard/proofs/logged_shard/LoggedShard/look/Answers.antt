@@ -1,6 +1,5 @@
-use Rattle.std.proofs.Common.{[], ◌∷◌, ◌++◌, sym, ap, ◌∙◌, subst}
+use Rattle.std.proofs.Common.{[], ◌∷◌, ◌++◌, ap, ◌∙◌, subst}
 use Rattle.std.proofs.Math.Logic.{∥∥₁_map}
-use Rattle.lru_schedules.specs.Turns.{weight_in}
 use Rattle.lru_logs.specs.Logs.{of_fronts, joined, Shows}
 use Rattle.lru_inbox.specs.Inboxes.{shown}
 use Rattle.lru_logged_shard.proofs.Meeting.{seen_with}
@@ -18,9 +17,9 @@ returns-clause-told g c =
       b.1,
       b.2,
       ∥∥₁_map c.args.self.now.kept (λ k. record {
-        state = _;
-        look = _;
-        left = k.left;
-        weighs = c.weight_of.ensures ∙ k.left.map_is c.args.hash ∙ ap (λ s. weight_in s.shard.rows c.args.hash) (sym k.left.state);
+        turns = k.left.turns;
+        messages_are = k.left.messages_are;
+        allowed = k.left.allowed;
+        weighs = c.weight_of.ensures ∙ k.left.map_is c.args.hash;
       }),
     )

@@ -4,9 +4,9 @@ use Rattle.std.specs.Option.{ForSome}
 use Rattle.lru_rules.specs.Limits.{cap_of}
 use Rattle.lru_inbox.specs.Inboxes.{messages_of, taken_in}
 use Rattle.lru_world.specs.Batch.{is_evict, asked_by}
-use Rattle.lru_world.specs.Replying.{AreReplies, Gains, HasRoom}
+use Rattle.lru_world.specs.Replying.{AreReplies, Gains, TookPast}
 use Rattle.lru_world.proofs.Evicted.{flags, flags_asked, asked_length}
-use Rattle.lru_world.proofs.Replying.{counted_in, batch_gains, batch_room, messages_length}
+use Rattle.lru_world.proofs.Replying.{counted_in, batch_gains, batch_past, messages_length}
 use Rattle.lru_world.proofs.actor.Actor.serve.Goals as goal
 
 pub process-requires-clause-asked : goal.process-requires-clause-asked
@@ -31,8 +31,8 @@ reply_where_asked-requires-clause-taken g c =
     let asked = ap length (ap (λ v. v.items) c.process.ensures.asked ∙ c.take_in.ensures.asked ∙ ap (map asked_by) items) in
     let a = asked_length took.0 in
     let m = messages_length took.0 in
-    subst (λ o. ForSome o (λ taken. HasRoom before (vec_len c.process.new.self.bench.asked) taken)) (sym (c.process.ensures.taker.2 ∙ took.3))
-    (batch_room g.K.Clone.is_clone (cap_of g.B.Archive.shards) (taken_in c.args.self.now.taker.voice) before (vec_len c.process.new.self.bench.asked) new.count (messages_of took.0)
+    subst (λ o. ForSome o (λ taken. TookPast before (vec_len c.process.new.self.bench.asked) taken)) (sym (c.process.ensures.taker.2 ∙ took.3))
+    (batch_past g.K.Clone.is_clone (cap_of g.B.Archive.shards) (taken_in c.args.self.now.taker.voice) before (vec_len c.process.new.self.bench.asked) new.count (messages_of took.0)
     (counted_in c.args.self.now.taker.voice before c.args.self.now.taker.counted) (omega (arith, asked, a, m, c.process.new.self.bench.asked.ok.0)) (omega (arith, c.taken-taken.ensures, c.taken-taken.type_inv))
     (subst (λ o. ForSome o (λ taken. new.count ≡ length taken)) took.3 (counted_in new.voice new.count new.counted)))
 
