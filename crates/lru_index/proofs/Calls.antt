@@ -1,12 +1,14 @@
 -- What the calls of an index owe: bounds, what is kept, and of which keys it is the index then.
-use Rattle.std.proofs.Common.{◌≡◌, ℕ, ◌+◌, ◌-◌, ◌/◌, ◌^◌, ◌<◌, ◌≤◌, Bool, List, ◌++◌, length, get_or, set, replicate, sym, ap, ◌∙◌, subst, arith, Option, None}
+use Rattle.std.proofs.Common.{◌≡◌, ℕ, ◌+◌, ◌-◌, ◌/◌, ◌^◌, ◌<◌, ◌≤◌, Bool, List, ◌++◌, length, get_or, set, replicate, sym, ap, ◌∙◌, subst, arith, Option, None, Some}
 use Rattle.std.specs.Prelude.{IsTrue}
 use Rattle.std.specs.Cmp.{IsEquivalence}
+use Rattle.std.specs.Option.{option_map}
 use Rattle.std.proofs.Math.Pow.{pow_mono}
 use Rattle.std.proofs.lemmas.List.{get_or_default, length-append}
 use Rattle.lru_index.specs.Index.{Index, room_of, IsFree, put, gone, known_of, HasKey, IsAbsent, Indexes}
 use Rattle.lru_index.specs.Representation.Cells.{IsTable, IsKept, at, homes_of, home_in, index_of, below, end_cell}
 use Rattle.lru_index.specs.Representation.Walks.{Reaches}
+use Rattle.lru_index.proofs.Chained.{within}
 use Rattle.lru_index.proofs.Tables.{kept, shown, empty_table, longer_table}
 use Rattle.lru_index.proofs.Walked.{cell_within, has_link, split, tail_is, has_found}
 use Rattle.lru_index.proofs.Indexed.{length_homes, zero_free, room_is, put_keeps, cut_keeps, no_key, absent, put_index, cut_index, grown_index}
@@ -46,19 +48,37 @@ module _ {K Q : Type 0} (eq : K → Q → Bool) (keys : ℕ → Option K) (key :
             let chain = split eq keys key cells heads b keeps.table low_is cell here.walk v read_is some in
             subst (λ xs. IsKept xs heads shift) left_is (cut_keeps cells heads shift keeps b v here.walk.front tail low_is chain)
 
-        module _ {S : Type 0} (same_key : K → K → Bool) (laws : IsEquivalence same_key) (hash : S → K → ℕ) (respects : (s : S) (x y : K) → IsTrue (same_key x y) → hash s x ≡ hash s y) (hash_builder : S) (index : Index S) (view : index_of cells heads shift hash_builder ≡ index) (of : Indexes same_key hash index keys) where
-          pub cut_indexes : Indexes same_key hash (index_of (set cells cell w) heads shift hash_builder) (gone keys v)
+        module _ {L S : Type 0} (same_key : L → L → Bool) (laws : IsEquivalence same_key) (hash : S → L → ℕ) (respects : (s : S) (x y : L) → IsTrue (same_key x y) → hash s x ≡ hash s y) (hash_builder : S) (held : ℕ → Option L) (index : Index S) (view : index_of cells heads shift hash_builder ≡ index) (of : Indexes same_key hash index held) where
+          pub cut_indexes : Indexes same_key hash (index_of (set cells cell w) heads shift hash_builder) (gone held v)
           cut_indexes =
               let tail = (tail_is eq keys key cells heads b keeps.table low_is cell here.walk v read_is some).0 in
               let chain = split eq keys key cells heads b keeps.table low_is cell here.walk v read_is some in
-              subst (λ xs. Indexes same_key hash (index_of xs heads shift hash_builder) (gone keys v)) left_is
-              (cut_index same_key laws hash respects cells heads shift hash_builder keeps keys (subst (λ i. Indexes same_key hash i keys) (sym view) of) b v here.walk.front tail low_is chain)
+              subst (λ xs. Indexes same_key hash (index_of xs heads shift hash_builder) (gone held v)) left_is
+              (cut_index same_key laws hash respects cells heads shift hash_builder keeps held (subst (λ i. Indexes same_key hash i held) (sym view) of) b v here.walk.front tail low_is chain)
 
     module _ {S : Type 0} (same_key : K → K → Bool) (laws : IsEquivalence same_key) (hash : S → K → ℕ) (respects : (s : S) (x y : K) → IsTrue (same_key x y) → hash s x ≡ hash s y) (hash_builder : S) (index : Index S) (view : index_of cells heads shift hash_builder ≡ index) (of : Indexes same_key hash index keys)
         (hashed : ℕ) (alike : (k : K) → IsTrue (eq k key) → hash hash_builder k ≡ hashed) (bits_are : b ≡ hashed / 2 ^ shift) where
       pub absent_is : v ≡ 0 → IsAbsent eq keys key
       absent_is none =
           absent same_key laws hash respects cells heads shift hash_builder keeps keys (subst (λ i. Indexes same_key hash i keys) (sym view) of) eq key hashed alike b bits_are low_is cell here (sym read_is ∙ none)
+
+-- ---- a place that has a key
+module _ {K S : Type 0} (eq : K → K → Bool) (hash : S → K → ℕ) (cells : List ℕ) (heads shift : ℕ) (hash_builder : S) (keeps : IsKept cells heads shift) (index : Index S) (view : index_of cells heads shift hash_builder ≡ index) (keys : ℕ → Option K) (of : Indexes eq hash index keys) (p : ℕ) (k : K) (live : keys p ≡ Some k) where
+  -- it stands in the home of its key
+  pub stands_there : home_in cells heads p ≡ Some (hash hash_builder k / 2 ^ shift)
+  stands_there = let there = subst (λ i. Indexes eq hash i keys) (sym view) of in there.known p ∙ ap (option_map (λ x. hash hash_builder x / 2 ^ shift)) live
+
+  linked : (0 < p) × (heads + p < length cells)
+  linked =
+      let b = hash hash_builder k / 2 ^ shift in
+      let chain = keeps.table.chains b (keeps.table.homes p b stands_there) in
+      within cells heads (at cells b) chain.0 chain.1.joined p (chain.1.has p stands_there)
+
+  pub link_there : heads + p < length cells
+  link_there = linked.1
+
+  pub some_there : p ≡ 0 → ⊥
+  some_there none = omega (arith, linked.0, none)
 
 -- ---- a place put in
 module _ {S : Type 0} (cells : List ℕ) (heads shift : ℕ) (hash_builder : S) (keeps : IsKept cells heads shift) (index : Index S) (view : index_of cells heads shift hash_builder ≡ index) where

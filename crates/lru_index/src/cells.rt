@@ -1,7 +1,7 @@
 //! The cells of an index: a head for each home, and behind the heads a link for each place.
 //!
 //! A head holds the first place of its home, and a link the place behind its own; 0 ends a chain.
-ghost use Rattle.std.specs.Prelude.{◌≡◌, ℕ, ◌+◌, ◌-◌, ◌*◌, ◌^◌, ◌<◌, ◌≤◌, ◌/◌, ◌++◌, length, vec_len, IfOk, OnOk, OnErr, IsSome, None, get_or, set, replicate};
+ghost use Rattle.std.specs.Prelude.{◌≡◌, ℕ, ◌+◌, ◌-◌, ◌*◌, ◌^◌, ◌<◌, ◌≤◌, ◌/◌, ◌++◌, length, vec_len, IfOk, OnOk, OnErr, IsSome, Some, None, ◌==◌, get_or, set, replicate};
 ghost use Rattle.lru_index.specs.Representation.Cells.{IsTable, IsFilled, home_in};
 ghost use Rattle.lru_index.specs.Hashing.{key_hash};
 ghost use Rattle.lru_index.specs.Representation.Walks.{Reaches};
@@ -126,6 +126,22 @@ pub(crate) fn cell_of<K: Hash, Q: Query<K>, T: Keys<K>>(
         }
         cell = heads + place as usize;
     }
+}
+
+/// The cell that holds a place of a home.
+#[inline(always)]
+pub(crate) fn cell_before(cells: &[u32], heads: usize, home: usize, place: u32) -> usize
+    requires table { IsTable cells.now heads (home_in cells.now heads) }
+    requires home { home < heads }
+    requires stands { home_in cells.now heads place ≡ Some home }
+    ensures walk { Reaches ◌==◌ Some place cells.now heads home result }
+    ensures holds { get_or cells.now result place ≡ place }
+{
+    let mut cell = home;
+    while cells[cell] != place {
+        cell = heads + cells[cell] as usize;
+    }
+    cell
 }
 
 /// Empties the cells, and puts each live place below `room` into the chain of its key's home, in the order of the

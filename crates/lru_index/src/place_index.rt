@@ -1,14 +1,14 @@
 //! An index from keys to places.
-ghost use Rattle.std.specs.Prelude.{◌≡◌, ◌<◌, ◌≤◌, IfOk, IfErr};
+ghost use Rattle.std.specs.Prelude.{◌≡◌, ◌<◌, ◌≤◌, IfOk, IfErr, IsSome};
 ghost use Rattle.std.specs.Hash as fed;
 ghost use Rattle.std.specs.Hash.FoldHasher as folding;
 ghost use Rattle.std.specs.List.{fold};
 ghost use Rattle.lru_index.specs.Hashing.{key_hash};
-ghost use Rattle.lru_index.specs.Index.{room_of, IsEmpty, IsFree, Finds, Inserts, gone_at, Indexes};
+ghost use Rattle.lru_index.specs.Index.{room_of, IsEmpty, IsFree, Finds, Inserts, gone, gone_at, Indexes};
 
 use crate::cells::{
-    MOST_SHIFT, cell_of, empty_cells, fill, heads_of, home_of, lengthen, links_for, put_first,
-    shift_for,
+    MOST_SHIFT, cell_before, cell_of, empty_cells, fill, heads_of, home_of, lengthen, links_for,
+    put_first, shift_for,
 };
 use crate::hashing::SeededHashes;
 use crate::keys::{Keys, Query};
@@ -171,6 +171,20 @@ impl<S: BuildHasher> PlaceIndex<S> {
         }
         self.cells[cell] = self.cells[self.heads + place as usize];
         Some(place)
+    }
+
+    /// Takes a place out that has a key. It asks for that key, and for no other.
+    #[inline(always)]
+    pub fn remove_at<K: Hash, T: Keys<K>>(&mut self, keys: &T, place: u32)
+        requires indexed { Indexes K.eq (key_hash S.BuildHasher S.Hasher.Hasher K.hash_input) self.old (T.key_of keys.now) }
+        requires live { IsSome (T.key_of keys.now place) }
+        ensures indexes { Indexes K.eq (key_hash S.BuildHasher S.Hasher.Hasher K.hash_input) self.new (gone (T.key_of keys.now) place) }
+        ensures room { room_of self.new ≡ room_of self.old }
+    {
+        let home = home_of(&self.hash_builder, self.shift, keys.key_at(place));
+        let next = self.cells[self.heads + place as usize];
+        let cell = cell_before(&self.cells, self.heads, home, place);
+        self.cells[cell] = next;
     }
 
     /// Makes room for the places below `places`, where there is less. The keys keep their places.

@@ -71,25 +71,31 @@ fn stepped(counter: &AtomicUsize, before: usize, after: usize, read: usize) -> u
 struct ShardCounters {
     // how many rows it has
     len: AtomicUsize,
-    // what was evicted from it so far
-    evicted_weight: AtomicUsize,
+    // how many rows were evicted from it so far, and by how much they weighed more than 1 each: so an eviction of rows of
+    // weight 1 is one atomic step
     evicted_len: AtomicUsize,
+    evicted_beyond: AtomicUsize,
 }
 
 impl ShardCounters {
     fn zero() -> Self {
         ShardCounters {
             len: AtomicUsize::new(0),
-            evicted_weight: AtomicUsize::new(0),
             evicted_len: AtomicUsize::new(0),
+            evicted_beyond: AtomicUsize::new(0),
         }
     }
 
     // Counts rows that were evicted.
     fn note_evicted(&self, evicted: Totals) {
-        self.evicted_weight
-            .fetch_add(evicted.weight, Ordering::SeqCst);
         self.evicted_len.fetch_add(evicted.len, Ordering::SeqCst);
+        shift(&self.evicted_beyond, evicted.len, evicted.weight);
+    }
+
+    // The weight of the rows evicted so far.
+    fn evicted_weight(&self) -> usize {
+        let len = self.evicted_len.load(Ordering::SeqCst);
+        len.wrapping_add(self.evicted_beyond.load(Ordering::SeqCst))
     }
 }
 
@@ -219,7 +225,7 @@ impl<T, const N: usize> Lru<T, N> {
     pub fn evicted_weight(&self) -> usize {
         let mut sum = 0usize;
         for unit in &self.units {
-            sum = sum.wrapping_add(unit.counts.evicted_weight.load(Ordering::SeqCst));
+            sum = sum.wrapping_add(unit.counts.evicted_weight());
         }
         sum
     }

@@ -206,8 +206,3 @@ module _ {K S T : Type 0} (eq : K → K → Bool) (hash : S → K → ℕ) (orde
   pops_first_none is o none =
       subst (λ x. PopsFirst r x r) (sym none)
       (sym (rows_are eq hash order index weights values kept r view) ∙ ap (rows_in weights values) (no_head order.live is), refl)
-
-  -- the index finds the last place of the last key
-  pub found_last : IsEquivalence eq → (p : ℕ) (k : K) → item_of order.live p ≡ Some k → (o : Option ℕ) → index_Finds eq (item_of order.live) k o → o ≡ Some p
-  found_last laws p k found None absent = absurd (false≢true (sym (absent p k found) ∙ laws.refl k))
-  found_last laws p k found (Some q) (j, there, same) = ap (λ x. Some x) (kept.indexed.once q p j k there found same)

@@ -4,7 +4,7 @@ use Rattle.std.specs.Prelude.{Option, Bool, is_some, IsSome, IsTrue}
 use Rattle.std.specs.Cmp.{IsEquivalence}
 use Rattle.std.proofs.lemmas.Bool.{false≢true}
 use Rattle.lru_index.specs.Index.{Index, Finds as index_Finds}
-use Rattle.lru_list.specs.Linked.{Linked, item_of, indices_of, times, made}
+use Rattle.lru_list.specs.Linked.{IsLive, Linked, item_of, indices_of, times, made}
 use Rattle.lru_list.proofs.LinkedLaws.{item_from_stands, stands_from_item, live_once, live_range}
 use Rattle.lru_rows.specs.Rows.{Placed, placed, row_at, row_of, IsAt, Finds, IsRecency}
 use Rattle.lru_rows.specs.Representation.Columns.{value_at, rows_in, IsKept}
@@ -55,6 +55,9 @@ module _ {K S T : Type 0} (eq : K → K → Bool) (hash : S → K → ℕ) (orde
   -- a live place is within the columns
   pub within : (p : ℕ) (k : K) → item_of order.live p ≡ Some k → p < made order + 2
   within p k found = (live_range order kept.numbered p (is_some_of (item_of order.live p) k found)).1
+
+  pub live_weighed : (p : ℕ) → IsLive order p → p < length weights
+  live_weighed p live = omega (arith, (live_range order kept.numbered p live).1, kept.wide, kept.weighed)
 
   pub length_is : length (rows_in weights values order.live) ≡ length order.live
   length_is = length-rows weights values order.live held_all

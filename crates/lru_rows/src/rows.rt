@@ -419,9 +419,8 @@ impl<K: Hash + Default + Drop, T: Drop, S: BuildHasher> Rows<K, T, S> {
         ensures valid { IsRecency K.eq self.old.rows }
     {
         let at = self.order.list.tail()?;
-        let last = self.order.key_at(at as u32);
-        let _place = self.columns.index.remove(&self.order, last);
         let (value, weight) = self.columns.take(at);
+        self.columns.index.remove_at(&self.order, at as u32);
         let key = self.order.list.remove(at);
         Some(Taken { key, value, weight })
     }
@@ -433,9 +432,8 @@ impl<K: Hash + Default + Drop, T: Drop, S: BuildHasher> Rows<K, T, S> {
         ensures valid { IsRecency K.eq self.old.rows }
     {
         let at = self.order.list.head()?;
-        let first = self.order.key_at(at as u32);
-        let _place = self.columns.index.remove(&self.order, first);
         let (value, weight) = self.columns.take(at);
+        self.columns.index.remove_at(&self.order, at as u32);
         let key = self.order.list.remove(at);
         Some(Taken { key, value, weight })
     }

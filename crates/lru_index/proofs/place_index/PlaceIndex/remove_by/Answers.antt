@@ -46,4 +46,4 @@ returns-clause-indexes g c =
     let i = c.self.inside in
     cut_indexes g.Q.Query.stands_for (g.T.Keys.key_of c.args.keys.now) c.args.query i.cells.items i.heads i.shift c.self.invariant c.home_of-home.result c.cell_of-cell.result c.home_of-home.ensures.few c.deref.result.now c.deref.ensures.value c.cell_of-cell.ensures
     c.index-place.result.now c.index-place.ensures c.if-place-eq0.false c.index.result.now c.index.ensures g.K.PartialEq.eq g.met.K.Eq.laws (key_hash g.S.BuildHasher g.S.Hasher.Hasher g.K.Hash.hash_input)
-    (λ s x y e. ap (hash_by g.S.BuildHasher g.S.Hasher.Hasher s) (g.met.K.Hash.respects_eq x y e)) i.hash_builder c.args.self.now c.self.view_is c.requires
+    (λ s x y e. ap (hash_by g.S.BuildHasher g.S.Hasher.Hasher s) (g.met.K.Hash.respects_eq x y e)) i.hash_builder (g.T.Keys.key_of c.args.keys.now) c.args.self.now c.self.view_is c.requires
