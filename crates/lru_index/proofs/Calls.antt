@@ -2,10 +2,9 @@
 use Rattle.std.proofs.Common.{◌≡◌, ℕ, ◌+◌, ◌-◌, ◌/◌, ◌^◌, ◌<◌, ◌≤◌, Bool, List, ◌++◌, length, get_or, set, replicate, sym, ap, ◌∙◌, subst, arith, Option, None, Some}
 use Rattle.std.specs.Prelude.{IsTrue}
 use Rattle.std.specs.Cmp.{IsEquivalence}
-use Rattle.std.specs.Option.{option_map}
 use Rattle.std.proofs.Math.Pow.{pow_mono}
 use Rattle.std.proofs.lemmas.List.{get_or_default, length-append}
-use Rattle.lru_index.specs.Index.{Index, room_of, IsFree, put, gone, known_of, HasKey, IsAbsent, Indexes}
+use Rattle.lru_index.specs.Index.{Index, room_of, IsFree, put, gone, known_of, HasKey, IsAbsent, Indexes, Knows}
 use Rattle.lru_index.specs.Representation.Cells.{IsTable, IsKept, at, homes_of, home_in, index_of, below, end_cell}
 use Rattle.lru_index.specs.Representation.Walks.{Reaches}
 use Rattle.lru_index.proofs.Chained.{within}
@@ -62,15 +61,15 @@ module _ {K Q : Type 0} (eq : K → Q → Bool) (keys : ℕ → Option K) (key :
       absent_is none =
           absent same_key laws hash respects cells heads shift hash_builder keeps keys (subst (λ i. Indexes same_key hash i keys) (sym view) of) eq key hashed alike b bits_are low_is cell here (sym read_is ∙ none)
 
--- ---- a place that has a key
-module _ {K S : Type 0} (eq : K → K → Bool) (hash : S → K → ℕ) (cells : List ℕ) (heads shift : ℕ) (hash_builder : S) (keeps : IsKept cells heads shift) (index : Index S) (view : index_of cells heads shift hash_builder ≡ index) (keys : ℕ → Option K) (of : Indexes eq hash index keys) (p : ℕ) (k : K) (live : keys p ≡ Some k) where
-  -- it stands in the home of its key
-  pub stands_there : home_in cells heads p ≡ Some (hash hash_builder k / 2 ^ shift)
-  stands_there = let there = subst (λ i. Indexes eq hash i keys) (sym view) of in there.known p ∙ ap (option_map (λ x. hash hash_builder x / 2 ^ shift)) live
+-- ---- a place that the index knows by a key's hash
+module _ {K S : Type 0} (hash : S → K → ℕ) (cells : List ℕ) (heads shift : ℕ) (hash_builder : S) (keeps : IsKept cells heads shift) (index : Index S) (view : index_of cells heads shift hash_builder ≡ index) (key : K) (p : ℕ) (known : Knows hash index key p) where
+  -- it stands in the home of the key
+  pub stands_there : home_in cells heads p ≡ Some (hash hash_builder key / 2 ^ shift)
+  stands_there = subst (λ i. Knows hash i key p) (sym view) known
 
   linked : (0 < p) × (heads + p < length cells)
   linked =
-      let b = hash hash_builder k / 2 ^ shift in
+      let b = hash hash_builder key / 2 ^ shift in
       let chain = keeps.table.chains b (keeps.table.homes p b stands_there) in
       within cells heads (at cells b) chain.0 chain.1.joined p (chain.1.has p stands_there)
 

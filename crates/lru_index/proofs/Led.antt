@@ -1,5 +1,5 @@
 -- Laws of a walk to a place that a home has.
-use Rattle.std.proofs.Common.{◌≡◌, ℕ, ◌<◌, List, refl, sym, ◌∙◌, subst, Some, ◌==◌}
+use Rattle.std.proofs.Common.{◌≡◌, ℕ, ◌<◌, List, refl, sym, ◌∙◌, Some, ◌==◌}
 use Rattle.std.proofs.lemmas.Bool.{eq-eqb, ne_eqb, false≢true}
 use Rattle.lru_index.specs.Index.{Differs}
 use Rattle.lru_index.specs.Representation.Cells.{IsTable, at, home_in}

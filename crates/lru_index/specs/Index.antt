@@ -48,6 +48,10 @@ module _ {K : Type 0} where
   abbrev pub known_of : (K → ℕ) → ℕ → (ℕ → Option K) → ℕ → Option ℕ
   known_of hash shift keys p = option_map (λ k. hash k / 2 ^ shift) (keys p)
 
+  -- the index knows a place by the hash of this key
+  abbrev pub Knows : {S : Type 0} → (S → K → ℕ) → Index S → K → ℕ → Type 0
+  Knows hash index key p = home_at index p ≡ Some (hash index.hash_builder key / 2 ^ index.shift)
+
   -- by what stands for a key: a key that equals it, or what a query matches
   module _ {Q : Type 0} (eq : K → Q → Bool) where
     -- a place has this key
@@ -80,3 +84,7 @@ module _ {K : Type 0} where
     -- a key that had no place gets this one, whatever the others are
     abbrev pub Inserts : {S : Type 0} → (S → K → ℕ) → Index S → K → ℕ → Index S → Type 0
     Inserts hash old key p new = (keys : ℕ → Option K) → IsAbsent eq keys key → Indexes hash old keys → Indexes hash new (put keys p key)
+
+    -- a place is taken out, whatever the others are
+    abbrev pub Drops : {S : Type 0} → (S → K → ℕ) → Index S → ℕ → Index S → Type 0
+    Drops hash old p new = (keys : ℕ → Option K) → Indexes hash old keys → Indexes hash new (gone keys p)

@@ -1,10 +1,10 @@
 //! An index from keys to places.
-ghost use Rattle.std.specs.Prelude.{◌≡◌, ◌<◌, ◌≤◌, IfOk, IfErr, IsSome};
+ghost use Rattle.std.specs.Prelude.{◌≡◌, ◌<◌, ◌≤◌, IfOk, IfErr};
 ghost use Rattle.std.specs.Hash as fed;
 ghost use Rattle.std.specs.Hash.FoldHasher as folding;
 ghost use Rattle.std.specs.List.{fold};
 ghost use Rattle.lru_index.specs.Hashing.{key_hash};
-ghost use Rattle.lru_index.specs.Index.{room_of, IsEmpty, IsFree, Finds, Inserts, gone, gone_at, Indexes};
+ghost use Rattle.lru_index.specs.Index.{room_of, IsEmpty, IsFree, Finds, Inserts, Knows, Drops, gone_at, Indexes};
 
 use crate::cells::{
     MOST_SHIFT, cell_before, cell_of, empty_cells, fill, heads_of, home_of, lengthen, links_for,
@@ -173,16 +173,15 @@ impl<S: BuildHasher> PlaceIndex<S> {
         Some(place)
     }
 
-    /// Takes a place out that has a key. It asks for that key, and for no other.
+    /// Takes the place of a key out. It reads no other key, and not that one: the row may be gone already.
     #[inline(always)]
-    pub fn remove_at<K: Hash, T: Keys<K>>(&mut self, keys: &T, place: u32)
-        requires indexed { Indexes K.eq (key_hash S.BuildHasher S.Hasher.Hasher K.hash_input) self.old (T.key_of keys.now) }
-        requires live { IsSome (T.key_of keys.now place) }
-        ensures indexes { Indexes K.eq (key_hash S.BuildHasher S.Hasher.Hasher K.hash_input) self.new (gone (T.key_of keys.now) place) }
+    pub fn remove_at<K: Hash>(&mut self, key: &K, place: u32)
+        requires { Knows (key_hash S.BuildHasher S.Hasher.Hasher K.hash_input) self.old key.now place }
+        ensures drops { Drops K.eq (key_hash S.BuildHasher S.Hasher.Hasher K.hash_input) self.old place self.new }
         ensures room { room_of self.new ≡ room_of self.old }
     {
-        let home = home_of(&self.hash_builder, self.shift, keys.key_at(place));
         let next = self.cells[self.heads + place as usize];
+        let home = home_of(&self.hash_builder, self.shift, key);
         let cell = cell_before(&self.cells, self.heads, home, place);
         self.cells[cell] = next;
     }

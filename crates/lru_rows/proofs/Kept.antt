@@ -1,9 +1,10 @@
 -- What is known of rows by what is kept of them.
-use Rattle.std.proofs.Common.{◌≡◌, ℕ, ◌+◌, ◌<◌, ◌≤◌, List, length, get_or, Some, None, refl, sym, ap, ◌∙◌, arith, true, false}
+use Rattle.std.proofs.Common.{◌≡◌, ℕ, ◌+◌, ◌<◌, ◌≤◌, List, length, get_or, Some, None, refl, sym, ap, ◌∙◌, subst, arith, true, false, ◌/◌, ◌^◌}
 use Rattle.std.specs.Prelude.{Option, Bool, is_some, IsSome, IsTrue}
 use Rattle.std.specs.Cmp.{IsEquivalence}
+use Rattle.std.specs.Option.{option_map}
 use Rattle.std.proofs.lemmas.Bool.{false≢true}
-use Rattle.lru_index.specs.Index.{Index, Finds as index_Finds}
+use Rattle.lru_index.specs.Index.{Index, Knows, Finds as index_Finds}
 use Rattle.lru_list.specs.Linked.{IsLive, Linked, item_of, indices_of, times, made}
 use Rattle.lru_list.proofs.LinkedLaws.{item_from_stands, stands_from_item, live_once, live_range}
 use Rattle.lru_rows.specs.Rows.{Placed, placed, row_at, row_of, IsAt, Finds, IsRecency}
@@ -58,6 +59,11 @@ module _ {K S T : Type 0} (eq : K → K → Bool) (hash : S → K → ℕ) (orde
 
   pub live_weighed : (p : ℕ) → IsLive order p → p < length weights
   live_weighed p live = omega (arith, (live_range order kept.numbered p live).1, kept.wide, kept.weighed)
+
+  -- the index knows a live place by its key
+  pub live_known : (p : ℕ) (k : K) → item_of order.live p ≡ Some k → (index' : Index S) → index' ≡ index → Knows hash index' k p
+  live_known p k found index' same =
+      subst (λ i. Knows hash i k p) (sym same) (kept.indexed.known p ∙ ap (option_map (λ x. hash index.hash_builder x / 2 ^ index.shift)) found)
 
   pub length_is : length (rows_in weights values order.live) ≡ length order.live
   length_is = length-rows weights values order.live held_all

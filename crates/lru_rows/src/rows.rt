@@ -419,9 +419,10 @@ impl<K: Hash + Default + Drop, T: Drop, S: BuildHasher> Rows<K, T, S> {
         ensures valid { IsRecency K.eq self.old.rows }
     {
         let at = self.order.list.tail()?;
+        // The walk to the place comes last: what the others read and write is under way meanwhile.
         let (value, weight) = self.columns.take(at);
-        self.columns.index.remove_at(&self.order, at as u32);
         let key = self.order.list.remove(at);
+        self.columns.index.remove_at(&key, at as u32);
         Some(Taken { key, value, weight })
     }
 
@@ -433,8 +434,8 @@ impl<K: Hash + Default + Drop, T: Drop, S: BuildHasher> Rows<K, T, S> {
     {
         let at = self.order.list.head()?;
         let (value, weight) = self.columns.take(at);
-        self.columns.index.remove_at(&self.order, at as u32);
         let key = self.order.list.remove(at);
+        self.columns.index.remove_at(&key, at as u32);
         Some(Taken { key, value, weight })
     }
 

@@ -7,7 +7,7 @@ pub index-next-requires : goal.index-next-requires
 index-next-requires g c =
     let i = c.self.inside in
     subst (λ n. i.heads + c.args.place < n) (sym i.cells.ok.0)
-    (link_there g.K.PartialEq.eq (key_hash g.S.BuildHasher g.S.Hasher.Hasher g.K.Hash.hash_input) i.cells.items i.heads i.shift i.hash_builder c.self.invariant c.args.self.now c.self.view_is (g.T.Keys.key_of c.args.keys.now) c.requires.indexed c.args.place c.key_at.result.now c.key_at.ensures)
+    (link_there (key_hash g.S.BuildHasher g.S.Hasher.Hasher g.K.Hash.hash_input) i.cells.items i.heads i.shift i.hash_builder c.self.invariant c.args.self.now c.self.view_is c.args.key.now c.args.place c.requires)
 
 pub index_mut-requires : goal.index_mut-requires
 index_mut-requires g c =
@@ -20,14 +20,14 @@ invariant_of-self g c =
     let i = c.self.inside in
     cut_kept ◌==◌ Some c.args.place i.cells.items i.heads i.shift c.self.invariant c.home_of-home.result c.cell_before-cell.result c.home_of-home.ensures.few c.deref.result.now c.deref.ensures.value c.cell_before-cell.ensures.walk
     c.args.place (sym (subst (λ xs. get_or xs c.cell_before-cell.result c.args.place ≡ c.args.place) c.deref.ensures.value c.cell_before-cell.ensures.holds))
-    (some_there g.K.PartialEq.eq (key_hash g.S.BuildHasher g.S.Hasher.Hasher g.K.Hash.hash_input) i.cells.items i.heads i.shift i.hash_builder c.self.invariant c.args.self.now c.self.view_is (g.T.Keys.key_of c.args.keys.now) c.requires.indexed c.args.place c.key_at.result.now c.key_at.ensures)
+    (some_there (key_hash g.S.BuildHasher g.S.Hasher.Hasher g.K.Hash.hash_input) i.cells.items i.heads i.shift i.hash_builder c.self.invariant c.args.self.now c.self.view_is c.args.key.now c.args.place c.requires)
     c.index-next.result.now c.index-next.ensures
 
-pub returns-clause-indexes : goal.returns-clause-indexes
-returns-clause-indexes g c =
+pub returns-clause-drops : goal.returns-clause-drops
+returns-clause-drops g c keys of =
     let i = c.self.inside in
     cut_indexes ◌==◌ Some c.args.place i.cells.items i.heads i.shift c.self.invariant c.home_of-home.result c.cell_before-cell.result c.home_of-home.ensures.few c.deref.result.now c.deref.ensures.value c.cell_before-cell.ensures.walk
     c.args.place (sym (subst (λ xs. get_or xs c.cell_before-cell.result c.args.place ≡ c.args.place) c.deref.ensures.value c.cell_before-cell.ensures.holds))
-    (some_there g.K.PartialEq.eq (key_hash g.S.BuildHasher g.S.Hasher.Hasher g.K.Hash.hash_input) i.cells.items i.heads i.shift i.hash_builder c.self.invariant c.args.self.now c.self.view_is (g.T.Keys.key_of c.args.keys.now) c.requires.indexed c.args.place c.key_at.result.now c.key_at.ensures)
+    (some_there (key_hash g.S.BuildHasher g.S.Hasher.Hasher g.K.Hash.hash_input) i.cells.items i.heads i.shift i.hash_builder c.self.invariant c.args.self.now c.self.view_is c.args.key.now c.args.place c.requires)
     c.index-next.result.now c.index-next.ensures g.K.PartialEq.eq g.met.K.Eq.laws (key_hash g.S.BuildHasher g.S.Hasher.Hasher g.K.Hash.hash_input)
-    (λ s x y e. ap (hash_by g.S.BuildHasher g.S.Hasher.Hasher s) (g.met.K.Hash.respects_eq x y e)) i.hash_builder (g.T.Keys.key_of c.args.keys.now) c.args.self.now c.self.view_is c.requires.indexed
+    (λ s x y e. ap (hash_by g.S.BuildHasher g.S.Hasher.Hasher s) (g.met.K.Hash.respects_eq x y e)) i.hash_builder keys c.args.self.now c.self.view_is of

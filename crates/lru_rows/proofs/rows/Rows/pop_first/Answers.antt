@@ -1,7 +1,8 @@
 use Rattle.lru_index.specs.Hashing.{key_hash}
-use Rattle.lru_index.specs.Index.{room_of}
-use Rattle.std.proofs.Common.{arith, ap, refl, ◌∙◌}
-use Rattle.lru_rows.proofs.Kept.{live_weighed}
+use Rattle.lru_index.specs.Index.{Indexes, room_of}
+use Rattle.lru_list.specs.Linked.{item_of}
+use Rattle.std.proofs.Common.{arith, ap, refl, sym, subst, ◌∙◌}
+use Rattle.lru_rows.proofs.Kept.{live_weighed, live_known}
 use Rattle.lru_rows.proofs.Viewed.{seen_valid, first_fits, first_live}
 use Rattle.lru_rows.proofs.Gone.{pops_first_none, first_pair, pops_first_row, kept_out}
 use Rattle.lru_rows.proofs.rows.Rows.pop_first.Goals as goal
@@ -21,16 +22,16 @@ take-value-requires-clause-weighed g c = live_weighed g.K.PartialEq.eq (key_hash
 pub overflow_cast-at : goal.overflow_cast-at
 overflow_cast-at g c = omega (arith, first_fits g.K.PartialEq.eq (key_hash g.S.BuildHasher g.S.Hasher.Hasher g.K.Hash.hash_input) c.self.inside.order.list c.self.inside.columns.index c.self.inside.columns.weights.items c.self.inside.columns.values.items c.self.invariant c.args.self.now c.self.view_is c.in_ok-at.at c.in_ok-at.ensures.index)
 
-pub remove_at-requires-clause-live : goal.remove_at-requires-clause-live
-remove_at-requires-clause-live g c = first_live g.K.PartialEq.eq (key_hash g.S.BuildHasher g.S.Hasher.Hasher g.K.Hash.hash_input) c.self.inside.order.list c.self.inside.columns.index c.self.inside.columns.weights.items c.self.inside.columns.values.items c.self.invariant c.args.self.now c.self.view_is c.in_ok-at.at c.in_ok-at.ensures.index
-
 pub remove-key-requires : goal.remove-key-requires
 remove-key-requires g c = first_live g.K.PartialEq.eq (key_hash g.S.BuildHasher g.S.Hasher.Hasher g.K.Hash.hash_input) c.self.inside.order.list c.self.inside.columns.index c.self.inside.columns.weights.items c.self.inside.columns.values.items c.self.invariant c.args.self.now c.self.view_is c.in_ok-at.at c.in_ok-at.ensures.index
+
+pub remove_at-requires : goal.remove_at-requires
+remove_at-requires g c = live_known g.K.PartialEq.eq (key_hash g.S.BuildHasher g.S.Hasher.Hasher g.K.Hash.hash_input) c.self.inside.order.list c.self.inside.columns.index c.self.inside.columns.weights.items c.self.inside.columns.values.items c.self.invariant c.in_ok-at.at c.remove-key.result c.remove-key.ensures.removes.0 c.take-value.new.self.index c.take-value.ensures.index
 
 pub invariant_of-self : goal.invariant_of-self
 invariant_of-self g c =
     kept_out g.K.PartialEq.eq (key_hash g.S.BuildHasher g.S.Hasher.Hasher g.K.Hash.hash_input) c.self.inside.order.list c.self.inside.columns.index c.self.inside.columns.weights.items c.self.inside.columns.values.items c.self.invariant c.args.self.now c.self.view_is g.K.Default.is_default c.in_ok-at.at c.remove-key.result c.remove-key.ensures.removes.0 c.remove-key.new.self c.remove-key.result c.remove-key.ensures.removes c.remove-key.ensures.numbered
-    c.remove_at.new.self c.remove_at.ensures.indexes (c.remove_at.ensures.room ∙ ap room_of c.take-value.ensures.index)
+    c.remove_at.new.self (c.remove_at.ensures.drops (item_of c.self.inside.order.list.live) (subst (λ i. Indexes g.K.PartialEq.eq (key_hash g.S.BuildHasher g.S.Hasher.Hasher g.K.Hash.hash_input) i (item_of c.self.inside.order.list.live)) (sym c.take-value.ensures.index) c.self.invariant.indexed)) (c.remove_at.ensures.room ∙ ap room_of c.take-value.ensures.index)
     c.remove_at.new.self c.take-value.new.self.weights.items c.take-value.new.self.values.items
     refl c.take-value.ensures.weights c.take-value.ensures.values c.take-value.result.0 c.take-value.result.1 c.take-value.ensures.value c.take-value.ensures.weight
 
@@ -38,7 +39,7 @@ pub returns-clause-pops : goal.returns-clause-pops
 returns-clause-pops g c =
     let l = first_pair c.self.inside.order.list.live c.in_ok-at.at c.remove-key.result c.in_ok-at.ensures.index c.remove-key.ensures.removes.0 in
     pops_first_row g.K.PartialEq.eq (key_hash g.S.BuildHasher g.S.Hasher.Hasher g.K.Hash.hash_input) c.self.inside.order.list c.self.inside.columns.index c.self.inside.columns.weights.items c.self.inside.columns.values.items c.self.invariant c.args.self.now c.self.view_is g.K.Default.is_default c.in_ok-at.at c.remove-key.result c.remove-key.ensures.removes.0 c.remove-key.new.self c.remove-key.result c.remove-key.ensures.removes c.remove-key.ensures.numbered
-    c.remove_at.new.self c.remove_at.ensures.indexes (c.remove_at.ensures.room ∙ ap room_of c.take-value.ensures.index)
+    c.remove_at.new.self (c.remove_at.ensures.drops (item_of c.self.inside.order.list.live) (subst (λ i. Indexes g.K.PartialEq.eq (key_hash g.S.BuildHasher g.S.Hasher.Hasher g.K.Hash.hash_input) i (item_of c.self.inside.order.list.live)) (sym c.take-value.ensures.index) c.self.invariant.indexed)) (c.remove_at.ensures.room ∙ ap room_of c.take-value.ensures.index)
     c.remove_at.new.self c.take-value.new.self.weights.items c.take-value.new.self.values.items
     refl c.take-value.ensures.weights c.take-value.ensures.values c.take-value.result.0 c.take-value.result.1 c.take-value.ensures.value c.take-value.ensures.weight
     l.0 l.1
