@@ -23,8 +23,6 @@ enum Work {
     Peek,
     /// A promote.
     Promote,
-    /// A promote of a row in a shard that no other thread calls.
-    PromoteApart,
     /// Three peeks to a promote.
     Mix,
     /// An admission of a row that is new, with the evictions that it asks for, in one call.
@@ -33,10 +31,9 @@ enum Work {
     AdmitThenEvict,
 }
 
-static ALL: [Work; 6] = [
+static ALL: [Work; 5] = [
     Work::Peek,
     Work::Promote,
-    Work::PromoteApart,
     Work::Mix,
     Work::AdmitAndEvict,
     Work::AdmitThenEvict,
@@ -47,7 +44,6 @@ impl Work {
         match self {
             Work::Peek => "peek",
             Work::Promote => "promote",
-            Work::PromoteApart => "promote in shards apart",
             Work::Mix => "mix",
             Work::AdmitAndEvict => "admit and evict",
             Work::AdmitThenEvict => "admit then evict",
@@ -57,7 +53,6 @@ impl Work {
     fn keys_of(self, keys: &Keys) -> &[u64] {
         match self {
             Work::AdmitAndEvict | Work::AdmitThenEvict => &keys.new,
-            Work::PromoteApart => &keys.apart,
             _ => &keys.drawn,
         }
     }
@@ -142,7 +137,7 @@ fn work_on<C: Caller>(caller: &mut C, work: Work, keys: &[u64]) -> usize {
     for (place, key) in keys.iter().enumerate() {
         let is_there = match work {
             Work::Peek => caller.peek(*key),
-            Work::Promote | Work::PromoteApart => caller.promote(*key),
+            Work::Promote => caller.promote(*key),
             Work::Mix if place % 4 != 0 => caller.peek(*key),
             Work::Mix => caller.promote(*key),
             Work::AdmitAndEvict => caller.admit_and_evict(*key),

@@ -30,9 +30,6 @@ pub struct Keys {
     pub rows: Vec<u64>,
     /// Some of those, each drawn as often.
     pub drawn: Vec<u64>,
-    /// Some of those: the first quarter have keys that are 0 modulo 4, the second 1, and so on, so that each of four
-    /// threads that share them calls shards of its own.
-    pub apart: Vec<u64>,
     /// Those of rows that are new.
     pub new: Vec<u64>,
 }
@@ -44,13 +41,7 @@ impl Keys {
         let rows = keys_of_rows(alloc, &mut draws, rows)?;
         let drawn = drawn_keys(alloc, &mut draws, &rows, calls)?;
         let new = new_keys(alloc, &mut draws, calls)?;
-        let apart = keys_apart(alloc, &mut draws, &rows, calls)?;
-        Ok(Keys {
-            rows,
-            drawn,
-            apart,
-            new,
-        })
+        Ok(Keys { rows, drawn, new })
     }
 }
 
@@ -86,23 +77,6 @@ fn new_keys(alloc: Global, draws: &mut SplitMix64, calls: usize) -> Result<Vec<u
     let mut keys = Vec::with_capacity(alloc, calls)?;
     for _ in 0..calls {
         keys.push(draws.next_u64())?;
-    }
-    Ok(keys)
-}
-
-fn keys_apart(
-    alloc: Global,
-    draws: &mut SplitMix64,
-    rows: &[u64],
-    calls: usize,
-) -> Result<Vec<u64>, AllocError> {
-    let mut keys = Vec::with_capacity(alloc, calls)?;
-    for call in 0..calls {
-        let quarter = call / (calls / 4).max(1) % 4;
-        let place = draws.next_u64() % rows.len().max(1) as u64 & !3 | quarter as u64;
-        if let Some(key) = rows.get(place as usize) {
-            keys.push(*key)?;
-        }
     }
     Ok(keys)
 }
