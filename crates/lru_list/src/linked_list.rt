@@ -189,9 +189,10 @@ fn take_slot<K: Drop>(
 /// finds no freed slot take memory.
 #[derive(Drop)]
 pub struct LinkedList<K = u64> {
-    nodes: Vec<Node<K>>,
+    // what calls write comes first: where an order stands behind a lock, it lies beside the lock's own word
     last_freed: u32,
     len: u32,
+    nodes: Vec<Node<K>>,
 }
 
 impl<K> Model for LinkedList<K> {

@@ -1,6 +1,6 @@
 //! N shards under one limit on their weight, shared by threads: each shard behind a lock of its own.
 ghost use Rattle.std.specs.Prelude.{◌≡◌, ℕ, ◌+◌, ◌-◌, ◌%◌, ◌^◌, ◌<◌, ◌≤◌, min, max, not, length, vec_len, IfOk, IfErr, IfSome, OnOk, Ok, None, All};
-ghost use Rattle.std.specs.Sync.RwLock.{write_guard_value};
+ghost use Rattle.std.specs.Sync.Mutex.{mutex_guard_value};
 ghost use Rattle.lru_rules.specs.Limits.{cap_of};
 ghost use Rattle.lru_rules.specs.Shards.{IsOwn, AreOwn};
 
@@ -12,11 +12,11 @@ use lru_rules::counters::{growth, shift};
 use lru_rules::eviction::{EvictError, Readings, drawn_shards, longer_of, shard_after};
 use lru_rules::totals::{Totals, Units};
 use lru_shard::unit::{Cause, LruUnit, Refused};
-use lru_short_locks::ShortLock;
+use lru_short_locks::ShortMutex;
 use rand_core::Rng;
 use std::alloc::{AllocError, Global};
 use std::sync::atomic::{AtomicUsize, Ordering};
-use std::sync::{RwLockWriteGuard, Wait};
+use std::sync::{MutexGuard, Wait};
 
 // For how many pairs an `evict_to_limit` makes room at once: what a vector of small rows takes when it first grows. An
 // admission of one row mostly makes one leave, or a few.
@@ -69,20 +69,20 @@ fn stepped(counter: &AtomicUsize, before: usize, after: usize, read: usize) -> u
 // What is counted of one shard.
 #[derive(Drop)]
 struct ShardCounters {
+    // by how much the rows evicted from it so far weighed more than 1 each: so an eviction of rows of weight 1 is one atomic step
+    evicted_beyond: AtomicUsize,
     // how many rows it has
     len: AtomicUsize,
-    // how many rows were evicted from it so far, and by how much they weighed more than 1 each: so an eviction of rows of
-    // weight 1 is one atomic step
+    // how many rows were evicted from it so far
     evicted_len: AtomicUsize,
-    evicted_beyond: AtomicUsize,
 }
 
 impl ShardCounters {
     fn zero() -> Self {
         ShardCounters {
+            evicted_beyond: AtomicUsize::new(0),
             len: AtomicUsize::new(0),
             evicted_len: AtomicUsize::new(0),
-            evicted_beyond: AtomicUsize::new(0),
         }
     }
 
@@ -104,14 +104,14 @@ impl ShardCounters {
 #[derive(Drop)]
 struct Shard<T, const N: usize> {
     counts: ShardCounters,
-    lock: ShortLock<Locked<T, N>>,
+    lock: ShortMutex<Locked<T, N>>,
 }
 
 impl<T, const N: usize> Shard<T, N> {
     fn new(locked: Locked<T, N>) -> Self {
         Shard {
             counts: ShardCounters::zero(),
-            lock: ShortLock::new(locked),
+            lock: ShortMutex::new(locked),
         }
     }
 }
@@ -244,7 +244,7 @@ impl<T, const N: usize> Lru<T, N> {
         requires { shard < N }
         ensures { result ≤ cap_of N }
     {
-        self.units[shard].lock.read(rt).totals().weight
+        self.units[shard].lock.lock(rt).totals().weight
     }
 
     /// Calls a closure with the data and the weight of each row of a shard, most recent first, under the
@@ -253,19 +253,19 @@ impl<T, const N: usize> Lru<T, N> {
         requires shard { shard < N }
         requires visit { F.IsAlwaysCallable visit }
     {
-        self.units[shard].lock.read(rt).visit(visit);
+        self.units[shard].lock.lock(rt).visit(visit);
     }
 
     /// Whether a key has a row.
     pub fn peek(&self, rt: &impl Wait, key: u64) -> bool {
-        self.units[self.shard_of(key)].lock.read(rt).holds(key)
+        self.units[self.shard_of(key)].lock.lock(rt).holds(key)
     }
 
     /// The weight of a key.
     pub fn peek_weight(&self, rt: &impl Wait, key: u64) -> Option<usize>
         ensures { IfSome result (λ weight. weight ≤ cap_of N) }
     {
-        self.units[self.shard_of(key)].lock.read(rt).weight_at(key)
+        self.units[self.shard_of(key)].lock.lock(rt).weight_at(key)
     }
 
     /// The data, cloned, and the weight of the row of a shard that was used longest ago; `None` of an empty
@@ -280,7 +280,7 @@ impl<T, const N: usize> Lru<T, N> {
         let Some(unit) = self.units.get(shard) else {
             return Ok(None);
         };
-        unit.lock.read(rt).cloned_last()
+        unit.lock.lock(rt).cloned_last()
     }
 
     /// Makes room for `additional` more rows in a shard; past N it does nothing. Nothing else changes,
@@ -296,7 +296,7 @@ impl<T, const N: usize> Lru<T, N> {
         let Some(unit) = self.units.get(shard) else {
             return Ok(());
         };
-        unit.lock.write(rt).reserve(additional)
+        unit.lock.lock(rt).reserve(additional)
     }
 
     /// Ends all calls, and answers the shards, in their order, with what was counted of them. The keys of each shard are its
@@ -334,11 +334,11 @@ impl<T, const N: usize> Lru<T, N> {
     // Takes the lock of a shard, for a call that may bring a key in. No type says which lock has which shard, so the number is
     // looked at; the first one is the right one.
     #[inline(always)]
-    fn unit_at(&self, rt: &impl Wait, shard: usize) -> RwLockWriteGuard<'_, Locked<T, N>>
+    fn unit_at(&self, rt: &impl Wait, shard: usize) -> MutexGuard<'_, Locked<T, N>>
         requires { shard < N }
-        ensures { (write_guard_value result).number ≡ shard }
+        ensures { (mutex_guard_value result).number ≡ shard }
     {
-        let first = self.units[shard].lock.write(rt);
+        let first = self.units[shard].lock.lock(rt);
         if first.number == shard {
             return first;
         }
@@ -349,12 +349,12 @@ impl<T, const N: usize> Lru<T, N> {
     // As `unit_at`, where the first one was not the right one: never, but that no type says so.
     #[cold]
     #[inline(never)]
-    fn unit_after_another(&self, rt: &impl Wait, shard: usize) -> RwLockWriteGuard<'_, Locked<T, N>>
+    fn unit_after_another(&self, rt: &impl Wait, shard: usize) -> MutexGuard<'_, Locked<T, N>>
         requires { shard < N }
-        ensures { (write_guard_value result).number ≡ shard }
+        ensures { (mutex_guard_value result).number ≡ shard }
     {
         for _ in rt.forever() {
-            let unit = self.units[shard].lock.write(rt);
+            let unit = self.units[shard].lock.lock(rt);
             if unit.number == shard {
                 return unit;
             }
@@ -516,7 +516,7 @@ impl<T: Drop, const N: usize> Lru<T, N> {
         ensures { IfErr result (λ cause. cause ≡ Cause.Weight) }
     {
         let shard = self.shard_of(key);
-        let mut unit = self.units[shard].lock.write(rt);
+        let mut unit = self.units[shard].lock.lock(rt);
         let before = unit.totals();
         let answer = unit.set_weight(key, weight);
         self.note(shard, before, unit.totals());
@@ -525,21 +525,13 @@ impl<T: Drop, const N: usize> Lru<T, N> {
 
     /// Puts a key's row first, and answers whether there is one.
     pub fn promote(&self, rt: &impl Wait, key: u64) -> bool {
-        self.units[self.shard_of(key)].lock.write(rt).promote(key)
+        self.units[self.shard_of(key)].lock.lock(rt).promote(key)
     }
 
-    /// As `LruCore::promote_top_n`. It looks first, together with other readers of the shard, and takes the lock for
-    /// writing only where the row is not among the first `top`.
+    /// As `LruCore::promote_top_n`.
     pub fn promote_top_n(&self, rt: &impl Wait, key: u64, top: usize) -> bool {
-        self.is_among_first(rt, key, top) || self.promote(rt, key)
-    }
-
-    // It lets go of the lock before it returns, so that the caller may take it for writing.
-    fn is_among_first(&self, rt: &impl Wait, key: u64, top: usize) -> bool {
-        self.units[self.shard_of(key)]
-            .lock
-            .read(rt)
-            .is_among_first(key, top)
+        let mut unit = self.units[self.shard_of(key)].lock.lock(rt);
+        unit.is_among_first(key, top) || unit.promote(key)
     }
 
     /// Takes a key's row out, and answers its data and weight. It counts as no eviction.
@@ -547,7 +539,7 @@ impl<T: Drop, const N: usize> Lru<T, N> {
         ensures { IfSome result (λ pair. pair.1 ≤ cap_of N) }
     {
         let shard = self.shard_of(key);
-        let mut unit = self.units[shard].lock.write(rt);
+        let mut unit = self.units[shard].lock.lock(rt);
         let before = unit.totals();
         let answer = unit.remove(key);
         self.note(shard, before, unit.totals());
@@ -568,7 +560,7 @@ impl<T: Drop, const N: usize> Lru<T, N> {
         ensures { IfSome result (λ pair. pair.1 ≤ cap_of N) }
     {
         let counts = &self.units[shard].counts;
-        let mut unit = self.units[shard].lock.write(rt);
+        let mut unit = self.units[shard].lock.lock(rt);
         let (data, weight) = unit.evict()?;
         self.note_eviction(counts, weight);
         Some((data, weight))
@@ -580,7 +572,7 @@ impl<T: Drop, const N: usize> Lru<T, N> {
         ensures { IfSome result (λ pair. pair.1 ≤ cap_of N) }
     {
         let counts = &self.units[shard].counts;
-        let mut unit = self.units[shard].lock.write(rt);
+        let mut unit = self.units[shard].lock.lock(rt);
         let (data, weight) = unit.evict_besides(key)?;
         self.note_eviction(counts, weight);
         Some((data, weight))

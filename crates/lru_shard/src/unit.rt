@@ -145,9 +145,10 @@ fn put_vacant<T: Drop>(rows: &mut Rows<u64, T>, key: u64, data: T, weight: usize
 /// Only `with_capacity`, `reserve` and a call that makes a row for a missing key take memory.
 #[derive(Drop)]
 pub struct LruUnit<T> {
-    rows: Rows<u64, T>,
+    // what calls write comes first: behind a lock it lies beside the lock's own word
     used_weight: usize,
     cap: usize,
+    rows: Rows<u64, T>,
 }
 
 impl<T> Model for LruUnit<T> {

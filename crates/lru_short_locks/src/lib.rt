@@ -9,8 +9,8 @@ pub use short_lock::ShortLock;
 pub use short_mutex::ShortMutex;
 use std::hint;
 
-// How often a lock is tried before the thread waits for it.
-const TRIES: u32 = 16;
+// How often a lock is tried before the thread waits for it: for about as long as it takes to put a thread to sleep and to wake it.
+const TRIES: u32 = 64;
 
 // How many hints to the processor that the thread spins stand between two tries.
 const SPINS: u32 = 8;
