@@ -1,4 +1,5 @@
 pub mod Saving
+pub mod Stages
 pub mod Turns
 pub mod Progress
 pub mod Saves

@@ -1,12 +1,13 @@
 // The file of one shard, saved: it is written under another name, which then becomes the shard's.
 ghost use Rattle.std.specs.FinMap.{get};
-ghost use Rattle.std.specs.Prelude.{◌≢◌, ◌≡◌, ◌↔◌, ℕ, List, Some, IfErr, IfOk, IsErrOf, OnErr, OnOk, string_bytes};
+ghost use Rattle.std.specs.Prelude.{◌≢◌, ◌≡◌, ◌↔◌, ℕ, List, [], Some, IfErr, IfOk, IsErrOf, OnErr, OnOk, string_bytes};
 ghost use Rattle.lru_folder.specs.Blames.{failed_call, blame_of};
 ghost use Rattle.lru_folder.specs.Files.{appended, SomeFront};
 ghost use Rattle.lru_folder.specs.Folder.{HasCause, IsWriting, Passes, written_path};
 ghost use Rattle.lru_folder.specs.Losses.{Loses, writing};
 ghost use Rattle.lru_folder.specs.Places.{folder_of, is_there};
 ghost use Rattle.lru_saving.specs.Saving.{IsSaved, IsStepOf, HasReason, SparesFile};
+ghost use Rattle.lru_saving.specs.Stages.{HoldsFirm, HoldsOpen, IsInPlace};
 ghost use Rattle.lru_saving.specs.Turns.{shard_path, temp_path, Ends, SavesOne, turn_of};
 
 use lru_folder::errors::{ShardFileError, ShardSaveFailure};
@@ -44,6 +45,98 @@ fn write_pieces<F: Folder>(folder: &mut F, bytes: &[u8]) -> Result<(), FolderFau
     Ok(())
 }
 
+// The steps of a save. Each is a function of its own, so that its contract says which stage of the save it leads to, what is
+// safe where it fails, and why it fails, whatever came before it: `start` is the folder as the save began.
+
+/// The first step: the temporary file is there, and holds no bytes.
+fn create_temp<F: Folder>(folder: &mut F, temp: &str) -> Result<(), FolderFault>
+    ensures step { F.meaning.keeps folder.old → (at path bytes : List ℕ) → temp.now ≡ at → at ≢ path
+        → OnOk result (HoldsOpen F.meaning F.opened at path bytes [] folder.old folder.new) }
+    ensures spares { F.meaning.keeps folder.old → (at path bytes : List ℕ) → temp.now ≡ at → at ≢ path
+        → SparesFile F.meaning at path bytes folder.old folder.new }
+    ensures reason { F.meaning.keeps folder.old → (at : List ℕ) → temp.now ≡ at → IfErr result (HasReason
+        (is_there (F.meaning.folders folder.old) (folder_of at)) (F.meaning.faults folder.old) (F.meaning.faults folder.new)) }
+
+    ensures mode { OnOk result (IsWriting (F.opened folder.new)) }
+    ensures last { F.meaning.keeps folder.old → OnErr result (F.meaning.last_call folder.new ≡ FolderCall.Create) }
+    ensures places { F.meaning.keeps folder.old → F.meaning.folders folder.new ≡ F.meaning.folders folder.old }
+    ensures kept { F.meaning.keeps folder.old ↔ F.meaning.keeps folder.new }
+{
+    folder.create(temp)
+}
+
+/// The second step: the temporary file holds the bytes.
+fn fill_temp<F: Folder>(folder: &mut F, bytes: &[u8]) -> Result<(), FolderFault>
+    requires { IsWriting (F.opened folder.old) }
+
+    ensures step { (temp path : List ℕ) (start : F) → HoldsOpen F.meaning F.opened temp path bytes.now [] start folder.old
+        → OnOk result (HoldsOpen F.meaning F.opened temp path bytes.now bytes.now start folder.new) }
+    ensures spares { (temp path : List ℕ) (start : F) → HoldsOpen F.meaning F.opened temp path bytes.now [] start folder.old
+        → SparesFile F.meaning temp path bytes.now start folder.new }
+    ensures reason { (temp path : List ℕ) (start : F) → HoldsOpen F.meaning F.opened temp path bytes.now [] start folder.old → IfErr result (HasReason
+        (is_there (F.meaning.folders start) (folder_of temp)) (F.meaning.faults start) (F.meaning.faults folder.new)) }
+
+    ensures mode { F.opened folder.new ≡ F.opened folder.old }
+    ensures last { F.meaning.keeps folder.old → OnErr result (F.meaning.last_call folder.new ≡ FolderCall.Write) }
+    ensures places { F.meaning.keeps folder.old → F.meaning.folders folder.new ≡ F.meaning.folders folder.old }
+    ensures kept { F.meaning.keeps folder.old ↔ F.meaning.keeps folder.new }
+{
+    write_pieces(folder, bytes)
+}
+
+/// The third step: they are passed on.
+fn flush_temp<F: Folder>(folder: &mut F) -> Result<(), FolderFault>
+    requires { IsWriting (F.opened folder.old) }
+
+    ensures step { (temp path bytes : List ℕ) (start : F) → HoldsOpen F.meaning F.opened temp path bytes bytes start folder.old
+        → OnOk result (HoldsOpen F.meaning F.opened temp path bytes bytes start folder.new) }
+    ensures spares { (temp path bytes : List ℕ) (start : F) → HoldsOpen F.meaning F.opened temp path bytes bytes start folder.old
+        → SparesFile F.meaning temp path bytes start folder.new }
+    ensures reason { (temp path bytes : List ℕ) (start : F) → HoldsOpen F.meaning F.opened temp path bytes bytes start folder.old → IfErr result (HasReason
+        (is_there (F.meaning.folders start) (folder_of temp)) (F.meaning.faults start) (F.meaning.faults folder.new)) }
+
+    ensures mode { F.opened folder.new ≡ F.opened folder.old }
+    ensures last { F.meaning.keeps folder.old → OnErr result (F.meaning.last_call folder.new ≡ FolderCall.Flush) }
+    ensures places { F.meaning.keeps folder.old → F.meaning.folders folder.new ≡ F.meaning.folders folder.old }
+    ensures kept { F.meaning.keeps folder.old ↔ F.meaning.keeps folder.new }
+{
+    folder.flush()
+}
+
+/// The fourth step: a loss of power no longer changes them.
+fn sync_temp<F: Folder>(folder: &mut F) -> Result<(), FolderFault>
+    requires { IsWriting (F.opened folder.old) }
+
+    ensures step { (temp path bytes : List ℕ) (start : F) → HoldsOpen F.meaning F.opened temp path bytes bytes start folder.old
+        → OnOk result (HoldsFirm F.meaning temp path bytes start folder.new) }
+    ensures spares { (temp path bytes : List ℕ) (start : F) → HoldsOpen F.meaning F.opened temp path bytes bytes start folder.old
+        → SparesFile F.meaning temp path bytes start folder.new }
+    ensures reason { (temp path bytes : List ℕ) (start : F) → HoldsOpen F.meaning F.opened temp path bytes bytes start folder.old → IfErr result (HasReason
+        (is_there (F.meaning.folders start) (folder_of temp)) (F.meaning.faults start) (F.meaning.faults folder.new)) }
+
+    ensures last { F.meaning.keeps folder.old → OnErr result (F.meaning.last_call folder.new ≡ FolderCall.Sync) }
+    ensures places { F.meaning.keeps folder.old → F.meaning.folders folder.new ≡ F.meaning.folders folder.old }
+    ensures kept { F.meaning.keeps folder.old ↔ F.meaning.keeps folder.new }
+{
+    folder.sync()
+}
+
+/// The last step: the temporary file becomes the file.
+fn rename_temp<F: Folder>(folder: &mut F, temp: &str, path: &str) -> Result<(), FolderFault>
+    ensures step { (from to bytes : List ℕ) (start : F) → temp.now ≡ from → path.now ≡ to → HoldsFirm F.meaning from to bytes start folder.old
+        → OnOk result (IsInPlace F.meaning from to bytes start folder.new) }
+    ensures spares { (from to bytes : List ℕ) (start : F) → temp.now ≡ from → path.now ≡ to → HoldsFirm F.meaning from to bytes start folder.old
+        → SparesFile F.meaning from to bytes start folder.new }
+    ensures reason { (from to bytes : List ℕ) (start : F) → temp.now ≡ from → HoldsFirm F.meaning from to bytes start folder.old → IfErr result (HasReason
+        (is_there (F.meaning.folders start) (folder_of from)) (F.meaning.faults start) (F.meaning.faults folder.new)) }
+
+    ensures last { F.meaning.keeps folder.old → OnErr result (F.meaning.last_call folder.new ≡ FolderCall.Rename) }
+    ensures places { F.meaning.keeps folder.old → F.meaning.folders folder.new ≡ F.meaning.folders folder.old }
+    ensures kept { F.meaning.keeps folder.old ↔ F.meaning.keeps folder.new }
+{
+    folder.rename(temp, path)
+}
+
 /// Saves the bytes under the temporary path, which then becomes the file's. They are synced before that, so that a loss of
 /// power finds no file under its name whose bytes it can still change. A fault leaves the temporary file as it is.
 pub(crate) fn save_file<F: Folder>(
@@ -72,19 +165,19 @@ pub(crate) fn save_file<F: Folder>(
     ensures places { F.meaning.keeps folder.old → F.meaning.folders folder.new ≡ F.meaning.folders folder.old }
     ensures kept { F.meaning.keeps folder.old ↔ F.meaning.keeps folder.new }
 {
-    if let Err(source) = folder.create(&temp) {
+    if let Err(source) = create_temp(folder, &temp) {
         return Err(ShardFileError::Create { path: temp, source });
     }
-    if let Err(source) = write_pieces(folder, bytes) {
+    if let Err(source) = fill_temp(folder, bytes) {
         return Err(ShardFileError::Write { path: temp, source });
     }
-    if let Err(source) = folder.flush() {
+    if let Err(source) = flush_temp(folder) {
         return Err(ShardFileError::Flush { path: temp, source });
     }
-    if let Err(source) = folder.sync() {
+    if let Err(source) = sync_temp(folder) {
         return Err(ShardFileError::Sync { path: temp, source });
     }
-    if let Err(source) = folder.rename(&temp, &path) {
+    if let Err(source) = rename_temp(folder, &temp, &path) {
         return Err(ShardFileError::Rename {
             from: temp,
             to: path,
