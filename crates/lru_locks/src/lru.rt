@@ -69,7 +69,8 @@ fn stepped(counter: &AtomicUsize, before: usize, after: usize, read: usize) -> u
 // What is counted of one shard.
 #[derive(Drop)]
 struct ShardCounters {
-    // by how much the rows evicted from it so far weighed more than 1 each: so an eviction of rows of weight 1 is one atomic step
+    // by how much the rows evicted from it so far weighed more than 1 each: so an eviction of rows of weight 1 is one
+    // atomic step
     evicted_beyond: AtomicUsize,
     // how many rows it has
     len: AtomicUsize,
