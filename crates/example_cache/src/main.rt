@@ -9,7 +9,7 @@
 #![tactic(auto)]
 
 use lru_cache::cache::Cache;
-use lru_captures::caches::{capture_cache, restore_cache};
+use lru_cache_captures::caches::{capture_cache, restore_cache};
 use lru_checkpoints::errors::{CheckpointError, CheckpointFile};
 use lru_checkpoints::loading::load_checkpoint;
 use lru_generations::generations::save;

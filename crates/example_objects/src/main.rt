@@ -14,11 +14,11 @@
 
 mod store;
 
-use lru_captures::cores::{capture_core, restore_shard};
 use lru_checkpoints::errors::{CheckpointError, CheckpointFile};
 use lru_checkpoints::loading::load_checkpoint;
 use lru_generations::generations::save;
 use lru_host_folder::host_folder::HostFolder;
+use lru_order_captures::cores::{capture_core, restore_shard};
 use rand::rngs::StdRng;
 use rand_core::SeedableRng;
 use std::env::Env;

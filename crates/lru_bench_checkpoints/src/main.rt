@@ -6,12 +6,12 @@
 //! making. Without arguments it makes 10 000 rows, and no line says how long.
 #![tactic(auto)]
 
-use lru_captures::cores::restore_shard;
 use lru_checkpoints::loading::load_checkpoint;
 use lru_cores::lru_core::LruCore;
 use lru_frames::row::Row;
 use lru_generations::generations::save;
 use lru_host_folder::host_folder::HostFolder;
+use lru_order_captures::cores::restore_shard;
 use std::alloc::{AllocError, Global};
 use std::env::Env;
 use std::process::ExitCode;

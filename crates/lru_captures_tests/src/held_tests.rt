@@ -1,11 +1,11 @@
 //! A save that is held holds up no call: what it writes was copied before.
-use lru_captures::locks::capture_lru;
 use lru_checkpoints::errors::CheckpointError;
 use lru_checkpoints::loading::load_checkpoint;
 use lru_folder::folder::Folder;
 use lru_generations::generations::save;
 use lru_locks::lru::Lru;
 use lru_memory_folder::memory_folder::MemoryFolder;
+use lru_order_captures::locks::capture_lru;
 use std::alloc::Global;
 use std::sync::Wait;
 use std::sync::atomic::{AtomicBool, Ordering};

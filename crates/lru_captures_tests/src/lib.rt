@@ -1,4 +1,4 @@
-//! Tests of `lru_captures`: rows come back as they stood, and a save that is held holds up no call.
+//! Tests of `lru_cache_captures` and `lru_order_captures`: rows come back as they stood, and a save that is held holds up no call.
 #![tactic(auto)]
 
 #[cfg(test)]

@@ -1,6 +1,6 @@
 //! Rows captured, saved, loaded and put back.
 use lru_cache::cache::Cache;
-use lru_captures::{caches, cores, locks, shared, snapshots};
+use lru_cache_captures::{caches, shared};
 use lru_checkpoints::errors::CheckpointError;
 use lru_checkpoints::loading::load_checkpoint;
 use lru_cores::lru_core::LruCore;
@@ -10,6 +10,7 @@ use lru_frames::stored::Stored;
 use lru_generations::generations::save;
 use lru_locks::lru::Lru;
 use lru_memory_folder::memory_folder::MemoryFolder;
+use lru_order_captures::{cores, locks, snapshots};
 use lru_shared::shared::SharedCache;
 use std::alloc::{AllocError, Global};
 use std::sync::Wait;

@@ -1,6 +1,6 @@
 // A shared cache of texts, whose clones take memory too.
 use crate::saves::{Shards, folder, is_saved, loaded, text, write_rows};
-use lru_captures::shared::{capture_shared, restore_shard};
+use lru_cache_captures::shared::{capture_shared, restore_shard};
 use lru_memory_folder::memory_folder::MemoryFolder;
 use lru_shared::shared::SharedCache;
 use std::alloc::{AllocError, Global};

@@ -1,10 +1,10 @@
 // A core whose data are texts, and a snapshot of keys and weights.
 use crate::saves::{Shards, folder, is_saved, loaded, text, write_rows};
-use lru_captures::cores::{capture_core, restore_shard};
-use lru_captures::snapshots::snapshot_rows;
 use lru_cores::lru_core::LruCore;
 use lru_frames::row::Row;
 use lru_memory_folder::memory_folder::MemoryFolder;
+use lru_order_captures::cores::{capture_core, restore_shard};
+use lru_order_captures::snapshots::snapshot_rows;
 use std::alloc::{AllocError, Global};
 use std::io;
 use std::io::Write;

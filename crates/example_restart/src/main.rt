@@ -1,0 +1,236 @@
+//! Example: threads that share a cache of texts, which is there again at the next start.
+//!
+//! Each line of the input is a request, `NAME SIZE`. Four threads answer them: a value that the cache lacks is made once, however
+//! many ask for it at the same time, and put with that many bytes. The entries that were used longest ago go until the budget, the
+//! first argument, is kept. At the end the cache is saved as a checkpoint, whole or not at all, and at the start it is loaded
+//! from the folder that the second argument names.
+//!
+//! No budget or folder, or a bad line: a line that says which, and status 2. A checkpoint that was not loaded or saved: a line
+//! that says why, and status 1; a damaged one is left as it is.
+#![tactic(auto)]
+
+use lru_cache_captures::shared::{capture_shared, restore_shard};
+use lru_checkpoints::errors::{CheckpointError, CheckpointFile};
+use lru_checkpoints::loading::load_checkpoint;
+use lru_frames::row::Row;
+use lru_generations::generations::save;
+use lru_host_folder::host_folder::HostFolder;
+use lru_shared::shared::SharedCache;
+use std::alloc::{AllocError, Global};
+use std::io::ErrorKind;
+use std::process::ExitCode;
+use std::sync::Wait;
+use std::sync::atomic::{AtomicU64, Ordering};
+use std::thread::Threads;
+use std::{env, io, thread};
+
+const THREADS: usize = 4;
+
+const NAME: &str = "pages";
+
+/// The length of a page by its name. A key has a `Default`, which a `String` has not.
+type Pages = SharedCache<Option<String>, u64, 2>;
+
+/// A name and a number of bytes.
+#[derive(Drop)]
+struct Request {
+    name: String,
+    size: usize,
+}
+
+fn request_of(alloc: Global, line: &str) -> Option<Request> {
+    let (name, size) = line.split_once(' ')?;
+    let size = size.parse().ok()?;
+    Some(Request {
+        name: String::from_str(alloc, name).ok()?,
+        size,
+    })
+}
+
+/// The requests of the input; none where a line is not one.
+fn read(rt: HostRuntime) -> io::Result<Option<Vec<Request>>> {
+    let mut requests = Vec::new(rt.alloc());
+    for line in rt.lines(rt.alloc()) {
+        let request = match line {
+            Err(error) if error.kind() != ErrorKind::InvalidData => return Err(error),
+            line => line.ok().and_then(|line| request_of(rt.alloc(), &line)),
+        };
+        let Some(request) = request else {
+            return Ok(None);
+        };
+        add(&mut requests, request)?;
+    }
+    Ok(Some(requests))
+}
+
+fn add(requests: &mut Vec<Request>, request: Request) -> Result<(), AllocError> {
+    Ok(requests.push(request)?)
+}
+
+/// Answers every fourth request, from this one on: how many values it made.
+fn answer<R: Wait>(rt: &R, pages: &Pages, requests: &[Request], first: usize) -> u64 {
+    let made = AtomicU64::new(0);
+    for (at, request) in requests.iter().enumerate() {
+        if at % THREADS == first {
+            look_up(rt, pages, &made, request);
+        }
+    }
+    made.load(Ordering::SeqCst)
+}
+
+fn look_up<R: Wait>(rt: &R, pages: &Pages, made: &AtomicU64, request: &Request) {
+    let Ok(name) = request.name.clone() else {
+        return;
+    };
+    // (what stands for the work that a missing page costs)
+    let make = || {
+        made.fetch_add(1, Ordering::SeqCst);
+        Ok::<_, ()>((request.size as u64, request.size))
+    };
+    // A page that was refused, as one heavier than a shard may be, is made again for the next who asks.
+    let _ = pages.get_or_put_with(rt, Some(name), make, |_gone| {});
+}
+
+/// Puts back what the last run saved, if there was one.
+fn load<R: Wait>(
+    rt: &R,
+    alloc: Global,
+    folder: &mut HostFolder<HostRuntime>,
+    dir: &str,
+    pages: &Pages,
+) -> Result<(), CheckpointError> {
+    let file = CheckpointFile::Manifest;
+    let checkpoint = match load_checkpoint::<_, String, u64>(alloc, folder, dir, NAME) {
+        Ok(checkpoint) => checkpoint,
+        Err(error) if error == (CheckpointError::Missing { file }) => return Ok(()),
+        Err(error) => return Err(error),
+    };
+    for rows in checkpoint.shards {
+        put_back(rt, alloc, pages, rows)?;
+    }
+    Ok(())
+}
+
+/// Puts back the entries of one shard. Under a smaller budget those go that were used longest ago.
+fn put_back<R: Wait>(
+    rt: &R,
+    alloc: Global,
+    pages: &Pages,
+    rows: Vec<Row<String, u64>>,
+) -> Result<(), CheckpointError> {
+    let rows = keyed(alloc, rows)?;
+    match restore_shard(rt, pages, rows) {
+        Ok(_) => Ok(()),
+        Err(_) => Err(CheckpointError::Memory),
+    }
+}
+
+/// The rows with keys as the cache has them.
+fn keyed(
+    alloc: Global,
+    rows: Vec<Row<String, u64>>,
+) -> Result<Vec<Row<Option<String>, u64>>, AllocError> {
+    let mut keyed = Vec::with_capacity(alloc, rows.len())?;
+    for row in rows {
+        keyed.push(Row {
+            key: Some(row.key),
+            data: row.data,
+            weight: row.weight,
+        })?;
+    }
+    Ok(keyed)
+}
+
+/// The rows with the names themselves for keys, as a checkpoint has them.
+fn named(
+    alloc: Global,
+    rows: Vec<Row<Option<String>, u64>>,
+) -> Result<Vec<Row<String, u64>>, AllocError> {
+    let mut named = Vec::with_capacity(alloc, rows.len())?;
+    for row in rows {
+        let Row { key, data, weight } = row;
+        if let Some(key) = key {
+            named.push(Row { key, data, weight })?;
+        }
+    }
+    Ok(named)
+}
+
+/// Copies of the entries of each shard, as a checkpoint has them.
+fn copy<R: Wait>(
+    rt: &R,
+    alloc: Global,
+    pages: &Pages,
+) -> Result<Vec<Vec<Row<String, u64>>>, AllocError> {
+    let mut shards = Vec::new(alloc);
+    for rows in capture_shared(rt, alloc, pages)? {
+        shards.push(named(alloc, rows)?)?;
+    }
+    Ok(shards)
+}
+
+/// Saves the entries: put back, those of each shard stand as they stood.
+fn keep<R: Print + Wait>(
+    rt: &R,
+    alloc: Global,
+    folder: &mut HostFolder<HostRuntime>,
+    dir: &str,
+    pages: &Pages,
+) -> io::Result<ExitCode> {
+    let shards = copy(rt, alloc, pages)?;
+    match save(alloc, folder, dir, NAME, &shards) {
+        Ok(saved) => println!(rt; "saved as generation {}", saved.generation)?,
+        Err(error) => {
+            println!(rt; "not saved: {error}")?;
+            return Ok(ExitCode::from(1));
+        }
+    }
+    Ok(ExitCode::SUCCESS)
+}
+
+/// Answers the requests on threads: how many values were made.
+fn serve<R: Threads + Wait + Sync>(
+    rt: &R,
+    alloc: Global,
+    pages: &Pages,
+    requests: &[Request],
+) -> Result<u64, AllocError> {
+    let made = thread::map_indices(
+        rt,
+        alloc,
+        THREADS,
+        &|number| { answer(rt, pages, requests, number) },
+    )?;
+    let mut sum = 0u64;
+    for made in made {
+        sum = sum.saturating_add(made);
+    }
+    Ok(sum)
+}
+
+fn main(rt: HostRuntime) -> io::Result<ExitCode> {
+    let mut words = env::args(&rt)?.skip(1);
+    let budget = words.next().and_then(|word| word.parse().ok());
+    let (Some(budget), Some(dir)) = (budget, words.next()) else {
+        println!(rt; "usage: example_restart BUDGET FOLDER")?;
+        return Ok(ExitCode::from(2));
+    };
+    let Some(requests) = read(rt)? else {
+        println!(rt; "error: not a request")?;
+        return Ok(ExitCode::from(2));
+    };
+    let mut folder = HostFolder::new(rt);
+    let pages = Pages::new(rt.alloc(), budget, usize::MAX)?;
+    if let Err(error) = load(&rt, rt.alloc(), &mut folder, &dir, &pages) {
+        println!(rt; "not loaded: {error}")?;
+        return Ok(ExitCode::from(1));
+    }
+    println!(rt; "{} pages are here", pages.len(&rt))?;
+    let made = serve(&rt, rt.alloc(), &pages, &requests)?;
+    println!(rt;
+        "{} requests, {made} pages made, {} bytes",
+        requests.len(),
+        pages.weight(&rt)
+    )?;
+    keep(&rt, rt.alloc(), &mut folder, &dir, &pages)
+}

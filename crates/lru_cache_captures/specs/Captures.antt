@@ -1,0 +1,31 @@
+-- Entries copied out of a cache, and put back.
+use Rattle.std.specs.Prelude.{◌≡◌, ◌⊎◌, ℕ, suc, cond, Bool, true, false, List, [], ◌∷◌, ◌-◌, Result, Ok, Err}
+use Rattle.lru_frames.specs.declared.row.Row.{Row}
+use Rattle.lru_entries.specs.declared.entry.Entry.{Entry}
+use Rattle.lru_cache.specs.declared.cache.Cause.TheVariants.{TooHeavy}
+use Rattle.lru_cache.specs.declared.cache.Refused as cached
+use Rattle.lru_cache.specs.Cache.{Cached, with_entries, without, Leaves, MayRefuse}
+use Rattle.lru_entries.specs.Entries.{entry}
+
+module _ {K V : Type 0} (eq : K → K → Bool) where
+  -- an entry is put first, and the shortest end of the others goes that has to
+  abbrev pub PutsEntry : Cached K V → Row K V → Cached K V → Type 0
+  PutsEntry old row new = (front : List (Entry K V)) × ((gone : List (Entry K V))
+      × (Leaves (old.most_weight - row.weight) (old.most_entries - 1) (without eq old.entries row.key) front gone × (new ≡ with_entries old (entry row.key row.data row.weight ∷ front))))
+
+  -- an entry is refused, and nothing changes
+  abbrev pub RefusesEntry : Cached K V → Row K V → cached.Refused K V → Cached K V → Type 0
+  RefusesEntry old row refused new = MayRefuse eq old row.key row.weight refused.cause × ((refused.key ≡ row.key) × ((refused.value ≡ row.data) × (new ≡ old)))
+
+  -- an entry is put, or left out where it is too heavy by itself, or refused for another cause
+  abbrev pub PutsOrLeaves : Cached K V → Row K V → Result Bool (cached.Refused K V) → Cached K V → Type 0
+  PutsOrLeaves old row (Ok false) new = PutsEntry old row new
+  PutsOrLeaves old row (Ok true) new = MayRefuse eq old row.key row.weight TooHeavy × (new ≡ old)
+  PutsOrLeaves old row (Err refused) new = (refused.cause ≡ TooHeavy → ⊥) × RefusesEntry old row refused new
+
+  -- entries are put one after the other, up to the first that is refused; those that are left out are counted on from a number
+  abbrev pub PutsEntries : Cached K V → List (Row K V) → ℕ → Result ℕ (cached.Refused K V) → Cached K V → Type 0
+  PutsEntries old [] left answer new = (answer ≡ Ok left) × (new ≡ old)
+  PutsEntries old (row ∷ rows) left answer new =
+      ((is_left : Bool) × ((mid : Cached K V) × (PutsOrLeaves old row (Ok is_left) mid × PutsEntries mid rows (cond is_left (suc left) left) answer new)))
+      ⊎ ((refused : cached.Refused K V) × ((answer ≡ Err refused) × PutsOrLeaves old row (Err refused) new))

@@ -1,0 +1,33 @@
+-- Rows copied out of the shards of an order, and put back.
+use Rattle.std.specs.Prelude.{◌≡◌, ◌⊎◌, ℕ, Bool, List, [], ◌∷◌, map, Result, Ok, Err, Vec}
+use Rattle.std.specs.declared.alloc.Global.{Global}
+use Rattle.lru_frames.specs.declared.row.Row.{Row}
+use Rattle.lru_copies.specs.Copies.{AreEach}
+use Rattle.lru_shard.specs.declared.unit.Refused.{Refused}
+use Rattle.lru_shard.specs.Row as order
+use Rattle.lru_cores.specs.Core.{Core}
+use Rattle.lru_cores.specs.CoreCalls.{CoreInsertsTail}
+
+module _ {V : Type 0} where
+  module _ (IsClone : V → V → Type 0) where
+    -- a row with the pair's key, a clone of its value, and the weight
+    abbrev pub IsCopy : (ℕ × V) × ℕ → Row ℕ V → Type 0
+    IsCopy pair row = (row.key ≡ pair.0.0) × (IsClone pair.0.1 row.data × (row.weight ≡ pair.1))
+
+    -- copies of the rows of one shard
+    abbrev pub AreCopies : List (order.Row (ℕ × V)) → Vec (Row ℕ V) Global → Type 0
+    AreCopies list rows = AreEach IsCopy (map order.pair_of list) rows.items
+
+    -- and of those of each shard
+    abbrev pub IsCaptureOf : Core (ℕ × V) → List (Vec (Row ℕ V) Global) → Type 0
+    IsCaptureOf core shards = AreEach AreCopies core.lists shards
+
+  -- a row put last in the shard of its key
+  abbrev pub PutsRow : Core (ℕ × V) → Row ℕ V → Result Bool (Refused (ℕ × V)) → Core (ℕ × V) → Type 0
+  PutsRow old row answer new = CoreInsertsTail old row.key (row.key, row.data) row.weight answer new
+
+  -- rows put one after the other, up to the first that is refused
+  abbrev pub PutsEach : Core (ℕ × V) → List (Row ℕ V) → Result (Unit {0}) (Refused (ℕ × V)) → Core (ℕ × V) → Type 0
+  PutsEach old [] answer new = (answer ≡ Ok tt) × (new ≡ old)
+  PutsEach old (row ∷ rows) answer new = ((mid : Core (ℕ × V)) × ((added : Bool) × (PutsRow old row (Ok added) mid × PutsEach mid rows answer new)))
+      ⊎ ((refused : Refused (ℕ × V)) × ((answer ≡ Err refused) × PutsRow old row (Err refused) new))
