@@ -1,5 +1,5 @@
 //! An index over keys that stand in a vector.
-use crate::table::{Rows, add, add_colliding, add_steps, longest, no_rows, take};
+use crate::table::{Rows, add, add_colliding, add_steps, longest, no_rows, take, take_at, take_by};
 use lru_index::place_index::PlaceIndex;
 use std::alloc::{AllocError, Global};
 use std::hash::{BuildHasher, Hasher};
@@ -81,6 +81,37 @@ fn finds_texts(rt: HostRuntime) -> Result<(), Fail> {
     assert_eq!(rt; index.find(&rows, &two), Some(2));
     assert_eq!(rt; take(&mut rows, &mut index, &two), Some(2));
     assert_eq!(rt; index.find(&rows, &two), None);
+    Ok(())
+}
+
+#[test]
+fn takes_by_what_stands_for_a_key_and_by_place(rt: HostRuntime) -> Result<(), Fail> {
+    let mut rows = no_rows(rt.alloc())?;
+    let mut index = PlaceIndex::with_capacity(rt.alloc(), 0)?;
+    add(
+        &mut rows,
+        &mut index,
+        Some(String::from_str(rt.alloc(), "one")?),
+    )?;
+    add(
+        &mut rows,
+        &mut index,
+        Some(String::from_str(rt.alloc(), "two")?),
+    )?;
+    add(
+        &mut rows,
+        &mut index,
+        Some(String::from_str(rt.alloc(), "three")?),
+    )?;
+    let taken = (
+        take_by(&mut rows, &mut index, Some("two")),
+        take_by(&mut rows, &mut index, Some("two")),
+        take_at(&mut rows, &mut index, 3),
+        take_at(&mut rows, &mut index, 3),
+    );
+    assert_eq!(rt; taken, (Some(2), None, true, false));
+    let left = ["one", "two", "three"].map(|name| index.find_by(&rows, Some(name)));
+    assert_eq!(rt; left, [Some(1), None, None]);
     Ok(())
 }
 

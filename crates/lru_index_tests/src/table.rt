@@ -6,7 +6,7 @@ ghost use Rattle.lru_index.specs.Index.{Indexes};
 ghost use Rattle.lru_index_tests.specs.Rows.{key_in};
 
 use lru_index::hashing::SeededHashes;
-use lru_index::keys::Keys;
+use lru_index::keys::{Keys, Query};
 use lru_index::place_index::PlaceIndex;
 use std::alloc::{AllocError, Global};
 use std::cell::Cell;
@@ -96,6 +96,37 @@ pub fn take<K: Hash + Drop, S: BuildHasher>(
     let place = index.remove(&*rows, key)?;
     rows.keys[place as usize] = None;
     Some(place)
+}
+
+/// Takes away the key that something stands for, and answers the place that it had.
+pub fn take_by<K: Hash + Drop, Q: Query<K>, S: BuildHasher>(
+    rows: &mut Rows<K>,
+    index: &mut PlaceIndex<S>,
+    query: Q,
+) -> Option<u32>
+    requires { Indexes K.eq (key_hash S.BuildHasher S.Hasher.Hasher K.hash_input) index.old (key_in rows.old.keys.items) }
+    ensures { Indexes K.eq (key_hash S.BuildHasher S.Hasher.Hasher K.hash_input) index.new (key_in rows.new.keys.items) }
+{
+    let place = index.remove_by(&*rows, query)?;
+    rows.keys[place as usize] = None;
+    Some(place)
+}
+
+/// Takes away the key of a place. Whether it has one.
+pub fn take_at<K: Hash + Drop, S: BuildHasher>(
+    rows: &mut Rows<K>,
+    index: &mut PlaceIndex<S>,
+    place: u32,
+) -> bool
+    requires { Indexes K.eq (key_hash S.BuildHasher S.Hasher.Hasher K.hash_input) index.old (key_in rows.old.keys.items) }
+    ensures { Indexes K.eq (key_hash S.BuildHasher S.Hasher.Hasher K.hash_input) index.new (key_in rows.new.keys.items) }
+{
+    let Some(Some(key)) = rows.keys.get(place as usize) else {
+        return false;
+    };
+    index.remove_at(key, place);
+    rows.keys[place as usize] = None;
+    true
 }
 
 /// The most keys that are read to find one that is there: the length of the longest chain.
