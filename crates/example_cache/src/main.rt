@@ -85,6 +85,27 @@ fn ask(rt: HostRuntime, cache: &mut Cache<u64, u64>, key: u64, size: usize) -> i
     Ok(false)
 }
 
+/// Answers the requests of the input, and says how many were hits. Whether each line was a request: the first that is none ends
+/// it, with a line that says so.
+fn serve(rt: HostRuntime, cache: &mut Cache<u64, u64>) -> io::Result<bool> {
+    let (mut hits, mut misses) = (0u64, 0u64);
+    for line in rt.lines(rt.alloc()) {
+        let request = match line {
+            Err(error) if error.kind() != ErrorKind::InvalidData => return Err(error),
+            line => line.ok().and_then(|line| request_of(&line)),
+        };
+        let Some((key, size)) = request else {
+            println!(rt; "error: not a request")?;
+            return Ok(false);
+        };
+        let is_hit = ask(rt, cache, key, size)?;
+        hits = hits.saturating_add(is_hit as u64);
+        misses = misses.saturating_add(!is_hit as u64);
+    }
+    println!(rt; "{hits} hits, {misses} misses, {} bytes", cache.weight())?;
+    Ok(true)
+}
+
 fn main(rt: HostRuntime) -> io::Result<ExitCode> {
     let mut words = env::args(&rt)?.skip(1);
     let Some(budget) = words.next().and_then(|word| word.parse().ok()) else {
@@ -98,20 +119,8 @@ fn main(rt: HostRuntime) -> io::Result<ExitCode> {
         return Ok(ExitCode::from(1));
     }
     println!(rt; "{} entries are here", cache.len())?;
-    let (mut hits, mut misses) = (0u64, 0u64);
-    for line in rt.lines(rt.alloc()) {
-        let request = match line {
-            Err(error) if error.kind() != ErrorKind::InvalidData => return Err(error),
-            line => line.ok().and_then(|line| request_of(&line)),
-        };
-        let Some((key, size)) = request else {
-            println!(rt; "error: not a request")?;
-            return Ok(ExitCode::from(2));
-        };
-        let is_hit = ask(rt, &mut cache, key, size)?;
-        hits = hits.saturating_add(is_hit as u64);
-        misses = misses.saturating_add(!is_hit as u64);
+    if !serve(rt, &mut cache)? {
+        return Ok(ExitCode::from(2));
     }
-    println!(rt; "{hits} hits, {misses} misses, {} bytes", cache.weight())?;
     keep(rt, &mut folder, &cache)
 }
