@@ -1,5 +1,5 @@
 //! How an order served by actors is made.
-ghost use Rattle.std.specs.Prelude.{◌≡◌, ◌<◌, Err, Some, IfOk};
+ghost use Rattle.std.specs.Prelude.{◌≡◌, ◌<◌, [], All, Err, Some, IfOk};
 ghost use Rattle.std.specs.Arc.{arc_value};
 ghost use Rattle.lru_async.specs.Orders.{limits_of, limits_told, order_of, untold};
 ghost use Rattle.lru_sends.specs.declared.refusals.BuildError.TheVariants.{NoCallbackWorkers};
@@ -16,7 +16,7 @@ use lru_shared_ledger::{Blanks, LedgerBox, PutSeat, Registry, TakeSeat};
 use lru_shared_mailbox::Mailbox;
 use lru_world::callback::{AsyncEvictionCallback, Gate, NoGate};
 use lru_world::outlet::Outlet;
-use std::alloc::Global;
+use std::alloc::{AllocError, Global};
 use std::hash::Hash;
 use std::marker::{Brand, PhantomData};
 use std::sync::{Arc, Wait};
@@ -47,6 +47,55 @@ fn want_callback_workers(settings: &Settings) -> Result<(), BuildError>
         return Err(BuildError::NoCallbackWorkers);
     }
     Ok(())
+}
+
+// What speaks for all logs of a blank.
+fn voice_of<E, B: Archive>(alloc: Global, blank: Blank<E>) -> Result<Voice<E, B>, BuildError>
+    requires { blank.tie.table.shared.table_id ≡ B.log }
+    ensures { IfOk result (λ v. v.token ≡ blank.token) }
+{
+    let Blank { tie, token } = blank;
+    match Arc::new(alloc, tie) {
+        Ok(tie) => Ok(Voice::new(tie, token)),
+        Err(_) => Err(BuildError::Memory),
+    }
+}
+
+// A box made of blanks, the outlet that leads into it, and the seats of those who put and of those who take.
+fn ledger_of<K: Drop, B: Registry>(
+    alloc: Global,
+    blanks: Blanks,
+) -> Result<
+    (
+        Arc<LedgerBox<K, B>, Global>,
+        Outlet<K, B>,
+        Vec<PutSeat<B>>,
+        Vec<TakeSeat<B>>,
+    ),
+    BuildError,
+>
+    requires tables { (blanks.puts.tie.table.shared.table_id ≡ B.puts) × (blanks.takes.tie.table.shared.table_id ≡ B.takes) }
+    requires counts { (B.putters ≡ blanks.putters) × (B.takers ≡ blanks.takers) }
+    ensures { IfOk result (λ made. All (λ s. s.share.slips ≡ []) made.2.items) }
+{
+    let (ledger, puts, takes) = LedgerBox::new(alloc, blanks)?;
+    let Ok(ledger) = Arc::new(alloc, ledger) else {
+        return Err(BuildError::Memory);
+    };
+    let outlet = Outlet::Ledger(Arc::try_clone(&ledger)?);
+    Ok((ledger, outlet, puts, takes))
+}
+
+// Lists with room for so many seats.
+fn rooms<B: Registry>(
+    alloc: Global,
+    putters: usize,
+    takers: usize,
+) -> Result<(Vec<PutSeat<B>>, Vec<TakeSeat<B>>), AllocError> {
+    Ok((
+        Vec::with_capacity(alloc, putters)?,
+        Vec::with_capacity(alloc, takers)?,
+    ))
 }
 
 /// Makes an [`AsyncLru`]. Each setter answers the builder with one setting changed.
@@ -213,11 +262,7 @@ impl<
     {
         want_callback_workers(&self.settings)?;
         let alloc = self.alloc;
-        let Blank { tie, token } = blank;
-        let Ok(tie) = Arc::new(alloc, tie) else {
-            return Err(BuildError::Memory);
-        };
-        let logs = Some(Voice::new(tie, token));
+        let logs = Some(voice_of(alloc, blank)?);
         let puts: Vec<PutSeat<B>> = Vec::new(alloc);
         let takes: Vec<TakeSeat<B>> = Vec::new(alloc);
         let outlet = Outlet::Mailbox(Mailbox::new(alloc));
@@ -240,13 +285,8 @@ impl<
     {
         let alloc = self.alloc;
         let takers = self.settings.num_callback_workers;
-        let (ledger, puts, takes) = LedgerBox::new(alloc, blanks)?;
-        let Ok(ledger) = Arc::new(alloc, ledger) else {
-            return Err(BuildError::Memory);
-        };
-        let room_for_puts = Vec::with_capacity(alloc, N)?;
-        let room_for_takes = Vec::with_capacity(alloc, takers)?;
-        let outlet = Outlet::Ledger(Arc::try_clone(&ledger)?);
+        let (room_for_puts, room_for_takes) = rooms(alloc, N, takers)?;
+        let (ledger, outlet, puts, takes) = ledger_of::<K, B>(alloc, blanks)?;
         let lru = launch::<K, C, N, G, R, B>(rt, alloc, self, None, outlet, puts, takes)?;
         Ok(LedgerLru::new(lru, ledger, takers, room_for_puts, room_for_takes))
     }
@@ -273,16 +313,8 @@ impl<
         ensures { IfOk result (λ made. limits_of made.0 ≡ limits_told self.settings) }
     {
         let alloc = self.alloc;
-        let Blank { tie, token } = blank;
-        let Ok(tie) = Arc::new(alloc, tie) else {
-            return Err(BuildError::Memory);
-        };
-        let logs = Some(Voice::new(tie, token));
-        let (ledger, puts, takes) = LedgerBox::new(alloc, blanks)?;
-        let Ok(ledger) = Arc::new(alloc, ledger) else {
-            return Err(BuildError::Memory);
-        };
-        let outlet = Outlet::Ledger(Arc::try_clone(&ledger)?);
+        let logs = Some(voice_of(alloc, blank)?);
+        let (ledger, outlet, puts, takes) = ledger_of::<K, B>(alloc, blanks)?;
         let lru = launch::<K, C, N, G, R, B>(rt, alloc, self, logs, outlet, puts, takes)?;
         Ok((lru, ledger))
     }

@@ -1,5 +1,5 @@
 //! How the threads of an order are started.
-ghost use Rattle.std.specs.Prelude.{◌≡◌, ◌+◌, ◌%◌, ◌^◌, ◌<◌, [], All, vec_len, IfOk, OnOk, IsSome};
+ghost use Rattle.std.specs.Prelude.{◌≡◌, ◌+◌, ◌%◌, ◌^◌, ◌<◌, [], All, vec_len, IfOk, OnOk, IsSome, is_some};
 ghost use Rattle.std.specs.Option.{ForSome};
 ghost use Rattle.lru_logs.specs.Logs.{hand, blank_logs, blank_fronts};
 ghost use Rattle.lru_inbox.specs.Inboxes.{taken_in};
@@ -72,6 +72,59 @@ fn actor_of_one<K: Clone + Drop, const N: usize, B: Registry + Archive>(
     Actor::new(alloc, taker, N, capacity, seat)
 }
 
+// An order of empty shards round their world, with room for as many threads as were told, none of which is started.
+fn order_of_none<K: Clone + Drop, const N: usize, B: Registry + Archive>(
+    alloc: Global,
+    settings: &Settings,
+    world: Arc<World<K, B>, Global>,
+) -> Result<AsyncLru<K, N, B>, AllocError>
+    requires some { 0 < N }
+    requires count { vec_len (arc_value world).shards ≡ N }
+    ensures world { IfOk result (λ lru. lru.world ≡ world) }
+    ensures evicting { IfOk result (λ lru. vec_len lru.eviction_workers ≡ 0) }
+    ensures calling { IfOk result (λ lru. vec_len lru.callback_workers ≡ 0) }
+{
+    Ok(AsyncLru {
+        world,
+        alloc,
+        actors: Vec::with_capacity(alloc, N)?,
+        eviction_workers: Vec::with_capacity(alloc, settings.num_eviction_workers)?,
+        callback_workers: Vec::with_capacity(alloc, settings.num_callback_workers)?,
+    })
+}
+
+// An order of empty shards, as it was told, no thread of which is started.
+fn idle<K: Clone + Drop, const N: usize, B: Registry + Archive>(
+    alloc: Global,
+    settings: &Settings,
+    logs: &mut Option<Voice<LruMsg<K>, B>>,
+    seats: Vec<PutSeat<B>>,
+    outlet: Outlet<K, B>,
+) -> Result<AsyncLru<K, N, B>, BuildError>
+    requires some { 0 < N }
+    requires named { IsSome logs.old → B.shards ≡ N }
+    requires logs { ForSome logs.old (λ v. v.token.me ≡ (hand (blank_logs 0 N) (blank_fronts 0 N) [], [])) }
+    requires fresh { All (λ s. s.share.slips ≡ []) seats.items }
+    ensures limits { IfOk result (λ lru. limits_of lru ≡ limits_told settings.now) }
+    ensures evicting { IfOk result (λ lru. vec_len lru.eviction_workers ≡ 0) }
+    ensures calling { IfOk result (λ lru. vec_len lru.callback_workers ≡ 0) }
+    ensures logs { OnOk result (AreTakers 0 N logs.new × (is_some logs.new ≡ is_some logs.old)) }
+{
+    let world = World::new(
+        alloc,
+        logs,
+        seats,
+        N,
+        settings.capacity,
+        limits_told(settings),
+        outlet,
+    )?;
+    let Ok(world) = Arc::new(alloc, world) else {
+        return Err(BuildError::Memory);
+    };
+    Ok(order_of_none(alloc, settings, world)?)
+}
+
 // Starts the threads of a builder. Its type parameters stand in the order of the builder's.
 pub(crate) fn launch<
     K: Hash + Eq + Clone + Drop + Send + Sync + 'static,
@@ -97,33 +150,16 @@ pub(crate) fn launch<
     ensures limits { IfOk result (λ lru. limits_of lru ≡ limits_told builder.settings) }
     ensures workers { IfOk result (λ lru. HasWorkers lru builder.settings) }
 {
-    let settings = builder.settings;
     let mut logs = logs;
     let (row_seats, puts) = seats_apart(alloc, logs.is_some(), puts);
-    let world = World::new(
-        alloc,
-        &mut logs,
-        row_seats,
-        N,
-        settings.capacity,
-        limits_told(&settings),
-        outlet,
-    )?;
-    let Ok(world) = Arc::new(alloc, world) else {
-        return Err(BuildError::Memory);
-    };
-    let mut lru: AsyncLru<K, N, B> = AsyncLru {
-        world,
-        alloc,
-        actors: Vec::with_capacity(alloc, N)?,
-        eviction_workers: Vec::with_capacity(alloc, settings.num_eviction_workers)?,
-        callback_workers: Vec::with_capacity(alloc, settings.num_callback_workers)?,
-    };
-    if let Err(refused) = start::<K, C, N, G, R, B>(rt, &mut lru, &builder, logs, puts, takes) {
-        lru.close(&rt);
-        return Err(refused);
+    let mut lru = idle::<K, N, B>(alloc, &builder.settings, &mut logs, row_seats, outlet)?;
+    match start::<K, C, N, G, R, B>(rt, &mut lru, &builder, logs, puts, takes) {
+        Ok(()) => Ok(lru),
+        Err(refused) => {
+            lru.close(&rt);
+            Err(refused)
+        }
     }
-    Ok(lru)
 }
 
 // Starts all threads of an order. Its type parameters stand in the order of the builder's.

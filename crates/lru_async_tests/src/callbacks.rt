@@ -1,9 +1,15 @@
-//! Callbacks and gates of the tests.
-ghost use Rattle.std.specs.Prelude.{◌≡◌};
+//! Callbacks and gates of the tests, and orders with them.
+ghost use Rattle.std.specs.Prelude.{◌≡◌, ◌<◌};
 
+use lru_async::async_lru::AsyncLru;
 use lru_world::callback::{AsyncEvictionCallback, Gate};
+use std::alloc::Global;
+use std::hash::Hash;
 use std::sync::atomic::{AtomicBool, AtomicUsize, Ordering};
+use std::sync::{Arc, Wait};
+use std::test::Fail;
 use std::thread;
+use std::thread::Threads;
 
 /// How often one looks for what another thread does, with a yield each: far more often than it takes, also on a busy
 /// machine.
@@ -17,6 +23,37 @@ impl<K: Drop> AsyncEvictionCallback<K> for Quiet {
     ghost ready = { λ _. Unit {0} };
 
     fn call(&self, _key: K, _weight: usize) {}
+}
+
+/// An order under a limit on its weight, whose evicted pairs go nowhere.
+pub fn quiet_order<
+    K: Hash + Eq + Clone + Drop + Send + Sync + 'static,
+    const N: usize,
+    R: Threads + Wait + Copy + Send + 'static,
+>(rt: R, alloc: Global, limit: usize) -> Result<AsyncLru<K, N>, Fail>
+    requires { 0 < N }
+{
+    let quiet = Arc::new(alloc, Quiet)?;
+    match AsyncLru::<K, N>::builder(alloc, limit, quiet).build(rt) {
+        Ok(lru) => Ok(lru),
+        Err(_) => Err(Fail::from("no threads")),
+    }
+}
+
+/// The same, whose actors pass a gate.
+pub fn gated_order<const N: usize, R: Threads + Wait + Copy + Send + 'static>(
+    rt: R,
+    alloc: Global,
+    limit: usize,
+    gate: Arc<Holding, Global>,
+) -> Result<AsyncLru<u64, N>, Fail>
+    requires { 0 < N }
+{
+    let quiet = Arc::new(alloc, Quiet)?;
+    match AsyncLru::<u64, N>::builder_with_gate(alloc, limit, quiet, gate).build(rt) {
+        Ok(lru) => Ok(lru),
+        Err(_) => Err(Fail::from("no threads")),
+    }
 }
 
 /// Whether a flag is raised soon.

@@ -1,8 +1,7 @@
 //! Each call by its effect on one shard.
-use crate::callbacks::Quiet;
+use crate::callbacks::quiet_order;
 use lru_async::async_lru::AsyncLru;
-use std::alloc::Global;
-use std::sync::{Arc, Wait};
+use std::sync::Wait;
 use std::test::Fail;
 
 // The rows of shard 0, and what the map has for key 1.
@@ -62,14 +61,9 @@ fn reads<R: Wait>(rt: &R, lru: &AsyncLru<u64, 1>) -> [bool; 8] {
 
 #[test]
 fn sends_have_their_effects(rt: HostRuntime) -> Result<(), Fail> {
-    let alloc: Global = rt.alloc();
-    let quiet = Arc::new(alloc, Quiet)?;
-    let built = AsyncLru::<u64, 1>::builder(alloc, 1000, quiet).build(rt);
-    let Ok(lru) = built else {
-        panic!(rt; "no threads");
-    };
-    assert_eq!(rt; sends(&rt, &lru), [true; 8]);
-    assert_eq!(rt; reads(&rt, &lru), [true; 8]);
+    let lru = quiet_order::<u64, 1, _>(rt, rt.alloc(), 1000)?;
+    let found = (sends(&rt, &lru), reads(&rt, &lru));
     lru.close(&rt);
+    assert_eq!(rt; found, ([true; 8], [true; 8]));
     Ok(())
 }

@@ -1,5 +1,5 @@
 //! A weight at the limit, the cap of one shard of two, and why calls are refused.
-use crate::callbacks::Quiet;
+use crate::callbacks::{Quiet, quiet_order};
 use lru_actors::key::hash_key;
 use lru_async::async_lru::AsyncLru;
 use lru_sends::refusals::SendRefused;
@@ -26,8 +26,9 @@ fn what_is_at_the_limits_stays(rt: HostRuntime) -> Result<(), Fail> {
     else {
         panic!(rt; "no threads");
     };
-    assert_eq!(rt; fills(&rt, &lru), (true, false, 0));
+    let found = fills(&rt, &lru);
     lru.close(&rt);
+    assert_eq!(rt; found, (true, false, 0));
     Ok(())
 }
 
@@ -44,14 +45,11 @@ fn overfills<R: Wait>(rt: &R, lru: &AsyncLru<u64, 2>) -> (Option<usize>, Option<
 
 #[test]
 fn one_shard_of_two_has_half_of_the_weight(rt: HostRuntime) -> Result<(), Fail> {
-    let alloc: Global = rt.alloc();
-    let quiet = Arc::new(alloc, Quiet)?;
-    let Ok(lru) = AsyncLru::<u64, 2>::builder(alloc, usize::MAX, quiet).build(rt) else {
-        panic!(rt; "no threads");
-    };
+    let lru = quiet_order::<u64, 2, _>(rt, rt.alloc(), usize::MAX)?;
     let half = Some(usize::MAX / 2);
-    assert_eq!(rt; overfills(&rt, &lru), (half, half, 1));
+    let found = overfills(&rt, &lru);
     lru.close(&rt);
+    assert_eq!(rt; found, (half, half, 1));
     Ok(())
 }
 
@@ -78,18 +76,20 @@ fn causes<R: Wait>(rt: &R, lru: &AsyncLru<u64, 1>) -> [u8; 9] {
     ]
 }
 
+// Whether key 1 got a row, and why each call is refused after the shutdown that follows.
+fn shut_with_a_row<R: Wait>(rt: &R, lru: &AsyncLru<u64, 1>) -> (bool, [u8; 9]) {
+    let sent = lru.admit(rt, 1, 1).is_ok();
+    let weighs = matches!(lru.shard_weight(rt, 0), Ok(Some(1)));
+    lru.shutdown(rt);
+    (sent && weighs, causes(rt, lru))
+}
+
 #[test]
 fn a_shut_order_refuses_as_closed(rt: HostRuntime) -> Result<(), Fail> {
-    let alloc: Global = rt.alloc();
-    let quiet = Arc::new(alloc, Quiet)?;
-    let Ok(lru) = AsyncLru::<u64, 1>::builder(alloc, 20, quiet).build(rt) else {
-        panic!(rt; "no threads");
-    };
-    let sent = lru.admit(&rt, 1, 1).is_ok();
-    let weighs = matches!(lru.shard_weight(&rt, 0), Ok(Some(1)));
-    lru.shutdown(&rt);
-    assert_eq!(rt; (sent && weighs, causes(&rt, &lru)), (true, [2; 9]));
+    let lru = quiet_order::<u64, 1, _>(rt, rt.alloc(), 20)?;
+    let found = shut_with_a_row(&rt, &lru);
     lru.close(&rt);
+    assert_eq!(rt; found, (true, [2; 9]));
     Ok(())
 }
 
@@ -107,14 +107,9 @@ fn unfair<R: Wait>(rt: &R, lru: &AsyncLru<u64, 1>) -> u64 {
 // With memory to be had this says little; `rt try --test --fail-alloc N` refuses each request in turn.
 #[test]
 fn an_open_order_refuses_for_want_of_memory_alone(rt: HostRuntime) -> Result<(), Fail> {
-    let alloc: Global = rt.alloc();
-    let quiet = Arc::new(alloc, Quiet)?;
-    if let Ok(lru) = AsyncLru::<u64, 1>::builder(alloc, 1000, quiet).build(rt) {
-        assert_eq!(rt;
-            (unfair(&rt, &lru), number(lru.shard_weight(&rt, 0)) <= 1),
-            (0, true)
-        );
-        lru.close(&rt);
-    }
+    let lru = quiet_order::<u64, 1, _>(rt, rt.alloc(), 1000)?;
+    let found = (unfair(&rt, &lru), number(lru.shard_weight(&rt, 0)) <= 1);
+    lru.close(&rt);
+    assert_eq!(rt; found, (0, true));
     Ok(())
 }

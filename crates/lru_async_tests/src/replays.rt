@@ -1,5 +1,5 @@
 //! Drawn sends answer and leave what the shards' own steps do.
-use crate::callbacks::Quiet;
+use crate::callbacks::quiet_order;
 use lru_actors::key::hash_key;
 use lru_actors::message::LruMsg;
 use lru_actors::state::ShardState;
@@ -8,8 +8,9 @@ use rand::RngExt;
 use rand::rngs::StdRng;
 use rand_core::SeedableRng;
 use std::alloc::{AllocError, Global};
-use std::sync::{Arc, Wait};
+use std::sync::Wait;
 use std::test::Fail;
+use std::thread::Threads;
 
 // Lets a shard of one owner serve a message.
 fn step(plain: &mut Vec<ShardState<u64>>, shard: usize, msg: LruMsg<u64>) {
@@ -139,17 +140,22 @@ fn replayed<R: Wait>(
     Ok(right)
 }
 
+// How many of the drawn sends of a seed, to an order of their own, were right.
+fn right_of<R: Threads + Wait + Copy + Send + 'static>(
+    rt: R,
+    alloc: Global,
+    seed: u64,
+) -> Result<usize, Fail> {
+    let lru = quiet_order::<u64, 2, _>(rt, alloc, usize::MAX)?;
+    let right = replayed(&rt, alloc, &lru, seed);
+    lru.close(&rt);
+    Ok(right?)
+}
+
 #[test]
 fn drawn_sends_are_the_shards_steps(rt: HostRuntime) -> Result<(), Fail> {
-    let alloc: Global = rt.alloc();
     for seed in 0..20u64 {
-        let quiet = Arc::new(alloc, Quiet)?;
-        let Ok(lru) = AsyncLru::<u64, 2>::builder(alloc, usize::MAX, quiet).build(rt) else {
-            panic!(rt; "no threads");
-        };
-        let right = replayed(&rt, alloc, &lru, seed)?;
-        lru.close(&rt);
-        assert_eq!(rt; right, 300);
+        assert_eq!(rt; right_of(rt, rt.alloc(), seed)?, 300);
     }
     Ok(())
 }

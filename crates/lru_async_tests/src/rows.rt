@@ -1,7 +1,7 @@
 //! The worked rows: refusals, weights of one key, colliding hashes, a shard that is full.
 ghost use Rattle.std.specs.Prelude.{◌≡◌, [], refl};
 
-use crate::callbacks::Quiet;
+use crate::callbacks::{Quiet, quiet_order};
 use log::sink;
 use lru_async::async_lru::{AsyncLru, ShardData};
 use lru_sends::refusals::{BuildError, SendRefused};
@@ -34,13 +34,10 @@ fn is_shut<R: Wait>(rt: &R, lru: &AsyncLru<u64, 1>) -> (bool, bool, bool) {
 
 #[test]
 fn after_a_shutdown_nothing_is_sent(rt: HostRuntime) -> Result<(), Fail> {
-    let alloc: Global = rt.alloc();
-    let quiet = Arc::new(alloc, Quiet)?;
-    let Ok(lru) = AsyncLru::<u64, 1>::builder(alloc, 20, quiet).build(rt) else {
-        panic!(rt; "no threads");
-    };
-    assert_eq!(rt; is_shut(&rt, &lru), (true, true, true));
+    let lru = quiet_order::<u64, 1, _>(rt, rt.alloc(), 20)?;
+    let found = is_shut(&rt, &lru);
     lru.close(&rt);
+    assert_eq!(rt; found, (true, true, true));
     Ok(())
 }
 
@@ -77,17 +74,11 @@ fn weights<R: Wait>(
 
 #[test]
 fn weight_of_one_key(rt: HostRuntime) -> Result<(), Fail> {
-    let alloc: Global = rt.alloc();
-    let quiet = Arc::new(alloc, Quiet)?;
-    let Ok(lru) = AsyncLru::<String, 4>::builder(alloc, 1000, quiet).build(rt) else {
-        panic!(rt; "no threads");
-    };
-    let key = format!(in alloc; "key-1")?;
-    assert_eq!(rt;
-        weights(&rt, &lru, &key)?,
-        [Some(10), Some(15), Some(20), Some(20)]
-    );
+    let key = format!(in rt.alloc(); "key-1")?;
+    let lru = quiet_order::<String, 4, _>(rt, rt.alloc(), 1000)?;
+    let found = weights(&rt, &lru, &key);
     lru.close(&rt);
+    assert_eq!(rt; found?, [Some(10), Some(15), Some(20), Some(20)]);
     Ok(())
 }
 
@@ -106,23 +97,21 @@ fn saved<R: Wait>(rt: &R, lru: &AsyncLru<String, 4>, alloc: Global) -> (usize, V
     (written, log.into_lines().into_vec())
 }
 
+// Whether there is one line, of the refused shard.
+fn tells_of_shard_2(lines: &[String]) -> bool {
+    let told = "AsyncLru: failed to write shard 2: disk full";
+    match lines {
+        [line] => line.as_str().ends_with(told),
+        _ => false,
+    }
+}
+
 #[test]
 fn a_refused_shard_is_logged(rt: HostRuntime) -> Result<(), Fail> {
-    let alloc: Global = rt.alloc();
-    let quiet = Arc::new(alloc, Quiet)?;
-    let Ok(lru) = AsyncLru::<String, 4>::builder(alloc, 1000, quiet).build(rt) else {
-        panic!(rt; "no threads");
-    };
-    let (written, lines) = saved(&rt, &lru, alloc);
+    let lru = quiet_order::<String, 4, _>(rt, rt.alloc(), 1000)?;
+    let (written, lines) = saved(&rt, &lru, rt.alloc());
     lru.close(&rt);
-    assert_eq!(rt; (written, lines.len()), (3, 1));
-    for line in &lines {
-        assert!(rt;
-            line.as_str()
-                .ends_with("AsyncLru: failed to write shard 2: disk full"),
-            "{line}"
-        );
-    }
+    assert!(rt; written == 3 && tells_of_shard_2(lines.as_slice()));
     Ok(())
 }
 
@@ -154,13 +143,10 @@ fn collides<R: Wait>(rt: &R, lru: &AsyncLru<Same, 1>) -> [bool; 3] {
 
 #[test]
 fn a_colliding_hash_keeps_the_first_key(rt: HostRuntime) -> Result<(), Fail> {
-    let alloc: Global = rt.alloc();
-    let quiet = Arc::new(alloc, Quiet)?;
-    let Ok(lru) = AsyncLru::<Same, 1>::builder(alloc, 1000, quiet).build(rt) else {
-        panic!(rt; "no threads");
-    };
-    assert_eq!(rt; collides(&rt, &lru), [true; 3]);
+    let lru = quiet_order::<Same, 1, _>(rt, rt.alloc(), 1000)?;
+    let found = collides(&rt, &lru);
     lru.close(&rt);
+    assert_eq!(rt; found, [true; 3]);
     Ok(())
 }
 
@@ -173,12 +159,9 @@ fn refuses<R: Wait>(rt: &R, lru: &AsyncLru<u64, 1>) -> (bool, u64) {
 
 #[test]
 fn a_full_shard_counts_what_it_refuses(rt: HostRuntime) -> Result<(), Fail> {
-    let alloc: Global = rt.alloc();
-    let quiet = Arc::new(alloc, Quiet)?;
-    let Ok(lru) = AsyncLru::<u64, 1>::builder(alloc, usize::MAX, quiet).build(rt) else {
-        panic!(rt; "no threads");
-    };
-    assert_eq!(rt; refuses(&rt, &lru), (true, 1));
+    let lru = quiet_order::<u64, 1, _>(rt, rt.alloc(), usize::MAX)?;
+    let found = refuses(&rt, &lru);
     lru.close(&rt);
+    assert_eq!(rt; found, (true, 1));
     Ok(())
 }

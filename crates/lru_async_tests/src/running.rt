@@ -1,7 +1,7 @@
 //! What only running threads show.
 ghost use Rattle.std.specs.Prelude.{◌≡◌};
 
-use crate::callbacks::{Counting, Holding, Meeting, Quiet, is_raised};
+use crate::callbacks::{Counting, Holding, Meeting, Quiet, gated_order, is_raised};
 use lru_async::async_lru::{AsyncLru, Closed};
 use lru_ledger::Settled;
 use lru_logs::tie::Archive;
@@ -37,19 +37,11 @@ fn keeps_all<R: Wait>(rt: &R, lru: &AsyncLru<u64, 1>, gate: &Holding) -> bool {
 
 #[test]
 fn a_batch_is_processed_whole(rt: HostRuntime) -> Result<(), Fail> {
-    let alloc: Global = rt.alloc();
-    let gate = Arc::new(alloc, Holding::new(0))?;
-    let quiet = Arc::new(alloc, Quiet)?;
-    let Ok(lru) = AsyncLru::<u64, 1>::builder_with_gate(
-        alloc,
-        1000,
-        quiet,
-        Arc::try_clone(&gate)?,
-    ).build(rt) else {
-        panic!(rt; "no threads");
-    };
-    assert!(rt; keeps_all(&rt, &lru, &*gate));
+    let gate = Arc::new(rt.alloc(), Holding::new(0))?;
+    let lru = gated_order::<1, _>(rt, rt.alloc(), 1000, Arc::try_clone(&gate)?)?;
+    let found = keeps_all(&rt, &lru, &*gate);
     lru.close(&rt);
+    assert!(rt; found);
     Ok(())
 }
 
@@ -73,20 +65,14 @@ fn answers_beside<R: Threads + Wait + Sync>(
 
 #[test]
 fn a_held_shard_holds_up_no_other(rt: HostRuntime) -> Result<(), Fail> {
-    let alloc: Global = rt.alloc();
-    let gate = Arc::new(alloc, Holding::new(0))?;
-    let quiet = Arc::new(alloc, Quiet)?;
-    let Ok(lru) = AsyncLru::<u64, 2>::builder_with_gate(
-        alloc,
-        1000,
-        quiet,
-        Arc::try_clone(&gate)?,
-    ).build(rt) else {
-        panic!(rt; "no threads");
-    };
-    assert_eq!(rt; answers_beside(&rt, &lru, &*gate), (true, true));
-    assert!(rt; gate.saw.load(Ordering::SeqCst));
+    let gate = Arc::new(rt.alloc(), Holding::new(0))?;
+    let lru = gated_order::<2, _>(rt, rt.alloc(), 1000, Arc::try_clone(&gate)?)?;
+    let found = answers_beside(&rt, &lru, &*gate);
     lru.close(&rt);
+    assert_eq!(rt;
+        (found, gate.saw.load(Ordering::SeqCst)),
+        ((true, true), true)
+    );
     Ok(())
 }
 
@@ -117,8 +103,8 @@ fn evicted_pairs_are_called(rt: HostRuntime) -> Result<(), Fail> {
         evicted_len: 1,
         lost_pairs: 0,
     };
-    assert_eq!(rt; (filled, lru.close(&rt)), (true, closed));
-    assert_eq!(rt; counting.counts(), [1, 0, 0, 0]);
+    let found = (filled, lru.close(&rt));
+    assert_eq!(rt; (found, counting.counts()), ((true, closed), [1, 0, 0, 0]));
     Ok(())
 }
 
@@ -179,20 +165,11 @@ fn shuts<R: Wait>(rt: &R, lru: &AsyncLru<u64, 1>, gate: &Holding) -> [bool; 4] {
 
 #[test]
 fn close_returns_while_a_limit_is_passed(rt: HostRuntime) -> Result<(), Fail> {
-    let alloc: Global = rt.alloc();
-    let gate = Arc::new(alloc, Holding::new(2))?;
-    let quiet = Arc::new(alloc, Quiet)?;
-    let Ok(lru) = AsyncLru::<u64, 1>::builder_with_gate(
-        alloc,
-        0,
-        quiet,
-        Arc::try_clone(&gate)?,
-    ).build(rt) else {
-        panic!(rt; "no threads");
-    };
-    assert_eq!(rt; shuts(&rt, &lru, &*gate), [true; 4]);
+    let gate = Arc::new(rt.alloc(), Holding::new(2))?;
+    let lru = gated_order::<1, _>(rt, rt.alloc(), 0, Arc::try_clone(&gate)?)?;
+    let found = shuts(&rt, &lru, &*gate);
     lru.close(&rt);
-    assert!(rt; gate.saw.load(Ordering::SeqCst));
+    assert_eq!(rt; (found, gate.saw.load(Ordering::SeqCst)), ([true; 4], true));
     Ok(())
 }
 
@@ -216,8 +193,9 @@ fn pairs_are_lost_once_the_receiver_left(rt: HostRuntime) -> Result<(), Fail> {
         evicted_len: 1,
         lost_pairs: 1,
     };
-    assert_eq!(rt; (sent, lru.lost_pairs(&rt)), (true, 1));
-    assert_eq!(rt; lru.close(&rt), closed);
+    let lost = lru.lost_pairs(&rt);
+    let found = lru.close(&rt);
+    assert_eq!(rt; (sent, lost, found), (true, 1, closed));
     Ok(())
 }
 
@@ -234,9 +212,9 @@ fn a_receiver_gets_the_evicted_pairs(rt: HostRuntime) -> Result<(), Fail> {
     let filled = fills(&rt, &lru);
     // (where nothing is evicted it would wait on)
     let first = if filled { receiver.recv(&rt) } else { None };
-    assert_eq!(rt; (filled, first), (true, Some((1, 10))));
     lru.close(&rt);
     receiver.leave(&rt);
+    assert_eq!(rt; (filled, first), (true, Some((1, 10))));
     Ok(())
 }
 

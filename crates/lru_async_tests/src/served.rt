@@ -123,17 +123,17 @@ fn a_batch_is_counted_once(rt: HostRuntime) -> Result<(), Fail> {
     let world = one_shard(rt.alloc())?;
     let _replies = asks(&rt, &world, rt.alloc())?;
     let here = world.shards[0].len.load(Ordering::SeqCst);
+    let counted = [
+        world.len(),
+        world.weight(),
+        here,
+        world.evicted_len(),
+        world.evicted_weight(),
+    ];
     assert_eq!(rt;
-        (
-            world.len(),
-            world.weight(),
-            here,
-            world.evicted_len(),
-            world.evicted_weight()
-        ),
-        (1, 7, 1, 1, 5)
+        (counted, evicted(&rt, &world)),
+        ([1, 7, 1, 1, 5], Some((1, 5)))
     );
-    assert_eq!(rt; evicted(&rt, &world), Some((1, 5)));
     Ok(())
 }
 

@@ -117,6 +117,25 @@ fn soaked<
     Some((sent, ledger.close(&rt)))
 }
 
+// Whether pairs were put, all of them were taken or are lost, and what was taken is what was called.
+fn are_all_called(adding: &Adding, settled: &Settled<u64>) -> bool {
+    let called = (
+        adding.calls.load(Ordering::SeqCst),
+        adding.hashes.load(Ordering::SeqCst),
+        adding.weights.load(Ordering::SeqCst),
+    );
+    let puts = all_sums(&settled.puts);
+    let takes = all_sums(&settled.takes);
+    let lost = sums(settled.lost.as_slice());
+    let taken_or_lost = (
+        takes.0.wrapping_add(lost.0),
+        takes.1.wrapping_add(lost.1),
+        takes.2.wrapping_add(lost.2),
+    );
+    // all was called: the callback workers ended last
+    puts.0 > 0 && puts == taken_or_lost && called == takes && settled.left.is_empty()
+}
+
 #[test]
 fn every_pair_is_accounted_for(rt: HostRuntime) -> Result<(), Fail> {
     let alloc: Global = rt.alloc();
@@ -131,17 +150,6 @@ fn every_pair_is_accounted_for(rt: HostRuntime) -> Result<(), Fail> {
     let Some((sent, settled)) = soaked::<Brand, _>(rt, alloc, theirs, blanks) else {
         panic!(rt; "no threads");
     };
-    let called = (
-        adding.calls.load(Ordering::SeqCst),
-        adding.hashes.load(Ordering::SeqCst),
-        adding.weights.load(Ordering::SeqCst),
-    );
-    let puts = all_sums(&settled.puts);
-    let takes = all_sums(&settled.takes);
-    let lost = sums(settled.lost.as_slice());
-    // all was taken and called: the callback workers ended last
-    assert!(rt; sent && puts.0 > 0 && called == takes && settled.left.is_empty());
-    assert!(rt; puts.0 == takes.0.wrapping_add(lost.0));
-    assert!(rt; puts.1 == takes.1.wrapping_add(lost.1) && puts.2 == takes.2.wrapping_add(lost.2));
+    assert!(rt; sent && are_all_called(&adding, &settled));
     Ok(())
 }

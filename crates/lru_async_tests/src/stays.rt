@@ -44,16 +44,19 @@ fn no_more_are_asked_for_than_are_wanted(rt: HostRuntime) -> Result<(), Fail> {
         len,
         heaviest,
     };
-    // at the limit none; past it as many as would leave it passed, were each of the heaviest
-    assert_eq!(rt; may_be_asked(&weighs, &held(10, 5, 4)), 0);
-    assert_eq!(rt; may_be_asked(&weighs, &held(11, 5, 4)), 1);
-    assert_eq!(rt; may_be_asked(&weighs, &held(14, 5, 4)), 1);
-    assert_eq!(rt; may_be_asked(&weighs, &held(15, 5, 4)), 2);
-    assert_eq!(rt; may_be_asked(&weighs, &held(17, 17, 1)), 7);
-    assert_eq!(rt; may_be_asked(&weighs, &held(17, 2, usize::MAX)), 1);
-    // rows too many are each one to go
-    assert_eq!(rt; may_be_asked(&counts, &held(20, 3, 9)), 0);
-    assert_eq!(rt; may_be_asked(&counts, &held(20, 7, 9)), 4);
+    let asked = [
+        // at the limit none; past it as many as would leave it passed, were each of the heaviest
+        may_be_asked(&weighs, &held(10, 5, 4)),
+        may_be_asked(&weighs, &held(11, 5, 4)),
+        may_be_asked(&weighs, &held(14, 5, 4)),
+        may_be_asked(&weighs, &held(15, 5, 4)),
+        may_be_asked(&weighs, &held(17, 17, 1)),
+        may_be_asked(&weighs, &held(17, 2, usize::MAX)),
+        // rows too many are each one to go
+        may_be_asked(&counts, &held(20, 3, 9)),
+        may_be_asked(&counts, &held(20, 7, 9)),
+    ];
+    assert_eq!(rt; asked, [0, 1, 1, 2, 7, 1, 0, 4]);
     Ok(())
 }
 
@@ -194,8 +197,9 @@ fn rows_left<R: Threads + Wait + Copy + Send + Sync + 'static>(
 
 #[test]
 fn exactly_what_is_too_much_is_evicted(rt: HostRuntime) -> Result<(), Fail> {
-    assert_eq!(rt; rows_left(rt, rt.alloc(), 2000, 100)?, (100, 900));
-    assert_eq!(rt; rows_left(rt, rt.alloc(), 100, 2000)?, (100, 900));
+    let by_number = rows_left(rt, rt.alloc(), 2000, 100)?;
+    let by_weight = rows_left(rt, rt.alloc(), 100, 2000)?;
+    assert_eq!(rt; [by_number, by_weight], [(100, 900), (100, 900)]);
     assert_eq!(rt; rows_left(rt, rt.alloc(), 2000, 2000)?, (1000, 0));
     Ok(())
 }

@@ -71,8 +71,11 @@ static CHANGES: [Step<u64, u64>; 11] = [
 #[test]
 fn values_and_limits_change(rt: HostRuntime) -> Result<(), Fail> {
     let mut cache = Cache::new(rt.alloc(), 10, 5)?;
-    assert_eq!(rt; fault(rt.alloc(), &mut cache, &CHANGES)?, None);
-    assert_eq!(rt; (cache.most_weight(), cache.most_entries()), (0, 0));
+    let fault = fault(rt.alloc(), &mut cache, &CHANGES)?;
+    assert_eq!(rt;
+        (fault, cache.most_weight(), cache.most_entries()),
+        (None, 0, 0)
+    );
     Ok(())
 }
 
@@ -96,8 +99,11 @@ static FROM_THE_LAST: [Step<u64, u64>; 12] = [
 #[test]
 fn the_last_entry_is_shown(rt: HostRuntime) -> Result<(), Fail> {
     let mut cache = Cache::new(rt.alloc(), 10, 5)?;
-    assert_eq!(rt; fault(rt.alloc(), &mut cache, &FROM_THE_LAST)?, None);
-    assert_eq!(rt; (cache.most_weight(), cache.most_entries()), (10, 5));
+    let fault = fault(rt.alloc(), &mut cache, &FROM_THE_LAST)?;
+    assert_eq!(rt;
+        (fault, cache.most_weight(), cache.most_entries()),
+        (None, 10, 5)
+    );
     Ok(())
 }
 
@@ -167,8 +173,11 @@ static FROM_THE_FIRST: [Step<u64, u64>; 13] = [
 #[test]
 fn entries_go_from_the_first_on(rt: HostRuntime) -> Result<(), Fail> {
     let mut cache = Cache::new(rt.alloc(), 10, 5)?;
-    assert_eq!(rt; fault(rt.alloc(), &mut cache, &FROM_THE_FIRST)?, None);
-    assert_eq!(rt; (cache.most_weight(), cache.most_entries()), (10, 5));
+    let fault = fault(rt.alloc(), &mut cache, &FROM_THE_FIRST)?;
+    assert_eq!(rt;
+        (fault, cache.most_weight(), cache.most_entries()),
+        (None, 10, 5)
+    );
     Ok(())
 }
 
@@ -220,17 +229,11 @@ fn both_ends(cache: &Cache<u64, u64>) -> ([Parts; 4], usize) {
 #[test]
 fn entries_are_shown_from_both_ends(rt: HostRuntime) -> Result<(), Fail> {
     let mut cache = Cache::new(rt.alloc(), 10, 5)?;
-    let puts = [(1u64, 10u64, 2usize), (2, 20, 3), (3, 30, 1)];
-    for (key, value, weight) in puts {
-        assert!(rt; cache.put(key, value, weight, |_gone| {}).is_ok());
+    for (key, value, weight) in [(1u64, 10u64, 2usize), (2, 20, 3), (3, 30, 1)] {
+        let _put = cache.put(key, value, weight, |_gone| {});
     }
-    assert_eq!(rt;
-        both_ends(&cache),
-        (
-            [Some((3, 30, 1)), Some((1, 10, 2)), Some((2, 20, 3)), None],
-            1
-        )
-    );
+    let shown = [Some((3, 30, 1)), Some((1, 10, 2)), Some((2, 20, 3)), None];
+    assert_eq!(rt; both_ends(&cache), (shown, 1));
     Ok(())
 }
 
@@ -258,19 +261,29 @@ fn each_call_answers(rt: HostRuntime) -> Result<(), Fail> {
 
 #[test]
 fn the_shortest_end_goes(rt: HostRuntime) -> Result<(), Fail> {
-    let mut by_weight = Cache::new(rt.alloc(), 10, 100)?;
-    assert_eq!(rt; fault(rt.alloc(), &mut by_weight, &BY_WEIGHT)?, None);
-    let mut by_number = Cache::with_seed(rt.alloc(), 100, 2, 7)?;
-    assert_eq!(rt; fault(rt.alloc(), &mut by_number, &BY_NUMBER)?, None);
+    let mut cache = Cache::new(rt.alloc(), 10, 100)?;
+    assert_eq!(rt; fault(rt.alloc(), &mut cache, &BY_WEIGHT)?, None);
     Ok(())
 }
 
 #[test]
-fn limits_of_nothing(rt: HostRuntime) -> Result<(), Fail> {
-    let mut no_entries = Cache::new(rt.alloc(), 100, 0)?;
-    assert_eq!(rt; fault(rt.alloc(), &mut no_entries, &NO_ENTRIES)?, None);
-    let mut no_weight = Cache::new(rt.alloc(), 0, 5)?;
-    assert_eq!(rt; fault(rt.alloc(), &mut no_weight, &NO_WEIGHT)?, None);
+fn the_last_goes_where_there_are_too_many(rt: HostRuntime) -> Result<(), Fail> {
+    let mut cache = Cache::with_seed(rt.alloc(), 100, 2, 7)?;
+    assert_eq!(rt; fault(rt.alloc(), &mut cache, &BY_NUMBER)?, None);
+    Ok(())
+}
+
+#[test]
+fn a_limit_of_no_entries(rt: HostRuntime) -> Result<(), Fail> {
+    let mut cache = Cache::new(rt.alloc(), 100, 0)?;
+    assert_eq!(rt; fault(rt.alloc(), &mut cache, &NO_ENTRIES)?, None);
+    Ok(())
+}
+
+#[test]
+fn a_limit_of_no_weight(rt: HostRuntime) -> Result<(), Fail> {
+    let mut cache = Cache::new(rt.alloc(), 0, 5)?;
+    assert_eq!(rt; fault(rt.alloc(), &mut cache, &NO_WEIGHT)?, None);
     Ok(())
 }
 
@@ -315,27 +328,32 @@ fn keys_of_one_hash_are_kept_apart(rt: HostRuntime) -> Result<(), Fail> {
     Ok(())
 }
 
+// Which of the calls by a key answers as it is to, one after the other, where 1 and 2 are put.
+fn calls_by_alike(cache: &mut Cache<Alike, u64>) -> [bool; 8] {
+    let is_put = cache.put(Alike(1), 10, 1, |_gone| {}).is_ok()
+        & cache.put(Alike(2), 20, 2, |_gone| {}).is_ok();
+    let value = cache.peek_by(&Alike(1)).copied();
+    let weights = (cache.weight_by(&Alike(2)), cache.weight_by(&Alike(3)));
+    let updated = cache.update_by(&Alike(2), |value: &mut u64, _weight| *value);
+    let none = cache.remove_by(&Alike(3)).is_none();
+    let removed = cache.remove_by(&Alike(2)).is_some();
+    [
+        is_put,
+        value == Some(10),
+        weights == (Some(2), None),
+        updated == Some(20),
+        none,
+        removed,
+        !cache.contains_by(&Alike(2)),
+        cache.promote_by(&Alike(1)),
+    ]
+}
+
 #[test]
 fn keys_of_one_hash_are_asked_for(rt: HostRuntime) -> Result<(), Fail> {
     let mut cache = Cache::<Alike, u64>::new(rt.alloc(), 10, 3)?;
-    assert!(rt; cache.put(Alike(1), 10, 1, |_gone| {}).is_ok());
-    assert!(rt; cache.put(Alike(2), 20, 2, |_gone| {}).is_ok());
-    assert_eq!(rt; cache.peek_by(&Alike(1)).copied(), Some(10));
-    assert_eq!(rt;
-        (cache.weight_by(&Alike(2)), cache.weight_by(&Alike(3))),
-        (Some(2), None)
-    );
-    assert_eq!(rt;
-        cache.update_by(&Alike(2), |value: &mut u64, _weight| *value),
-        Some(20)
-    );
-    assert!(rt; cache.remove_by(&Alike(3)).is_none());
-    assert!(rt; cache.remove_by(&Alike(2)).is_some());
-    assert_eq!(rt;
-        (cache.contains_by(&Alike(2)), cache.promote_by(&Alike(1))),
-        (false, true)
-    );
-    assert_eq!(rt; (cache.len(), cache.weight()), (1, 1));
+    let found = calls_by_alike(&mut cache);
+    assert_eq!(rt; (found, cache.len(), cache.weight()), ([true; 8], 1, 1));
     Ok(())
 }
 

@@ -5,7 +5,6 @@ use std::fmt::Debug;
 use std::hash::Hash;
 
 /// A call of a cache, and what it is given.
-#[derive(Clone, Copy)]
 pub enum Call<K, V> {
     /// Answers what was replaced and what went, or why it was refused and what was handed back.
     Put(K, V, usize),
@@ -301,27 +300,27 @@ pub fn shown<K: Hash + Debug, V: Debug>(
 fn answer_of<K, V>(
     alloc: Global,
     cache: &mut Cache<K, V>,
-    call: Call<K, V>,
+    call: &Call<K, V>,
 ) -> Result<String, AllocError>
 where
     K: Hash + Debug + Default + Drop + Copy,
     V: Debug + Drop + Copy,
 {
     match call {
-        Call::Put(key, value, weight) => put(alloc, cache, key, value, weight),
-        Call::Look(key) => look(alloc, cache, &key),
+        Call::Put(key, value, weight) => put(alloc, cache, *key, *value, *weight),
+        Call::Look(key) => look(alloc, cache, key),
         Call::Promote(key) => {
-            let is_there = cache.promote(&key);
+            let is_there = cache.promote(key);
             format!(in alloc; "{is_there}")
         }
-        Call::Remove(key) => taken(alloc, &cache.remove(&key)),
+        Call::Remove(key) => taken(alloc, &cache.remove(key)),
         Call::PopLast => taken(alloc, &cache.pop_last()),
         Call::Update(key, value) => {
-            let was = update(cache, &key, value);
+            let was = update(cache, key, *value);
             format!(in alloc; "{was:?}")
         }
         Call::SetLimits(most_weight, most_entries) => {
-            set_limits(alloc, cache, most_weight, most_entries)
+            set_limits(alloc, cache, *most_weight, *most_entries)
         }
         Call::Clear => clear(alloc, cache),
         Call::PeekLast => {
@@ -329,19 +328,19 @@ where
             format!(in alloc; "{last:?}")
         }
         Call::Reserve(additional) => {
-            let is_reserved = cache.reserve(additional).is_ok();
+            let is_reserved = cache.reserve(*additional).is_ok();
             format!(in alloc; "{is_reserved}")
         }
         Call::Demote(key) => {
-            let is_there = cache.demote(&key);
+            let is_there = cache.demote(key);
             format!(in alloc; "{is_there}")
         }
         Call::PopFirst => taken(alloc, &cache.pop_first()),
         Call::Drain => drain(alloc, cache),
-        Call::PutWeighed(key, value, weight) => put_weighed(alloc, cache, key, value, weight),
-        Call::Reweigh(key, value, weight) => reweigh(alloc, cache, &key, value, weight),
-        Call::Retain(most) => retain(alloc, cache, most),
-        Call::RetainLast(most, heaviest) => retain_last(alloc, cache, most, heaviest),
+        Call::PutWeighed(key, value, weight) => put_weighed(alloc, cache, *key, *value, *weight),
+        Call::Reweigh(key, value, weight) => reweigh(alloc, cache, key, *value, *weight),
+        Call::Retain(most) => retain(alloc, cache, *most),
+        Call::RetainLast(most, heaviest) => retain_last(alloc, cache, *most, *heaviest),
     }
 }
 
@@ -356,7 +355,7 @@ where
     V: Debug + Drop + Copy,
 {
     for (place, (call, answer, left)) in steps.iter().enumerate() {
-        let answers = answer_of(alloc, cache, *call)?;
+        let answers = answer_of(alloc, cache, call)?;
         let leaves = shown(alloc, cache)?;
         if answers.as_str() != *answer || leaves.as_str() != *left {
             return Ok(Some(place));

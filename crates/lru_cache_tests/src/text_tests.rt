@@ -6,6 +6,9 @@ use std::test::Fail;
 
 type Texts = Cache<Option<String>, String>;
 
+// An entry that is put, and the answer.
+type Put = ((&'static str, &'static str, usize), &'static str);
+
 fn text(alloc: Global, text: &str) -> Result<String, AllocError> {
     String::from_str(alloc, text)
 }
@@ -31,39 +34,35 @@ fn is_shown(alloc: Global, cache: &Texts, left: &str) -> Result<bool, AllocError
     Ok(shown(alloc, cache)?.as_str() == left)
 }
 
+// Puts entries one by one. Whether each answers so.
+fn put_all(alloc: Global, cache: &mut Texts, puts_and_answers: &[Put]) -> Result<bool, AllocError> {
+    for (entry, answer) in puts_and_answers {
+        if !puts(alloc, cache, *entry, answer)? {
+            return Ok(false);
+        }
+    }
+    Ok(true)
+}
+
+#[rattlefmt::skip]
+static PUTS: [Put; 5] = [
+    (("a", "x", 2), "new, gone:"),
+    (("b", "y", 2), "new, gone:"),
+    (("a", "z", 3), "was Some(\"a\")=\"x\" 2, gone:"),
+    (("c", "w", 7), "TooHeavy: Some(\"c\")=\"w\""),
+    (("c", "w", 3), "new, gone: Some(\"b\")=\"y\" 2,"),
+];
+
+// Two entries that fit.
+static TWO: [Put; 2] = [(("a", "x", 2), "new, gone:"), (("b", "y", 3), "new, gone:")];
+
 #[test]
 fn texts_are_put(rt: HostRuntime) -> Result<(), Fail> {
-    let alloc = rt.alloc();
-    let mut cache = Cache::with_seed(alloc, 6, 9, 11)?;
-    assert!(rt; puts(alloc, &mut cache, ("a", "x", 2), "new, gone:")?);
-    assert!(rt; puts(alloc, &mut cache, ("b", "y", 2), "new, gone:")?);
-    assert!(rt;
-        puts(
-            alloc,
-            &mut cache,
-            ("a", "z", 3),
-            "was Some(\"a\")=\"x\" 2, gone:"
-        )?
-    );
-    assert!(rt;
-        puts(
-            alloc,
-            &mut cache,
-            ("c", "w", 7),
-            "TooHeavy: Some(\"c\")=\"w\""
-        )?
-    );
-    assert!(rt;
-        puts(
-            alloc,
-            &mut cache,
-            ("c", "w", 3),
-            "new, gone: Some(\"b\")=\"y\" 2,"
-        )?
-    );
+    let mut cache = Cache::with_seed(rt.alloc(), 6, 9, 11)?;
+    assert!(rt; put_all(rt.alloc(), &mut cache, &PUTS)?);
     assert!(rt;
         is_shown(
-            alloc,
+            rt.alloc(),
             &cache,
             "2 6: Some(\"c\")=\"w\" 3, Some(\"a\")=\"z\" 3,"
         )?
@@ -91,58 +90,63 @@ fn calls_answer(alloc: Global, cache: &mut Texts) -> Result<bool, AllocError> {
 
 #[test]
 fn texts_are_found(rt: HostRuntime) -> Result<(), Fail> {
-    let alloc = rt.alloc();
-    let mut cache = Cache::new(alloc, 6, 9)?;
-    assert!(rt; puts(alloc, &mut cache, ("a", "x", 2), "new, gone:")?);
-    assert!(rt; puts(alloc, &mut cache, ("b", "y", 3), "new, gone:")?);
+    let mut cache = Cache::new(rt.alloc(), 6, 9)?;
+    let is_put = put_all(rt.alloc(), &mut cache, &TWO)? & !cache.is_empty();
+    let is_found = calls_answer(rt.alloc(), &mut cache)? & cache.is_empty();
     assert_eq!(rt;
-        (cache.is_empty(), cache.most_weight(), cache.most_entries()),
-        (false, 6, 9)
-    );
-    assert!(rt; calls_answer(alloc, &mut cache)?);
-    assert_eq!(rt;
-        (cache.is_empty(), cache.most_weight(), cache.most_entries()),
-        (true, 6, 9)
+        (is_put, is_found, cache.most_weight(), cache.most_entries()),
+        (true, true, 6, 9)
     );
     Ok(())
 }
 
-// A text weighs as many bytes as it has. Whether each call answers and leaves this.
+// Puts a text that weighs as many bytes as it has. Whether it is let in as a new one.
+fn is_put_weighed(
+    alloc: Global,
+    cache: &mut Texts,
+    key: &str,
+    value: &str,
+) -> Result<bool, AllocError> {
+    let (key, value) = (text(alloc, key)?, text(alloc, value)?);
+    let answer = cache.put_weighed(Some(key), value, |_key, value: &String| value.len(), |_| {});
+    Ok(matches!(answer, Ok(None)))
+}
+
+// Empties the text under a key. Whether it is there.
+fn is_emptied(cache: &mut Texts, key: &Option<String>) -> bool {
+    let empty = |value: &mut String, _was: usize| {
+        value.clear();
+        value.len()
+    };
+    matches!(cache.reweigh(key, empty, |_| {}), Ok(true))
+}
+
+// Whether each call answers and leaves this, where a text weighs as many bytes as it has.
 fn weigh_their_length(alloc: Global, cache: &mut Texts) -> Result<bool, AllocError> {
+    let are_put = is_put_weighed(alloc, cache, "a", "xyz")?
+        & is_put_weighed(alloc, cache, "b", "uv")?;
     let (a, b) = (Some(text(alloc, "a")?), Some(text(alloc, "b")?));
-    let weigh = |_key: &Option<String>, value: &String| value.len();
-    let is_put = matches!(
-        cache.put_weighed(Some(text(alloc, "a")?), text(alloc, "xyz")?, weigh, |_| {}),
-        Ok(None)
-    ) && matches!(
-        cache.put_weighed(Some(text(alloc, "b")?), text(alloc, "uv")?, weigh, |_| {}),
-        Ok(None)
-    );
     let is_last = cache.demote(&b)
         & is_shown(
             alloc,
             cache,
             "2 5: Some(\"a\")=\"xyz\" 3, Some(\"b\")=\"uv\" 2,",
         )?;
-    let empty = |value: &mut String, _was: usize| {
-        value.clear();
-        value.len()
-    };
-    let is_less = matches!(cache.reweigh(&a, empty, |_| {}), Ok(true))
-        && is_shown(
+    let is_less = is_emptied(cache, &a)
+        & is_shown(
             alloc,
             cache,
             "2 2: Some(\"a\")=\"\" 0, Some(\"b\")=\"uv\" 2,",
         )?;
     let first = taken(alloc, &cache.pop_first())?;
-    Ok(is_put & is_last & is_less & (first.as_str() == "took Some(\"a\")=\"\" 0,"))
+    Ok(are_put & is_last & is_less & (first.as_str() == "took Some(\"a\")=\"\" 0,"))
 }
 
 #[test]
 fn texts_weigh_their_length(rt: HostRuntime) -> Result<(), Fail> {
     let mut cache = Cache::new(rt.alloc(), 6, 9)?;
-    assert!(rt; weigh_their_length(rt.alloc(), &mut cache)?);
-    assert_eq!(rt; (cache.len(), cache.weight()), (1, 2));
+    let weighs = weigh_their_length(rt.alloc(), &mut cache)?;
+    assert_eq!(rt; (weighs, cache.len(), cache.weight()), (true, 1, 2));
     Ok(())
 }
 
@@ -175,11 +179,12 @@ fn are_asked_by_texts(alloc: Global, cache: &mut Texts) -> Result<bool, AllocErr
 
 #[test]
 fn texts_are_asked_for_by_texts(rt: HostRuntime) -> Result<(), Fail> {
-    let alloc = rt.alloc();
-    let mut cache = Cache::with_seed(alloc, 6, 9, 3)?;
-    assert!(rt; puts(alloc, &mut cache, ("a", "x", 2), "new, gone:")?);
-    assert!(rt; puts(alloc, &mut cache, ("b", "y", 3), "new, gone:")?);
-    assert!(rt; are_asked_by_texts(alloc, &mut cache)?);
-    assert_eq!(rt; (cache.len(), cache.weight()), (1, 2));
+    let mut cache = Cache::with_seed(rt.alloc(), 6, 9, 3)?;
+    let is_put = put_all(rt.alloc(), &mut cache, &TWO)?;
+    let is_asked = are_asked_by_texts(rt.alloc(), &mut cache)?;
+    assert_eq!(rt;
+        (is_put, is_asked, cache.len(), cache.weight()),
+        (true, true, 1, 2)
+    );
     Ok(())
 }

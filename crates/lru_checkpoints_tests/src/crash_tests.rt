@@ -40,36 +40,43 @@ fn stopped(alloc: Global, call: u64, part: usize) -> Result<(MemoryFolder, bool)
     Ok((folder, is_told))
 }
 
+// Whether a save that stopped at this call told so and left the old checkpoint, or was done and left the new one.
+fn is_old_or_done(alloc: Global, call: u64, part: usize) -> Result<bool, CheckpointError> {
+    let (mut folder, is_told) = stopped(alloc, call, part)?;
+    let wanted = if call < CALLS { Found::Old } else { Found::New };
+    Ok(is_told == (call < CALLS) && what_loads(alloc, &mut folder)? == wanted)
+}
+
 #[test]
 fn a_stop_at_each_call(rt: HostRuntime) -> Result<(), Fail> {
     let alloc = rt.alloc();
     for call in 0..=CALLS {
         for part in [0, 1, 1000] {
-            let (mut folder, is_told) = stopped(alloc, call, part)?;
-            let wanted = if call < CALLS { Found::Old } else { Found::New };
-            assert!(rt; is_told == (call < CALLS), "{call}");
-            assert!(rt; what_loads(alloc, &mut folder)? == wanted, "{call}");
+            assert!(rt; is_old_or_done(alloc, call, part)?, "{call}");
         }
     }
     Ok(())
 }
 
+// What loads after a save that stopped at this call, and a loss of power that leaves so many names.
+fn what_is_left(alloc: Global, call: u64, names: usize) -> Result<Found, CheckpointError> {
+    let (folder, _) = stopped(alloc, call, 1)?;
+    let mut left = folder.after_loss(names, b'X')?;
+    Ok(what_loads(alloc, &mut left)?)
+}
+
 #[test]
 fn a_loss_of_power_after_each_call(rt: HostRuntime) -> Result<(), Fail> {
-    let alloc = rt.alloc();
-    let mut olds = 0usize;
-    let mut news = 0usize;
+    let mut found = [0usize; 3];
     for call in 0..=CALLS {
-        let (folder, _) = stopped(alloc, call, 1)?;
         for names in 0..4 {
-            let mut left = folder.after_loss(names, b'X')?;
-            match what_loads(alloc, &mut left)? {
-                Found::Old => olds = olds.saturating_add(1),
-                Found::New => news = news.saturating_add(1),
-                Found::Neither => assert!(rt; false, "{call} {names}"),
+            match what_is_left(rt.alloc(), call, names)? {
+                Found::Old => found[0] = found[0].saturating_add(1),
+                Found::New => found[1] = found[1].saturating_add(1),
+                Found::Neither => found[2] = found[2].saturating_add(1),
             }
         }
     }
-    assert_eq!(rt; (olds, news), (53, 3));
+    assert_eq!(rt; found, [53, 3, 0]);
     Ok(())
 }

@@ -90,30 +90,55 @@ fn bytes_of<'a>(folder: &'a MemoryFolder, path: &str) -> &'a [u8] {
     }
 }
 
+// Whether a load is refused so where a path of the folder has these bytes.
+fn is_refused_as(
+    alloc: Global,
+    folder: &MemoryFolder,
+    (path, bytes): (&str, &[u8]),
+    wanted: CheckpointError,
+) -> Result<bool, AllocError> {
+    Ok(refusal(alloc, folder, path, Some(bytes))? == Some(wanted))
+}
+
 #[test]
-fn files_of_other_checkpoints(rt: HostRuntime) -> Result<(), Fail> {
+fn frames_of_other_checkpoints(rt: HostRuntime) -> Result<(), Fail> {
+    let folder = saved(rt.alloc(), 4, 10)?;
+    let older = saved(rt.alloc(), 3, 10)?;
+    let file = CheckpointFile::Shard(0);
+    // Another shard's frame, that of another generation, and a manifest.
+    let others = [
+        bytes_of(&folder, "d/c.4.1"),
+        bytes_of(&older, "d/c.3.0"),
+        bytes_of(&folder, "d/c.manifest"),
+    ];
+    for (number, other) in others.iter().enumerate() {
+        let changed = ("d/c.4.0", *other);
+        assert!(rt;
+            is_refused_as(
+                rt.alloc(),
+                &folder,
+                changed,
+                CheckpointError::Other { file }
+            )?,
+            "{number}"
+        );
+    }
+    Ok(())
+}
+
+#[test]
+fn manifests_of_other_checkpoints(rt: HostRuntime) -> Result<(), Fail> {
     let alloc = rt.alloc();
     let folder = saved(alloc, 4, 10)?;
     let older = saved(alloc, 3, 10)?;
-    let file = CheckpointFile::Shard(0);
-    let other = Some(CheckpointError::Other { file });
-    // Another shard's frame, that of another generation, and a manifest.
-    let second = bytes_of(&folder, "d/c.4.1");
-    assert!(rt; refusal(alloc, &folder, "d/c.4.0", Some(second))? == other);
-    let earlier = bytes_of(&older, "d/c.3.0");
-    assert!(rt; refusal(alloc, &folder, "d/c.4.0", Some(earlier))? == other);
-    let manifest = bytes_of(&folder, "d/c.manifest");
-    assert!(rt; refusal(alloc, &folder, "d/c.4.0", Some(manifest))? == other);
     // A frame in place of the manifest, and a manifest of another generation.
     let frame = bytes_of(&folder, "d/c.4.0");
-    assert!(rt;
-        is_damaged(
-            refusal(alloc, &folder, "d/c.manifest", Some(frame))?,
-            CheckpointFile::Manifest
-        )
-    );
-    let manifest = bytes_of(&older, "d/c.manifest");
-    let missing = Some(CheckpointError::Missing { file });
-    assert!(rt; refusal(alloc, &folder, "d/c.manifest", Some(manifest))? == missing);
+    let damaged = refusal(alloc, &folder, "d/c.manifest", Some(frame))?;
+    let missing = CheckpointError::Missing {
+        file: CheckpointFile::Shard(0),
+    };
+    let changed = ("d/c.manifest", bytes_of(&older, "d/c.manifest"));
+    let is_missing = is_refused_as(alloc, &folder, changed, missing)?;
+    assert!(rt; is_damaged(damaged, CheckpointFile::Manifest) && is_missing);
     Ok(())
 }

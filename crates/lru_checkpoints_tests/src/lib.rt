@@ -1,4 +1,4 @@
-//! Tests of `lru_checkpoints`.
+//! Tests of `lru_checkpoints` and `lru_generations`.
 #![tactic(auto)]
 
 #[cfg(test)]
@@ -8,6 +8,12 @@ mod damage_tests;
 #[cfg(test)]
 mod fixture;
 #[cfg(test)]
+mod generation_crash_tests;
+#[cfg(test)]
+mod generation_fixture;
+#[cfg(test)]
 mod memory_tests;
+#[cfg(test)]
+mod rotation_tests;
 #[cfg(test)]
 mod round_trip_tests;

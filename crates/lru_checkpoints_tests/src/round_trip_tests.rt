@@ -7,27 +7,39 @@ use lru_folder::folder::Folder;
 use lru_folder::folder_call::FolderCall;
 use lru_memory_folder::memory_folder::MemoryFolder;
 use lru_whole_files::errors::CallFault;
+use std::alloc::{AllocError, Global};
 use std::test::Fail;
+
+// Whether this generation is the next one, and what is saved as it is what is loaded.
+fn comes_back(
+    alloc: Global,
+    folder: &mut MemoryFolder,
+    generation: u64,
+) -> Result<bool, CheckpointError> {
+    let is_next = next_generation(alloc, folder, "d", "c")? == generation;
+    save(alloc, folder, generation, 10)?;
+    let loaded = load(alloc, folder)?;
+    Ok(is_next & is_checkpoint(alloc, &loaded, generation, 10)?)
+}
+
+// The paths of a folder's files, each with a space behind it.
+fn names_of(alloc: Global, folder: &MemoryFolder) -> Result<String, AllocError> {
+    let mut names = String::new(alloc);
+    for path in &folder.paths()? {
+        write!(names, "{path} ")?;
+    }
+    Ok(names)
+}
 
 #[test]
 fn two_generations(rt: HostRuntime) -> Result<(), Fail> {
-    let alloc = rt.alloc();
-    let mut folder = MemoryFolder::new(alloc);
+    let mut folder = MemoryFolder::new(rt.alloc());
     folder.make("d")?;
-    assert!(rt; next_generation(alloc, &mut folder, "d", "c")? == 0);
-    save(alloc, &mut folder, 0, 10)?;
-    assert!(rt; is_checkpoint(alloc, &load(alloc, &mut folder)?, 0, 10)?);
-    assert!(rt; next_generation(alloc, &mut folder, "d", "c")? == 1);
-    save(alloc, &mut folder, 1, 11)?;
-    assert!(rt; is_checkpoint(alloc, &load(alloc, &mut folder)?, 1, 11)?);
-    let mut names = String::new(alloc);
-    for path in &folder.paths()? {
-        names.push_str(path)?;
-        names.push_str(" ")?;
-    }
-    assert_eq!(rt;
-        names.as_str(),
-        "d/c.0.0 d/c.0.1 d/c.1.0 d/c.1.1 d/c.manifest "
+    let first = comes_back(rt.alloc(), &mut folder, 0)?;
+    let second = comes_back(rt.alloc(), &mut folder, 1)?;
+    let names = names_of(rt.alloc(), &folder)?;
+    assert!(rt;
+        first && second && names.as_str() == "d/c.0.0 d/c.0.1 d/c.1.0 d/c.1.1 d/c.manifest "
     );
     Ok(())
 }
@@ -36,10 +48,10 @@ fn two_generations(rt: HostRuntime) -> Result<(), Fail> {
 fn the_last_generation(rt: HostRuntime) -> Result<(), Fail> {
     let alloc = rt.alloc();
     let mut folder = saved(alloc, u64::MAX, 10)?;
-    assert!(rt; is_checkpoint(alloc, &load(alloc, &mut folder)?, u64::MAX, 10)?);
-    assert!(rt;
-        next_generation(alloc, &mut folder, "d", "c") == Err(CheckpointError::LastGeneration)
-    );
+    let loaded = load(alloc, &mut folder)?;
+    let is_loaded = is_checkpoint(alloc, &loaded, u64::MAX, 10)?;
+    let next = next_generation(alloc, &mut folder, "d", "c");
+    assert!(rt; is_loaded && next == Err(CheckpointError::LastGeneration));
     Ok(())
 }
 
@@ -52,9 +64,12 @@ fn no_folder_and_no_checkpoint(rt: HostRuntime) -> Result<(), Fail> {
         source: FolderFault::NotFound,
     };
     let file = CheckpointFile::Shard(0);
-    assert!(rt; save(alloc, &mut folder, 0, 10) == Err(CheckpointError::Folder { file, fault }));
-    let file = CheckpointFile::Manifest;
-    assert!(rt; load(alloc, &mut folder).err() == Some(CheckpointError::Missing { file }));
+    let saved = save(alloc, &mut folder, 0, 10);
+    let loaded = load(alloc, &mut folder).err();
+    let missing = CheckpointError::Missing {
+        file: CheckpointFile::Manifest,
+    };
+    assert!(rt; saved == Err(CheckpointError::Folder { file, fault }) && loaded == Some(missing));
     Ok(())
 }
 

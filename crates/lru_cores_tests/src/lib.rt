@@ -1,5 +1,5 @@
 //! Tests of `lru_cores` and `lru_runs`: worked rows as lists of calls, two cores side by side, calls with closures and
-//! looks, and the spread of the draws.
+//! looks, and the spread of the draws; and of `lru_tiers`: its worked row, and each call in one shard and in two.
 #![tactic(auto)]
 
 #[cfg(test)]
@@ -14,3 +14,7 @@ mod looks;
 mod rows;
 #[cfg(test)]
 mod steps;
+#[cfg(test)]
+mod tier_rows;
+#[cfg(test)]
+mod tier_steps;

@@ -65,16 +65,19 @@ static SWEPT: [Step<u64, u64>; 14] = [
 #[test]
 fn entries_are_answered_in_time(rt: HostRuntime) -> Result<(), Fail> {
     let mut cache = DeadlineCache::new(rt.alloc(), 10, 4)?;
-    assert_eq!(rt; fault(rt.alloc(), &mut cache, &IN_TIME)?, None);
-    assert_eq!(rt; (cache.most_weight(), cache.most_entries()), (10, 4));
+    let fault = fault(rt.alloc(), &mut cache, &IN_TIME)?;
+    assert_eq!(rt;
+        (fault, cache.most_weight(), cache.most_entries()),
+        (None, 10, 4)
+    );
     Ok(())
 }
 
 #[test]
 fn entries_are_handed_over(rt: HostRuntime) -> Result<(), Fail> {
     let mut cache = DeadlineCache::with_seed(rt.alloc(), 10, 4, 7)?;
-    assert_eq!(rt; fault(rt.alloc(), &mut cache, &HANDED_OVER)?, None);
-    assert!(rt; cache.is_empty());
+    let fault = fault(rt.alloc(), &mut cache, &HANDED_OVER)?;
+    assert_eq!(rt; (fault, cache.is_empty()), (None, true));
     Ok(())
 }
 

@@ -80,8 +80,8 @@ fn are_used_and_swept(cache: &mut Numbers) -> bool {
 fn refused_puts_change_nothing(rt: HostRuntime) -> Result<(), Fail> {
     let mut refusals = 0;
     let mut cache = made(rt.alloc(), &mut refusals)?;
-    assert_eq!(rt; first_wrong(&mut cache, &mut refusals), None);
-    assert!(rt; are_used_and_swept(&mut cache));
-    assert!(rt; refusals <= 1);
+    let wrong = first_wrong(&mut cache, &mut refusals);
+    let is_done = are_used_and_swept(&mut cache);
+    assert!(rt; wrong.is_none() && is_done && refusals <= 1, "{wrong:?}");
     Ok(())
 }

@@ -6,7 +6,6 @@ use std::fmt::Debug;
 use std::hash::Hash;
 
 /// A call of a cache, and what it is given. The time comes first, where there is one.
-#[derive(Clone, Copy)]
 pub enum Call<K, V> {
     /// Key, value, weight and deadline. Answers what was replaced and what went, or why it was refused.
     PutUntil(K, V, usize, u64),
@@ -187,7 +186,7 @@ pub fn shown<K: Hash + Debug, V: Debug>(
 fn answer_of<K, V>(
     alloc: Global,
     cache: &mut DeadlineCache<K, V>,
-    call: Call<K, V>,
+    call: &Call<K, V>,
 ) -> Result<String, AllocError>
 where
     K: Hash + Debug + Default + Drop + Copy,
@@ -195,15 +194,15 @@ where
 {
     match call {
         Call::PutUntil(key, value, weight, deadline) => {
-            put(alloc, cache, (key, value), weight, deadline)
+            put(alloc, cache, (*key, *value), *weight, *deadline)
         }
-        Call::Look(time, key) => look(alloc, cache, time, &key),
-        Call::Promote(time, key) => used(alloc, &cache.promote(time, &key)),
+        Call::Look(time, key) => look(alloc, cache, *time, key),
+        Call::Promote(time, key) => used(alloc, &cache.promote(*time, key)),
         Call::Update(time, key, value, deadline) => {
-            update(alloc, cache, (time, &key), value, deadline)
+            update(alloc, cache, (*time, key), *value, *deadline)
         }
-        Call::Sweep(time, most) => sweep(alloc, cache, time, most),
-        Call::Remove(key) => taken(alloc, &cache.remove(&key)),
+        Call::Sweep(time, most) => sweep(alloc, cache, *time, *most),
+        Call::Remove(key) => taken(alloc, &cache.remove(key)),
         Call::PopLast => taken(alloc, &cache.pop_last()),
         Call::Clear => clear(alloc, cache),
     }
@@ -220,7 +219,7 @@ where
     V: Debug + Drop + Copy,
 {
     for (place, (call, answer, left)) in steps.iter().enumerate() {
-        let answers = answer_of(alloc, cache, *call)?;
+        let answers = answer_of(alloc, cache, call)?;
         let leaves = shown(alloc, cache)?;
         if answers.as_str() != *answer || leaves.as_str() != *left {
             return Ok(Some(place));

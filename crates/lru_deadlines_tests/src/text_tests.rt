@@ -47,22 +47,30 @@ fn are_used(cache: &mut Texts) -> bool {
     used & missing & is_raised & is_past
 }
 
+// Whether the last text is shown so, is taken out so, and is gone then.
+fn is_taken_out(alloc: Global, cache: &mut Texts) -> Result<bool, AllocError> {
+    let is_shown = shown(alloc, cache)?.as_str() == "1 1: Some(\"b\")=20 1 to 9,";
+    let removed = cache.remove_by(Some("b"));
+    let is_taken = taken(alloc, &removed)?.as_str() == "took Some(\"b\")=20 1 to 9,";
+    Ok(is_shown & is_taken & cache.remove_by(Some("b")).is_none())
+}
+
+// Whether two texts are put, looked up, used, and taken out.
+fn asked_for(alloc: Global) -> Result<[bool; 4], AllocError> {
+    let mut cache = Texts::new(alloc, 9, 9)?;
+    let are_put = is_put(alloc, &mut cache, "a", 10, 5)? & is_put(alloc, &mut cache, "b", 20, 7)?;
+    let are_found = are_looked_up(&cache);
+    let are_used = are_used(&mut cache);
+    Ok([
+        are_put,
+        are_found,
+        are_used,
+        is_taken_out(alloc, &mut cache)?,
+    ])
+}
+
 #[test]
 fn texts_are_asked_for_by_texts(rt: HostRuntime) -> Result<(), Fail> {
-    let alloc = rt.alloc();
-    let mut cache = Texts::new(alloc, 9, 9)?;
-    assert!(rt; is_put(alloc, &mut cache, "a", 10, 5)? & is_put(alloc, &mut cache, "b", 20, 7)?);
-    assert!(rt; are_looked_up(&cache));
-    assert!(rt; are_used(&mut cache));
-    assert_eq!(rt;
-        shown(alloc, &cache)?.as_str(),
-        "1 1: Some(\"b\")=20 1 to 9,"
-    );
-    let removed = cache.remove_by(Some("b"));
-    assert_eq!(rt;
-        taken(alloc, &removed)?.as_str(),
-        "took Some(\"b\")=20 1 to 9,"
-    );
-    assert!(rt; cache.remove_by(Some("b")).is_none());
+    assert_eq!(rt; asked_for(rt.alloc())?, [true; 4]);
     Ok(())
 }

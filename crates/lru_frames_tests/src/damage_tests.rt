@@ -59,9 +59,9 @@ fn first_unseen(alloc: Global, bytes: &mut Vec<u8>) -> Option<usize> {
 #[test]
 fn each_changed_byte(rt: HostRuntime) -> Result<(), Fail> {
     let mut bytes = two_rows(rt.alloc())?;
-    assert_eq!(rt; bytes.len(), 112);
-    assert_eq!(rt; first_unseen(rt.alloc(), &mut bytes), None);
-    assert!(rt; read(rt.alloc(), &bytes).is_ok());
+    let unseen = first_unseen(rt.alloc(), &mut bytes);
+    let is_read = read(rt.alloc(), &bytes).is_ok();
+    assert_eq!(rt; (bytes.len(), unseen, is_read), (112, None, true));
     Ok(())
 }
 
@@ -77,13 +77,21 @@ fn each_cut(rt: HostRuntime) -> Result<(), Fail> {
     Ok(())
 }
 
+// The first of 40 bytes behind a frame, put there one by one, that is not told by its length.
+fn first_taken(alloc: Global, bytes: &mut Vec<u8>) -> Result<Option<u8>, AllocError> {
+    for byte in 0..40u8 {
+        bytes.push(byte)?;
+        if damage(alloc, bytes) != Some(Part::Length) {
+            return Ok(Some(byte));
+        }
+    }
+    Ok(None)
+}
+
 #[test]
 fn bytes_behind(rt: HostRuntime) -> Result<(), Fail> {
     let mut bytes = two_rows(rt.alloc())?;
-    for byte in 0..40u8 {
-        bytes.push(byte)?;
-        assert_eq!(rt; damage(rt.alloc(), &bytes), Some(Part::Length));
-    }
+    assert_eq!(rt; first_taken(rt.alloc(), &mut bytes)?, None);
     Ok(())
 }
 
@@ -101,11 +109,15 @@ fn damage_at(alloc: Global, bytes: &mut Vec<u8>, place: usize) -> Option<Part> {
 #[test]
 fn which_part(rt: HostRuntime) -> Result<(), Fail> {
     let mut bytes = two_rows(rt.alloc())?;
-    assert_eq!(rt; damage_at(rt.alloc(), &mut bytes, 0), Some(Part::Magic));
-    assert_eq!(rt; damage_at(rt.alloc(), &mut bytes, 8), Some(Part::Version));
-    assert_eq!(rt; damage_at(rt.alloc(), &mut bytes, 16), Some(Part::Length));
-    assert_eq!(rt; damage_at(rt.alloc(), &mut bytes, 24), Some(Part::Check));
-    assert_eq!(rt; damage_at(rt.alloc(), &mut bytes, 111), Some(Part::Check));
+    let parts = [0, 8, 16, 24, 111].map(|place| damage_at(rt.alloc(), &mut bytes, place));
+    let wanted = [
+        Part::Magic,
+        Part::Version,
+        Part::Length,
+        Part::Check,
+        Part::Check,
+    ];
+    assert_eq!(rt; parts, wanted.map(Some));
     Ok(())
 }
 
@@ -140,20 +152,26 @@ fn sealed(alloc: Global, numbers: &[u64]) -> Result<Vec<u8>, AllocError> {
     Ok(bytes)
 }
 
+// Numbers of a frame, and the part that is told as damaged: length, shards, shard, generation, rows; key, data and weight of
+// each row.
+#[rattlefmt::skip]
+static SEALED: [(&[u64], Option<Part>); 6] = [
+    (&[88, 1, 0, 0, 1, 5, 9, 3], None),
+    // a shard too great
+    (&[88, 1, 1, 0, 1, 5, 9, 3], Some(Part::Header)),
+    // no header
+    (&[48, 1, 0], Some(Part::Header)),
+    // rows that are missing, that are not told, and that are too many to count
+    (&[88, 1, 0, 0, 2, 5, 9, 3], Some(Part::Rows)),
+    (&[88, 1, 0, 0, 0, 5, 9, 3], Some(Part::Rows)),
+    (&[88, 1, 0, 0, u64::MAX, 5, 9, 3], Some(Part::Rows)),
+];
+
 #[test]
 fn what_a_right_check_does_not_mend(rt: HostRuntime) -> Result<(), Fail> {
-    // length, shards, shard, generation, rows; key, data and weight of each row
-    let right = sealed(rt.alloc(), &[88, 1, 0, 0, 1, 5, 9, 3])?;
-    assert!(rt; read(rt.alloc(), &right).is_ok());
-    let shard_too_great = sealed(rt.alloc(), &[88, 1, 1, 0, 1, 5, 9, 3])?;
-    assert_eq!(rt; damage(rt.alloc(), &shard_too_great), Some(Part::Header));
-    let no_header = sealed(rt.alloc(), &[48, 1, 0])?;
-    assert_eq!(rt; damage(rt.alloc(), &no_header), Some(Part::Header));
-    let rows_missing = sealed(rt.alloc(), &[88, 1, 0, 0, 2, 5, 9, 3])?;
-    assert_eq!(rt; damage(rt.alloc(), &rows_missing), Some(Part::Rows));
-    let rows_untold = sealed(rt.alloc(), &[88, 1, 0, 0, 0, 5, 9, 3])?;
-    assert_eq!(rt; damage(rt.alloc(), &rows_untold), Some(Part::Rows));
-    let countless_rows = sealed(rt.alloc(), &[88, 1, 0, 0, u64::MAX, 5, 9, 3])?;
-    assert_eq!(rt; damage(rt.alloc(), &countless_rows), Some(Part::Rows));
+    for (numbers, wanted) in &SEALED {
+        let bytes = sealed(rt.alloc(), numbers)?;
+        assert_eq!(rt; damage(rt.alloc(), &bytes), *wanted, "{numbers:?}");
+    }
     Ok(())
 }

@@ -32,8 +32,9 @@ fn wrong_error(alloc: Global) -> Result<Option<FrameError>, AllocError> {
 
 #[test]
 fn numbers_and_texts(rt: HostRuntime) -> Result<(), Fail> {
-    assert_eq!(rt; wrong_error(rt.alloc())?, None);
-    assert!(rt; is_shown(rt.alloc(), &StoredError::Damaged, "damaged")?);
-    assert!(rt; is_shown(rt.alloc(), &StoredError::Memory, "out of memory")?);
+    let wrong = wrong_error(rt.alloc())?;
+    let damaged = is_shown(rt.alloc(), &StoredError::Damaged, "damaged")?;
+    let memory = is_shown(rt.alloc(), &StoredError::Memory, "out of memory")?;
+    assert_eq!(rt; (wrong, damaged, memory), (None, true, true));
     Ok(())
 }

@@ -1,5 +1,5 @@
 //! Frames whose bytes are written out.
-use lru_frames::frame::{Header, decode, encode, encode_and_decode};
+use lru_frames::frame::{Frame, Header, decode, encode, encode_and_decode};
 use lru_frames::row::Row;
 use std::alloc::{AllocError, Global};
 use std::test::Fail;
@@ -57,40 +57,59 @@ fn writes_these_bytes(rt: HostRuntime) -> Result<(), Fail> {
 
 #[test]
 fn reads_these_bytes(rt: HostRuntime) -> Result<(), Fail> {
-    let frame = decode::<u64, u64>(rt.alloc(), &ONE_ROW)?;
-    assert_eq!(rt; frame.header, HEADER);
-    assert_eq!(rt; frame.rows.len(), 1);
-    for row in &frame.rows {
-        assert_eq!(rt; (row.key, row.data, row.weight), (5, 9, 3));
-    }
+    let Frame { header, rows } = decode::<u64, u64>(rt.alloc(), &ONE_ROW)?;
+    let has_row = match rows.as_slice() {
+        [row] => (row.key, row.data, row.weight) == (5, 9, 3),
+        _ => false,
+    };
+    assert_eq!(rt; (header, has_row), (HEADER, true));
     Ok(())
 }
 
-#[test]
-fn writes_and_reads_text(rt: HostRuntime) -> Result<(), Fail> {
-    let mut rows = Vec::new(rt.alloc());
-    let key = String::from_str(rt.alloc(), "a")?;
-    let data = (Vec::from_slice(rt.alloc(), b"xy")?, 258u64);
+// A row of text, bytes and a number.
+type TextRow = Row<String, (Vec<u8>, u64)>;
+
+const TEXT_HEADER: Header = Header {
+    shards: 1,
+    shard: 0,
+    generation: 0,
+};
+
+fn text_row(alloc: Global) -> Result<Vec<TextRow>, AllocError> {
+    let data = (Vec::from_slice(alloc, b"xy")?, 258u64);
+    let key = String::from_str(alloc, "a")?;
+    let mut rows = Vec::new(alloc);
     rows.push(Row {
         key,
         data,
         weight: 2,
     })?;
-    let header = Header {
-        shards: 1,
-        shard: 0,
-        generation: 0,
-    };
-    let bytes = encode(rt.alloc(), header, &rows)?;
+    Ok(rows)
+}
+
+#[test]
+fn writes_text(rt: HostRuntime) -> Result<(), Fail> {
+    let rows = text_row(rt.alloc())?;
+    let bytes = encode(rt.alloc(), TEXT_HEADER, &rows)?;
     assert_eq!(rt; bytes.as_slice(), TEXT_ROW.as_slice());
-    let frame = decode::<String, (Vec<u8>, u64)>(rt.alloc(), &bytes)?;
-    assert_eq!(rt; frame.header, header);
-    assert_eq!(rt; frame.rows.len(), 1);
-    for row in &frame.rows {
-        assert_eq!(rt; row.key.as_str(), "a");
-        assert_eq!(rt; row.data.0.as_slice(), b"xy".as_slice());
-        assert_eq!(rt; (row.data.1, row.weight), (258, 2));
-    }
+    Ok(())
+}
+
+// Whether these are the key "a", the bytes "xy", the number 258 and the weight 2.
+fn is_text_row(row: &TextRow) -> bool {
+    row.key.as_str() == "a"
+        && row.data.0.as_slice() == b"xy".as_slice()
+        && (row.data.1, row.weight) == (258, 2)
+}
+
+#[test]
+fn reads_text(rt: HostRuntime) -> Result<(), Fail> {
+    let Frame { header, rows } = decode::<String, (Vec<u8>, u64)>(rt.alloc(), &TEXT_ROW)?;
+    let has_row = match rows.as_slice() {
+        [row] => is_text_row(row),
+        _ => false,
+    };
+    assert_eq!(rt; (header, has_row), (TEXT_HEADER, true));
     Ok(())
 }
 
@@ -123,8 +142,8 @@ fn tells_again(alloc: Global, count: u64) -> Result<bool, Fail> {
 
 #[test]
 fn none_one_and_many_rows(rt: HostRuntime) -> Result<(), Fail> {
-    assert!(rt; tells_again(rt.alloc(), 0)?);
-    assert!(rt; tells_again(rt.alloc(), 1)?);
-    assert!(rt; tells_again(rt.alloc(), 1000)?);
+    for count in [0, 1, 1000] {
+        assert!(rt; tells_again(rt.alloc(), count)?);
+    }
     Ok(())
 }

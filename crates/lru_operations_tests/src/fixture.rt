@@ -37,6 +37,33 @@ pub(crate) fn answers(
     Ok((answer, writer.as_slice()) == (status, text.as_bytes()))
 }
 
+/// A run of the program: its words, its input, the status that it ends with, and what it writes.
+pub(crate) type Run = (&'static str, &'static str, u8, &'static str);
+
+// Runs the program on a folder again and again. The number of the first run, if there is one, that answers otherwise.
+pub(crate) fn other_run(
+    alloc: Global,
+    folder: &mut MemoryFolder,
+    runs: &[Run],
+) -> Result<Option<usize>, AllocError> {
+    for (number, (line, input, status, text)) in runs.iter().enumerate() {
+        if !answers(alloc, folder, line, input, *status, text)? {
+            return Ok(Some(number));
+        }
+    }
+    Ok(None)
+}
+
+// The same on a folder without a checkpoint; and whether it has a file then.
+pub(crate) fn other_run_on_empty(
+    alloc: Global,
+    runs: &[Run],
+) -> Result<(Option<usize>, bool), AllocError> {
+    let mut folder = empty(alloc)?;
+    let other = other_run(alloc, &mut folder, runs)?;
+    Ok((other, !folder.paths()?.is_empty()))
+}
+
 // Whether the rows are saved as this generation.
 pub(crate) fn saves(
     alloc: Global,

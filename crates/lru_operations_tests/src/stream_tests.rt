@@ -1,9 +1,10 @@
 //! Reads and writes that fail.
 ghost use Rattle.std.specs.Prelude.{⊤};
 
-use crate::fixture::{answers, empty, words};
+use crate::fixture::{Run, empty, other_run, words};
 use lru_operations::engine::{run, run_buffered};
 use lru_streams::input::{Input, InputError, read_to_end};
+use std::alloc::{AllocError, Global};
 use std::io;
 use std::io::BufWriter;
 use std::test::Fail;
@@ -34,20 +35,26 @@ static FAILURES: [(io::ErrorKind, &str); 2] = [
     (io::ErrorKind::OutOfMemory, "failed: out of memory\n"),
 ];
 
-#[test]
-fn an_input_that_fails_saves_nothing(rt: HostRuntime) -> Result<(), Fail> {
-    let alloc = rt.alloc();
+// Whether a save of an input that fails so tells this, and leaves no file.
+fn is_told(alloc: Global, kind: io::ErrorKind, text: &str) -> Result<bool, AllocError> {
     let words = words(alloc, "save d c")?;
     let mut folder = empty(alloc)?;
+    let mut writer = Vec::new(alloc);
+    let mut reader = Broken { kind };
+    let status = run(alloc, &mut folder, &words, &mut reader, &mut writer).unwrap_or(9);
+    let has_none = folder.paths()?.is_empty();
+    Ok(has_none & ((status, writer.as_slice()) == (1, text.as_bytes())))
+}
+
+#[test]
+fn an_input_that_fails_saves_nothing(rt: HostRuntime) -> Result<(), Fail> {
     for (kind, text) in FAILURES.iter() {
-        let mut writer = Vec::new(alloc);
-        let mut reader = Broken { kind: *kind };
-        let status = run(alloc, &mut folder, &words, &mut reader, &mut writer).unwrap_or(9);
-        assert!(rt; (status, writer.as_slice()) == (1, text.as_bytes()));
+        assert!(rt; is_told(rt.alloc(), *kind, text)?);
     }
-    assert!(rt; folder.paths()?.is_empty());
     Ok(())
 }
+
+static SHOWN: [Run; 1] = [("show d c", "", 0, "generation 0\n1 1 1\n")];
 
 #[test]
 fn a_write_that_fails_is_told_and_the_checkpoint_stays(rt: HostRuntime) -> Result<(), Fail> {
@@ -57,17 +64,9 @@ fn a_write_that_fails_is_told_and_the_checkpoint_stays(rt: HostRuntime) -> Resul
     let mut reader = b"1 1 1\n".as_slice();
     let mut room = [0_u8; 3];
     let mut writer = room.as_mut_slice();
-    assert!(rt; run(alloc, &mut folder, &words, &mut reader, &mut writer).is_err());
-    assert!(rt;
-        answers(
-            alloc,
-            &mut folder,
-            "show d c",
-            "",
-            0,
-            "generation 0\n1 1 1\n"
-        )?
-    );
+    let has_failed = run(alloc, &mut folder, &words, &mut reader, &mut writer).is_err();
+    let shown = other_run(alloc, &mut folder, &SHOWN)?;
+    assert_eq!(rt; (has_failed, shown), (true, None));
     Ok(())
 }
 
@@ -79,7 +78,8 @@ fn what_is_buffered_is_written(rt: HostRuntime) -> Result<(), Fail> {
     let mut reader = b"1 1 1\n".as_slice();
     let writer = BufWriter::new(alloc, Vec::new(alloc))?;
     let (status, written) = run_buffered(alloc, &mut folder, &words, &mut reader, writer);
-    assert!(rt; status == 0);
-    assert!(rt; written.is_some_and(|text| text.as_slice() == b"generation 0 rows 1\n".as_slice()));
+    let is_written = written.is_some_and(|text| text.as_slice()
+        == b"generation 0 rows 1\n".as_slice());
+    assert!(rt; status == 0 && is_written);
     Ok(())
 }

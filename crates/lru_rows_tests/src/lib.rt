@@ -1,9 +1,16 @@
-//! Tests of `lru_rows`: lists of calls worked out by hand, and what the iterators show.
+//! Tests of `lru_list`, `lru_index` and `lru_rows`: lists of calls worked out by hand, what the iterators show, and how long the
+//! chains of an index become.
 #![tactic(auto)]
 
 #[cfg(test)]
 mod iter_tests;
 #[cfg(test)]
+mod linked_list_tests;
+#[cfg(test)]
+mod place_index_tests;
+#[cfg(test)]
 mod rows_tests;
 #[cfg(test)]
 mod steps;
+#[cfg(test)]
+mod table;

@@ -1,5 +1,0 @@
-//! Tests of `lru_accounts`: an order over its limit, and what became of each of its rows.
-#![tactic(auto)]
-
-#[cfg(test)]
-mod accounts;

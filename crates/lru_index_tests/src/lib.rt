@@ -1,7 +1,0 @@
-//! Tests of `lru_index`.
-#![tactic(auto)]
-
-#[cfg(test)]
-mod place_index_tests;
-#[cfg(test)]
-mod table;
