@@ -1,8 +1,16 @@
-//! Tests of `lru_cache`: lists of calls worked out by hand, and want of memory.
+//! Tests of `lru_cache` and `lru_deadlines`: lists of calls worked out by hand, keys that are texts, and want of memory.
 #![tactic(auto)]
 
 #[cfg(test)]
 mod cache_tests;
+#[cfg(test)]
+mod deadline_memory_tests;
+#[cfg(test)]
+mod deadline_steps;
+#[cfg(test)]
+mod deadline_tests;
+#[cfg(test)]
+mod deadline_text_tests;
 #[cfg(test)]
 mod made_tests;
 #[cfg(test)]

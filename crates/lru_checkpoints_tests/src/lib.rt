@@ -1,4 +1,4 @@
-//! Tests of `lru_checkpoints` and `lru_generations`.
+//! Tests of `lru_frames`, `lru_checkpoints` and `lru_generations`.
 #![tactic(auto)]
 
 #[cfg(test)]
@@ -6,7 +6,13 @@ mod crash_tests;
 #[cfg(test)]
 mod damage_tests;
 #[cfg(test)]
+mod error_tests;
+#[cfg(test)]
 mod fixture;
+#[cfg(test)]
+mod frame_damage_tests;
+#[cfg(test)]
+mod frame_tests;
 #[cfg(test)]
 mod generation_crash_tests;
 #[cfg(test)]
@@ -17,3 +23,5 @@ mod memory_tests;
 mod rotation_tests;
 #[cfg(test)]
 mod round_trip_tests;
+#[cfg(test)]
+mod stored_tests;

@@ -1,5 +1,5 @@
-//! Tests of `lru_cores` and `lru_runs`: worked rows as lists of calls, two cores side by side, calls with closures and
-//! looks, and the spread of the draws; and of `lru_tiers`: its worked row, and each call in one shard and in two.
+//! Tests of `lru_shard`, `lru_cores`, `lru_runs` and `lru_tiers`: worked rows as lists of calls, two cores side by side, calls with
+//! closures and looks, and the spread of the draws.
 #![tactic(auto)]
 
 #[cfg(test)]
@@ -12,6 +12,12 @@ mod fronts;
 mod looks;
 #[cfg(test)]
 mod rows;
+#[cfg(test)]
+mod shard_looks;
+#[cfg(test)]
+mod shard_rows;
+#[cfg(test)]
+mod shard_steps;
 #[cfg(test)]
 mod steps;
 #[cfg(test)]

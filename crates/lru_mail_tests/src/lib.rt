@@ -1,6 +1,9 @@
-//! Tests of cells for one reply, and of mailboxes and boxes: the worked rows by one owner, and threads that wait for one another.
+//! Tests of cells for one reply, of mailboxes and boxes, and of the shard that an actor serves: the worked rows by one owner, and
+//! threads that wait for one another.
 #![tactic(auto)]
 
+#[cfg(test)]
+mod actor_rows;
 #[cfg(test)]
 mod box_rows;
 #[cfg(test)]

@@ -3,6 +3,7 @@
 //! the same in each run.
 #![tactic(auto)]
 
+mod engine;
 mod loads;
 mod rows;
 mod saves;
@@ -13,7 +14,8 @@ fn main(rt: HostRuntime) -> ExitCode {
     let alloc = rt.alloc();
     let saves = saves::script(alloc, &mut rt.stdout());
     let loads = loads::script(alloc, &mut rt.stdout());
-    if saves.is_ok() && loads.is_ok() {
+    let engine = engine::script(alloc, &mut rt.stdout());
+    if saves.is_ok() && loads.is_ok() && engine.is_ok() {
         ExitCode::SUCCESS
     } else {
         let _ = println!(rt; "a script did not end");

@@ -1,5 +1,5 @@
 //! Keys that are texts, asked for by texts.
-use crate::steps::{put, shown, taken};
+use crate::deadline_steps::{put, shown, taken};
 use lru_deadlines::deadlines::{DeadlineCache, Until};
 use std::alloc::{AllocError, Global};
 use std::test::Fail;

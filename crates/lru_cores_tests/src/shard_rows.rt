@@ -1,5 +1,5 @@
 // Worked rows of one shard, each a list of calls.
-use crate::steps::{Call, Step, fault};
+use crate::shard_steps::{Call, Step, fault};
 use lru_shard::unit::{Cause, LruUnit};
 use std::alloc::{AllocError, Global};
 use std::test::Fail;

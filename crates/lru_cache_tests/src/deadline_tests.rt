@@ -1,5 +1,5 @@
 //! Caches of numbers, of keys that collide, and of values without a size, at times that are handed in.
-use crate::steps::{Call, Step, fault};
+use crate::deadline_steps::{Call, Step, fault};
 use lru_deadlines::deadlines::{DeadlineCache, Until};
 use std::hash::{Hash, Hasher};
 use std::test::Fail;

@@ -1,15 +1,11 @@
-//! A run of the program's engine whose every request for memory may be refused, one in each run: it gives up, or a reply is that
-//! memory was refused, and the run made again answers as if nothing had been. So what is written is the same in each run, and
-//! one that gives up with no request refused writes something else.
-#![tactic(auto)]
-
+// A run of the program's engine: it gives up, or a reply is that memory was refused, and the run made again answers as if nothing
+// had been. One that gives up with no request refused writes something else.
 use log::sink::Discard;
 use lru_engine::engine::run;
 use pingora_lru_files::persistence::MemoryFolder;
 use std::alloc::{AllocError, Global};
 use std::io;
 use std::io::Write;
-use std::process::ExitCode;
 
 const INPUT: &[u8] = b"admit 1 1 1\nadmit 3 3 1\nadmit 5 5 1\nlru 1\nlimit\ntotal\n";
 
@@ -43,7 +39,7 @@ fn is_refused(text: &[u8]) -> bool {
 }
 
 /// Writes the status and the text of the run, at the second try where the first was refused memory.
-fn script<W: Write>(alloc: Global, writer: &mut W) -> io::Result<()> {
+pub fn script<W: Write>(alloc: Global, writer: &mut W) -> io::Result<()> {
     for _ in 0..2u8 {
         let mut room = [0_u8; 256];
         if let Ok(words) = words(alloc) {
@@ -55,11 +51,4 @@ fn script<W: Write>(alloc: Global, writer: &mut W) -> io::Result<()> {
         }
     }
     writeln!(writer, "refused twice")
-}
-
-fn main(rt: HostRuntime) -> ExitCode {
-    match script(rt.alloc(), &mut rt.stdout()) {
-        Ok(()) => ExitCode::SUCCESS,
-        Err(_) => ExitCode::FAILURE,
-    }
 }
