@@ -129,8 +129,8 @@ fn cache_comes_back(alloc: Global) -> Result<bool, Fail> {
     Ok(is_as_it_stood(&rows) & (small.len() == 2) & (small.weight() == 4) & !small.contains(&3))
 }
 
-// Under a limit of 2 the entry of 3 is too heavy by itself, and is left out; of the others the last goes.
-fn heavy_is_left_out(alloc: Global) -> Result<bool, Fail> {
+// One entry weighs 3, the others less.
+fn heavy_and_others(alloc: Global) -> Result<Vec<Row<u64, String>>, Fail> {
     let mut rows = Vec::new(alloc);
     for (key, weight) in [(5u64, 3usize), (1, 1), (3, 2)] {
         rows.push(Row {
@@ -139,14 +139,28 @@ fn heavy_is_left_out(alloc: Global) -> Result<bool, Fail> {
             weight,
         })?;
     }
+    Ok(rows)
+}
+
+// Under a limit of 2 the entry of 3 is too heavy by itself, and is left out; of the others the last goes.
+fn heavy_is_left_out(alloc: Global) -> Result<bool, Fail> {
     let mut cache: Cache<u64, String> = Cache::new(alloc, 2, 100)?;
+    let rows = heavy_and_others(alloc)?;
     let is_told = matches!(caches::restore_cache(&mut cache, rows), Ok(1));
     Ok(is_told & (cache.len() == 1) & cache.contains(&1))
 }
 
+// The same where threads share the cache, whose two shards have a limit of 2 each. The others may be of two shards.
+fn heavy_is_left_out_of_a_shard<R: Wait>(rt: &R, alloc: Global) -> Result<bool, Fail> {
+    let cache: SharedCache<u64, String, 2> = SharedCache::new(alloc, 4, 200)?;
+    let rows = heavy_and_others(alloc)?;
+    let is_told = matches!(shared::restore_shard(rt, &cache, rows), Ok(1));
+    Ok(is_told & cache.contains(rt, &1) & !cache.contains(rt, &5))
+}
+
 #[test]
 fn an_entry_that_is_too_heavy_is_left_out(rt: HostRuntime) -> Result<(), Fail> {
-    assert!(rt; heavy_is_left_out(rt.alloc())?);
+    assert!(rt; heavy_is_left_out(rt.alloc())? & heavy_is_left_out_of_a_shard(&rt, rt.alloc())?);
     Ok(())
 }
 
