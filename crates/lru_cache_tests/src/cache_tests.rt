@@ -1,7 +1,7 @@
 //! Caches of numbers, of keys that collide, and of values without a size.
+use crate::alike::Alike;
 use crate::steps::{Call, Step, fault};
 use lru_cache::cache::Cache;
-use std::hash::{Hash, Hasher};
 use std::test::Fail;
 
 // Each call, under limits that nothing reaches.
@@ -285,21 +285,6 @@ fn a_limit_of_no_weight(rt: HostRuntime) -> Result<(), Fail> {
     let mut cache = Cache::new(rt.alloc(), 0, 5)?;
     assert_eq!(rt; fault(rt.alloc(), &mut cache, &NO_WEIGHT)?, None);
     Ok(())
-}
-
-/// A key whose hash is that of every other.
-#[derive(Clone, Copy, Debug, Default, PartialEq, Eq)]
-struct Alike(u8);
-
-impl Hash for Alike {
-    ghost use Rattle.std.specs.Prelude.{[]};
-    ghost use Rattle.std.proofs.Common.{refl};
-
-    ghost hash_input = { λ _. [] };
-
-    ghost respects_eq = { λ x y e. refl };
-
-    fn hash<H: Hasher>(&self, _state: &mut H) {}
 }
 
 #[rattlefmt::skip]

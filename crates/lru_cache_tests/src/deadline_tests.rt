@@ -1,7 +1,7 @@
 //! Caches of numbers, of keys that collide, and of values without a size, at times that are handed in.
+use crate::alike::Alike;
 use crate::deadline_steps::{Call, Step, fault};
 use lru_deadlines::deadlines::{DeadlineCache, Until};
-use std::hash::{Hash, Hasher};
 use std::test::Fail;
 
 // An entry is there at its deadline, and not after it.
@@ -86,21 +86,6 @@ fn the_end_is_swept(rt: HostRuntime) -> Result<(), Fail> {
     let mut cache = DeadlineCache::new(rt.alloc(), 9, 5)?;
     assert_eq!(rt; fault(rt.alloc(), &mut cache, &SWEPT)?, None);
     Ok(())
-}
-
-/// A key whose hash is that of every other.
-#[derive(Clone, Copy, Debug, Default, PartialEq, Eq)]
-struct Alike(u8);
-
-impl Hash for Alike {
-    ghost use Rattle.std.specs.Prelude.{[]};
-    ghost use Rattle.std.proofs.Common.{refl};
-
-    ghost hash_input = { λ _. [] };
-
-    ghost respects_eq = { λ x y e. refl };
-
-    fn hash<H: Hasher>(&self, _state: &mut H) {}
 }
 
 #[rattlefmt::skip]

@@ -2,6 +2,8 @@
 #![tactic(auto)]
 
 #[cfg(test)]
+mod alike;
+#[cfg(test)]
 mod cache_tests;
 #[cfg(test)]
 mod deadline_memory_tests;
