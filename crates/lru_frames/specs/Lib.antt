@@ -8,3 +8,4 @@ pub mod Rows
 pub mod RowLaws
 pub mod Frame
 pub mod Causes
+pub mod Marks

@@ -6,6 +6,7 @@ mod envelope;
 pub mod errors;
 pub mod frame;
 pub mod laws;
+pub mod mark;
 pub mod row;
 mod rows;
 pub mod stored;
