@@ -2,3 +2,4 @@ pub mod CheckLaws
 pub mod EnvelopeLaws
 pub mod RowsLaws
 pub mod FrameLaws
+pub mod MarkLaws

@@ -9,3 +9,4 @@ pub mod RowLaws
 pub mod Frame
 pub mod Causes
 pub mod Marks
+pub mod Sources

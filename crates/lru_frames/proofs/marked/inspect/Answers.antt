@@ -1,0 +1,23 @@
+use Rattle.std.proofs.Common.{rules, sym, ap, ◌∙◌, arith}
+use Rattle.lru_frames.specs.declared.frame.Header.{Header}
+use Rattle.lru_frames.proofs.EnvelopeLaws.{length-sealed}
+use Rattle.lru_frames.proofs.FrameLaws.{AreNarrow, no_header, one_header, header_narrow}
+use Rattle.lru_frames.proofs.marked.inspect.Goals as goal
+
+pub returns-in_default-clause-wrong : goal.returns-in_default-clause-wrong
+returns-in_default-clause-wrong c = (
+  c.in-Ok.content.now,
+  (c.in-Ok.ensures.content, λ header count rest _ _ h. no_header c.in-Ok.content.now rest header count c.in_default.ensures h),
+)
+
+pub returns-then-header-clause-wrong : goal.returns-then-header-clause-wrong
+returns-then-header-clause-wrong c = (
+  c.in-Ok.content.now,
+  (
+    c.in-Ok.ensures.content,
+    λ header count rest is_header small h.
+        let narrow : AreNarrow c.in-Some.header c.in-Some.count = record { shards = search rules; shard = search rules; generation = search rules; rows = search rules } in
+        let parts = one_header c.in-Some.header header c.in-Some.count count c.in-Some.field-0-2.now rest narrow (header_narrow header count is_header small) (sym c.in-Some.ensures ∙ h) in
+        omega (arith, c.if-header.true, ap (λ (x : Header). x.shards) parts.0, ap (λ (x : Header). x.shard) parts.0, is_header.shard),
+  ),
+)
