@@ -1,12 +1,12 @@
 //! Frames and their marks.
-ghost use Rattle.std.specs.Prelude.{◌≡◌, ◌<◌, ◌≤◌, ◌^◌, ◌++◌, ℕ, List, length, IfOk, IfErr, MatchResult};
+ghost use Rattle.std.specs.Prelude.{◌≡◌, ◌<◌, ◌≤◌, ◌^◌, ◌++◌, ℕ, List, length, IfOk, IfErr, IsOk, MatchResult};
 ghost use Rattle.lru_frames.specs.declared.errors.FrameError.TheVariants.{Damaged, Memory};
 ghost use Rattle.lru_frames.specs.declared.frame.Header.{Header};
 ghost use Rattle.lru_frames.specs.declared.row.Row.{Row};
 ghost use Rattle.lru_frames.specs.Causes.{IsWrong};
 ghost use Rattle.lru_frames.specs.Envelope.{sealed};
 ghost use Rattle.lru_frames.specs.Rows.{IsSameRow, AreSame};
-ghost use Rattle.lru_frames.specs.Frame.{frame_of, header_bytes, Fits};
+ghost use Rattle.lru_frames.specs.Frame.{frame_of, header_bytes, Fits, IsHeader};
 ghost use Rattle.lru_frames.specs.Marks.{IsWrongFrame, mark_in, mark_of};
 
 use crate::envelope::opened;
@@ -97,6 +97,11 @@ pub fn inspect(bytes: &[u8]) -> Result<Inspected, Part>
     ensures found { IfOk result (λ it. (rest : List ℕ) × ((bytes.now ≡ sealed (header_bytes it.header it.mark.rows ++ rest))
         × (it.mark ≡ mark_in it.mark.rows (header_bytes it.header it.mark.rows ++ rest)))) }
     ensures shard { IfOk result (λ it. it.header.shard < it.header.shards) }
+
+    // Each frame is told.
+    ensures written { (header : Header) (count : ℕ) (rest : List ℕ) → IsHeader header → count < 2 ^ 64
+        → bytes.now ≡ sealed (header_bytes header count ++ rest) → IfOk result (λ it. (it.header ≡ header) × (it.mark ≡ mark_in count (header_bytes header count ++ rest))) × IsOk result }
+
     ensures wrong { IfErr result (λ part. IsWrongFrame part bytes.now) }
 {
     let content = match opened(bytes) {

@@ -1,6 +1,8 @@
-use Rattle.std.proofs.Common.{rules, sym, ap, ◌∙◌, arith}
+use Rattle.std.proofs.Common.{ℕ, ◌++◌, rules, sym, ap, ◌∙◌, arith}
 use Rattle.lru_frames.specs.declared.frame.Header.{Header}
-use Rattle.lru_frames.proofs.EnvelopeLaws.{length-sealed}
+use Rattle.lru_frames.specs.Frame.{header_bytes}
+use Rattle.lru_frames.specs.Marks.{mark_in}
+use Rattle.lru_frames.proofs.EnvelopeLaws.{one_content}
 use Rattle.lru_frames.proofs.FrameLaws.{AreNarrow, no_header, one_header, header_narrow}
 use Rattle.lru_frames.proofs.marked.inspect.Goals as goal
 
@@ -21,3 +23,26 @@ returns-then-header-clause-wrong c = (
         omega (arith, c.if-header.true, ap (λ (x : Header). x.shards) parts.0, ap (λ (x : Header). x.shard) parts.0, is_header.shard),
   ),
 )
+
+pub returns-in-Err-clause-written : goal.returns-in-Err-clause-written
+returns-in-Err-clause-written c = λ header count rest _ _ h. absurd (c.in-Err.ensures.content (header_bytes header count ++ rest) h)
+
+pub returns-in_default-clause-written : goal.returns-in_default-clause-written
+returns-in_default-clause-written c = λ header count rest _ _ h.
+    absurd (no_header c.in-Ok.content.now rest header count c.in_default.ensures (one_content c.in-Ok.content.now (header_bytes header count ++ rest) (sym c.in-Ok.ensures.content ∙ h)))
+
+pub returns-then-header-clause-written : goal.returns-then-header-clause-written
+returns-then-header-clause-written c = λ header count rest is_header small h.
+    let narrow : AreNarrow c.in-Some.header c.in-Some.count = record { shards = search rules; shard = search rules; generation = search rules; rows = search rules } in
+    let same = one_content c.in-Ok.content.now (header_bytes header count ++ rest) (sym c.in-Ok.ensures.content ∙ h) in
+    let parts = one_header c.in-Some.header header c.in-Some.count count c.in-Some.field-0-2.now rest narrow (header_narrow header count is_header small) (sym c.in-Some.ensures ∙ same) in
+    absurd (omega (arith, c.if-header.true, ap (λ (x : Header). x.shards) parts.0, ap (λ (x : Header). x.shard) parts.0, is_header.shard))
+
+pub returns-clause-written : goal.returns-clause-written
+returns-clause-written c = λ header count rest is_header small h.
+    let narrow : AreNarrow c.in-Some.header c.in-Some.count = record { shards = search rules; shard = search rules; generation = search rules; rows = search rules } in
+    let same = one_content c.in-Ok.content.now (header_bytes header count ++ rest) (sym c.in-Ok.ensures.content ∙ h) in
+    let parts = one_header c.in-Some.header header c.in-Some.count count c.in-Some.field-0-2.now rest narrow (header_narrow header count is_header small) (sym c.in-Some.ensures ∙ same) in (
+      (parts.0, c.mark_at-mark.ensures (header_bytes header count ++ rest) h ∙ ap (λ (n : ℕ). mark_in n (header_bytes header count ++ rest)) parts.1),
+      search rules,
+    )
