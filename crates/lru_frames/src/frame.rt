@@ -10,7 +10,7 @@ ghost use Rattle.lru_frames.specs.declared.errors.Part.TheVariants.{Length};
 ghost use Rattle.lru_frames.specs.declared.frame.Header.{Header};
 ghost use Rattle.lru_frames.specs.declared.row.Row.{Row};
 ghost use Rattle.lru_frames.specs.Causes.{IsWrongInside, IsWrong};
-ghost use Rattle.lru_frames.specs.Envelope.{ChangesOneByte};
+ghost use Rattle.lru_frames.specs.Envelope.{ChangesWithinEight};
 ghost use Rattle.lru_frames.specs.Rows.{IsSameRow, AreSame};
 ghost use Rattle.lru_frames.specs.Frame.{header_bytes, content_of, frame_of, Fits, IsDamaged};
 
@@ -146,9 +146,9 @@ pub fn decode<K: Stored, V: Stored>(alloc: Global, bytes: &[u8]) -> Result<Frame
     // An error tells what is wrong with the bytes, or that memory ran out.
     ensures wrong { IfErr result (λ error. IsWrong K.bytes_of K.is_value V.bytes_of V.is_value error bytes.now) }
 
-    // What was written and then changed in one byte is damaged.
-    ensures one_byte { (header : Header) (rows : List (Row K V))
-        → ChangesOneByte (frame_of K.bytes_of V.bytes_of header rows) bytes.now → IsErrAnd result IsDamaged }
+    // What was written and then changed anywhere within 8 bytes side by side is damaged.
+    ensures changed { (header : Header) (rows : List (Row K V))
+        → ChangesWithinEight (frame_of K.bytes_of V.bytes_of header rows) bytes.now → IsErrAnd result IsDamaged }
 
     // A beginning of what was written is told by its length, and so is what has bytes behind it.
     ensures cut { (header : Header) (rows : List (Row K V)) (rest : List ℕ)
