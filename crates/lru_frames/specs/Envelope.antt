@@ -1,8 +1,8 @@
 -- What stands around the content of a file: a magic, a version and the length before it, a check behind it.
 use Rattle.std.specs.Prelude.{◌≡◌, ◌≢◌, ℕ, ◌+◌, ◌<◌, ◌≤◌, List, ◌++◌, length}
 use Rattle.std.specs.List.{AllByRecursion}
+use Rattle.lru_crc64.specs.Crc.{crc_of}
 use Rattle.lru_frames.specs.Words.{word}
-use Rattle.lru_frames.specs.Check.{check_of}
 
 -- the bytes of the text LRUFRAME as a number
 abbrev pub magic : ℕ
@@ -25,7 +25,7 @@ front_of content = head_of (length content + around) ++ content
 
 -- bytes, and then their check
 abbrev pub with_check : List ℕ → List ℕ
-with_check front = front ++ word (check_of front)
+with_check front = front ++ word (crc_of front)
 
 -- the whole file
 unfoldable pub sealed : List ℕ → List ℕ
