@@ -55,9 +55,10 @@ length-sealed content =
     let w = word (crc_of (front_of content)) in
     omega (arith, ap length (sealed_parts content), length-append (head_of (length content + around)) (content ++ w), length-append content w, length-word (crc_of (front_of content)), length-head (length content + around))
 
--- what stands before a right check, where the length is right
-pub is_front : (bytes front rest : List ℕ) → length bytes < 2 ^ 64 → 32 ≤ length bytes → bytes ≡ head_of (length bytes) ++ rest → bytes ≡ with_check front → front ≡ front_of (drop 24 front)
-is_front bytes front rest small long h k =
+-- bytes with a right length and a right check are sealed
+pub is_sealed : (bytes front rest : List ℕ) → length bytes < 2 ^ 64 → 32 ≤ length bytes → bytes ≡ head_of (length bytes) ++ rest → bytes ≡ with_check front → bytes ≡ sealed (drop 24 front)
+unfolding sealed
+is_sealed bytes front rest small long h k =
     let w = word (crc_of front) in
     let long_front : 24 ≤ length front = omega (arith, ap length k, length-append front w, length-word (crc_of front)) in
     let split : front ≡ take 24 front ++ drop 24 front = sym (take-append-drop 24 front) in
@@ -66,12 +67,8 @@ is_front bytes front rest small long h k =
     (sym (append_assoc (take 24 front) (drop 24 front) w) ∙ ap (λ (x : List ℕ). x ++ w) (sym split) ∙ sym k ∙ h) in
     let total : length bytes ≡ length (drop 24 front) + around =
     omega (arith, ap length k, length-append front w, length-word (crc_of front), ap length split, length-append (take 24 front) (drop 24 front), length-take 24 front) in
-    split ∙ ap (λ (x : List ℕ). x ++ drop 24 front) (same.0 ∙ ap head_of total)
-
--- bytes with a right length and a right check are sealed
-pub is_sealed : (bytes front rest : List ℕ) → length bytes < 2 ^ 64 → 32 ≤ length bytes → bytes ≡ head_of (length bytes) ++ rest → bytes ≡ with_check front → bytes ≡ sealed (drop 24 front)
-unfolding sealed
-is_sealed bytes front rest small long h k = k ∙ ap with_check (is_front bytes front rest small long h k)
+    let whole : front ≡ front_of (drop 24 front) = split ∙ ap (λ (x : List ℕ). x ++ drop 24 front) (same.0 ∙ ap head_of total) in
+    k ∙ ap with_check whole
 
 -- sealed bytes tell their length
 pub told_of_sealed : (bytes rest content : List ℕ) (told : ℕ) → length bytes < 2 ^ 64 → told < 2 ^ 64 → bytes ≡ head_of told ++ rest → bytes ≡ sealed content → told ≡ length bytes

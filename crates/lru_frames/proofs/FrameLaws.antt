@@ -1,5 +1,5 @@
 -- A content tells its header and its rows.
-use Rattle.std.proofs.Common.{◌≡◌, ℕ, suc, ◌+◌, ◌^◌, ◌<◌, List, [], ◌∷◌, ◌++◌, length, refl, sym, ap, ◌∙◌, append_assoc, append-nil, arith}
+use Rattle.std.proofs.Common.{◌≡◌, ℕ, ◌^◌, ◌<◌, List, [], ◌++◌, length, refl, sym, ap, ◌∙◌, append_assoc, append-nil, arith}
 use Rattle.std.proofs.Common.{Result, Ok, Err}
 use Rattle.std.specs.Prelude.{IfOk, IfErr, MatchResult}
 use Rattle.std.specs.List.{flat_map}
@@ -10,16 +10,12 @@ use Rattle.lru_frames.specs.declared.errors.Part.{Part}
 use Rattle.lru_frames.specs.declared.errors.Part.TheVariants.{Length}
 use Rattle.lru_frames.specs.declared.errors.FrameError.{FrameError}
 use Rattle.lru_frames.specs.declared.errors.FrameError.TheVariants.{Damaged, Memory}
-use Rattle.lru_frames.specs.declared.mark.Mark.{Mark}
 use Rattle.lru_frames.specs.declared.row.Row.{Row}
 use Rattle.lru_frames.specs.Words.{word}
 use Rattle.lru_frames.specs.WordLaws.{length-word, one_word}
 use Rattle.lru_frames.specs.Rows.{row_bytes, IsRow, IsSameRow, AreSame}
 use Rattle.lru_frames.specs.RowLaws.{one_row}
 use Rattle.lru_frames.proofs.RowsLaws.{same_values}
-use Rattle.lru_crc64.specs.Crc.{crc_of}
-use Rattle.lru_frames.specs.Envelope.{around, front_of}
-use Rattle.lru_frames.specs.Marks.{mark_in}
 use Rattle.lru_frames.specs.Frame.{header_bytes, content_of, Fits, IsDamaged, IsHeader}
 
 -- numbers of 8 bytes each
@@ -72,22 +68,6 @@ no_header bytes rest header count short h = omega (arith, short, ap length h, le
 pub header_narrow : (header : Header) (count : ℕ) → IsHeader header → count < 2 ^ 64 → AreNarrow header count
 header_narrow header count is_header small = record { shards = is_header.shards; shard = omega (arith, is_header.shard, is_header.shards); generation = is_header.generation; rows = small }
 
-abbrev pub mark_of : ℕ → ℕ → ℕ → Mark
-mark_of rows length check = record { rows = rows; length = length; check = check }
-
--- a mark by its parts
-pub marked : (count whole check : ℕ) (content : List ℕ) → whole ≡ length content + around → check ≡ crc_of (front_of content)
-    → mark_of count whole check ≡ mark_in count content
-marked count whole check content p q =
-    ap (λ n. mark_of count n check) p ∙ ap (mark_of count (length content + around)) q
-
--- lists that are the same one by one are of one length
-pub same_length : {T : Type 0} (IsSame : T → T → Type 0) (xs ys : List T) → AreSame IsSame xs ys → length xs ≡ length ys
-same_length IsSame [] [] h = refl
-same_length IsSame [] (y ∷ ys) h = absurd h
-same_length IsSame (x ∷ xs) [] h = absurd h
-same_length IsSame (x ∷ xs) (y ∷ ys) h = ap suc (same_length IsSame xs ys h.1)
-
 module _ {K V : Type 0} (key_bytes : K → List ℕ) (data_bytes : V → List ℕ) (IsKey : K → Type 0) (IsData : V → Type 0) where
   pub fits_narrow : (header : Header) (rows : List (Row K V)) → Fits IsKey IsData header rows → AreNarrow header (length rows)
   fits_narrow header rows fits = header_narrow header (length rows) fits.numbers fits.count
@@ -127,13 +107,6 @@ module _ {K V : Type 0} (key_bytes : K → List ℕ) (IsKey : K → Type 0) (IsS
   read_again (Ok frame) content header rows fits read_fits read refused h = one_frame frame.header header frame.rows.items rows read_fits fits (sym read ∙ h)
   read_again (Err (Damaged part)) content header rows fits read_fits read refused h = absurd (refused (part, refl) header rows fits h)
   read_again (Err Memory) content header rows fits read_fits read refused h = refl
-
--- an error that is want of memory
-pub only_memory : {X : Type 0} (r : Result X FrameError) (P : X → Type 0) (error : FrameError) → r ≡ Err error → error ≡ Memory → MatchResult r P (λ e. e ≡ Memory)
-only_memory r P error same h = rw same h
-
-pub same_error : {X Y : Type 0} (part other : Part) → ◌≡◌ {A = Result X Part} (Err part) (Err other) → ◌≡◌ {A = Result Y Part} (Err part) (Err other)
-same_error part other h = let same : part ≡ other = cc in ap (λ (p : Part). Err p) same
 
 -- the part that an error tells
 pub told_length : {X Y : Type 0} (part : Part) → ◌≡◌ {A = Result X Part} (Err part) (Err Length) → ◌≡◌ {A = Result Y FrameError} (Err (Damaged part)) (Err (Damaged Length))

@@ -40,15 +40,6 @@ IsWrongAround part.Rows bytes = ⊥
 abbrev pub HasNoHeader : List ℕ → Type 0
 HasNoHeader content = (header : Header) (count : ℕ) (rest : List ℕ) → IsHeader header → count < 2 ^ 64 → content ≡ header_bytes header count ++ rest → ⊥
 
--- what is wrong with bytes of which no header is read
-abbrev pub IsWrongBeforeRows : Part → List ℕ → Type 0
-IsWrongBeforeRows part.Length bytes = HasOtherLength bytes
-IsWrongBeforeRows part.Magic bytes = HasOtherMagic bytes
-IsWrongBeforeRows part.Version bytes = HasOtherVersion bytes
-IsWrongBeforeRows part.Check bytes = HasOtherCheck bytes
-IsWrongBeforeRows part.Header bytes = (content : List ℕ) × (bytes ≡ sealed content) × HasNoHeader content
-IsWrongBeforeRows part.Rows bytes = ⊥
-
 module _ {K V : Type 0} (key_bytes : K → List ℕ) (IsKey : K → Type 0) (data_bytes : V → List ℕ) (IsData : V → Type 0) where
   -- behind the header there are not just so many rows as it tells
   abbrev pub HasOtherRows : List ℕ → Type 0

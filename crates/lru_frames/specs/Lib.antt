@@ -8,4 +8,3 @@ pub mod RowLaws
 pub mod Frame
 pub mod Causes
 pub mod Marks
-pub mod Inspections

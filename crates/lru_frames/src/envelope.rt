@@ -1,10 +1,9 @@
 // What stands around the content of a frame.
-ghost use Rattle.std.specs.Prelude.{◌≡◌, ◌≢◌, ◌+◌, ◌<◌, ◌^◌, ◌++◌, ℕ, List, length, ◌≤◌, MatchResult, MatchOption, IfOk, IfSome, IfErr, OnOk, take, drop, vec_len, Err};
-ghost use Rattle.lru_crc64.specs.Crc.{crc_of};
+ghost use Rattle.std.specs.Prelude.{◌≡◌, ◌≢◌, ◌+◌, ◌<◌, ◌^◌, ◌++◌, ℕ, List, length, ◌≤◌, MatchResult, MatchOption, IfSome, IfErr, OnOk, take, drop, vec_len, Err};
 ghost use Rattle.lru_frames.specs.declared.errors.Part.TheVariants.{Length};
 ghost use Rattle.lru_frames.specs.Words.{word};
 ghost use Rattle.lru_frames.specs.Causes.{IsWrongAround};
-ghost use Rattle.lru_frames.specs.Envelope.{head_of, front_of, with_check, sealed};
+ghost use Rattle.lru_frames.specs.Envelope.{head_of, with_check, sealed};
 
 use crate::errors::Part;
 use crate::words::{put_word, take_word};
@@ -41,17 +40,15 @@ fn set_word(bytes: &mut [u8], place: usize, number: u64)
     bytes[place..place + 8].copy_from_slice(&number.to_le_bytes());
 }
 
-// Ends a frame: puts its length into the head, and the check behind it all, which it returns.
-pub(crate) fn seal(out: &mut Vec<u8>) -> Result<u64, AllocError>
+// Ends a frame: puts its length into the head, and the check behind it all.
+pub(crate) fn seal(out: &mut Vec<u8>) -> Result<(), AllocError>
     requires { 24 ≤ vec_len out.old }
-    ensures bytes { (content : List ℕ) → out.old.items ≡ head_of 0 ++ content → OnOk result (out.new.items ≡ sealed content) }
-    ensures check { (content : List ℕ) → out.old.items ≡ head_of 0 ++ content → IfOk result (λ check. check ≡ crc_of (front_of content)) }
+    ensures { (content : List ℕ) → out.old.items ≡ head_of 0 ++ content → OnOk result (out.new.items ≡ sealed content) }
 {
     let length = out.len() as u64 + CHECK as u64;
     set_word(out, LENGTH, length);
     let check = crc64(out);
-    put_word(out, check)?;
-    Ok(check)
+    put_word(out, check)
 }
 
 // What stands behind a number, where the bytes begin with it.
@@ -85,30 +82,26 @@ fn told_length(bytes: &[u8]) -> Result<u64, Part>
     }
 }
 
-// The bytes before a check, where the check behind them is theirs, and the check.
-fn checked(bytes: &[u8]) -> Option<(&[u8], u64)>
+// The bytes before a check, where the check behind them is theirs.
+fn checked(bytes: &[u8]) -> Option<&[u8]>
     requires { 8 ≤ length bytes.now }
     ensures front { MatchOption result
         ((front : List ℕ) → bytes.now ≡ with_check front → ⊥)
-        (λ found. bytes.now ≡ with_check found.0.now) }
-    ensures length { IfSome result (λ found. length found.0.now + 8 ≡ length bytes.now) }
-    ensures check { IfSome result (λ found. found.1 ≡ crc_of found.0.now) }
+        (λ front. bytes.now ≡ with_check front.now) }
+    ensures length { IfSome result (λ front. length front.now + 8 ≡ length bytes.now) }
 {
     let (front, end) = bytes.split_at(bytes.len() - CHECK);
-    let check = crc64(front);
-    match behind(end, check) {
+    match behind(end, crc64(front)) {
         None => None,
-        Some(_) => Some((front, check)),
+        Some(_) => Some(front),
     }
 }
 
-// The content and its check, where the bytes are sealed. Bytes whose head tells another length are
-// refused for it.
-pub(crate) fn opened(bytes: &[u8]) -> Result<(&[u8], u64), Part>
+// The content, where the bytes are sealed. Bytes whose head tells another length are refused for it.
+pub(crate) fn opened(bytes: &[u8]) -> Result<&[u8], Part>
     ensures content { MatchResult result
-        (λ found. bytes.now ≡ sealed found.0.now)
+        (λ content. bytes.now ≡ sealed content.now)
         (λ _. (content : List ℕ) → bytes.now ≡ sealed content → ⊥) }
-    ensures check { IfOk result (λ found. found.1 ≡ crc_of (front_of found.0.now)) }
     ensures wrong { IfErr result (λ part. IsWrongAround part bytes.now) }
     ensures short { length bytes.now < 32 → result ≡ Err Length }
     ensures told { (told : ℕ) (rest : List ℕ) → told < 2 ^ 64 → told ≢ length bytes.now
@@ -127,6 +120,6 @@ pub(crate) fn opened(bytes: &[u8]) -> Result<(&[u8], u64), Part>
     }
     match checked(bytes) {
         None => Err(Part::Check),
-        Some((front, check)) => Ok((front.split_at(HEAD).1, check)),
+        Some(front) => Ok(front.split_at(HEAD).1),
     }
 }

@@ -4,20 +4,18 @@
 //! which is 2, and the length of the whole frame in bytes. The number of shards, the number of the
 //! shard, the generation and the number of rows follow, then each row with key, data and weight, and
 //! at the end a check of all bytes before it, their CRC-64.
-ghost use Rattle.std.specs.Prelude.{◌≡◌, ◌≢◌, ◌<◌, ◌^◌, ◌++◌, ℕ, List, [], length, OnOk, IfOk, IfSome, IfErr, IsErrAnd, MatchOption, MatchResult, Err};
+ghost use Rattle.std.specs.Prelude.{◌≡◌, ◌≢◌, ◌<◌, ◌^◌, ◌++◌, ℕ, List, [], length, OnOk, IfOk, IfErr, IsErrAnd, MatchOption, MatchResult, Err};
 ghost use Rattle.lru_frames.specs.declared.errors.FrameError.TheVariants.{Damaged, Memory};
 ghost use Rattle.lru_frames.specs.declared.errors.Part.TheVariants.{Length};
 ghost use Rattle.lru_frames.specs.declared.frame.Header.{Header};
 ghost use Rattle.lru_frames.specs.declared.row.Row.{Row};
-ghost use Rattle.lru_frames.specs.Causes.{HasNoHeader, IsWrongInside, IsWrong};
+ghost use Rattle.lru_frames.specs.Causes.{IsWrongInside, IsWrong};
 ghost use Rattle.lru_frames.specs.Envelope.{ChangesWithinEight};
 ghost use Rattle.lru_frames.specs.Rows.{IsSameRow, AreSame};
-ghost use Rattle.lru_frames.specs.Marks.{mark_in};
 ghost use Rattle.lru_frames.specs.Frame.{header_bytes, content_of, frame_of, Fits, IsDamaged};
 
 use crate::envelope::{open_head, opened, seal};
 use crate::errors::{FrameError, Part};
-use crate::mark::Mark;
 use crate::row::Row;
 use crate::rows::{LIKELY_ROW, put_rows, take_rows};
 use crate::stored::{Stored, StoredError};
@@ -81,45 +79,6 @@ fn take_header(bytes: &[u8]) -> Option<(Header, u64, &[u8])>
     Some((header, count, rest))
 }
 
-// The same, where the header is one that a frame may have.
-pub(crate) fn header_in(content: &[u8]) -> Option<(Header, u64, &[u8])>
-    ensures bytes { MatchOption result (HasNoHeader content.now) (λ found. content.now ≡ header_bytes found.0 found.1 ++ found.2.now) }
-    ensures header { IfSome result (λ found. found.0.shard < found.0.shards) }
-{
-    let Some((header, count, rest)) = take_header(content) else {
-        return None;
-    };
-    if header.shard >= header.shards {
-        return None;
-    }
-    Some((header, count, rest))
-}
-
-/// The bytes of a frame, and its mark.
-pub fn encode_marked<K: Stored, V: Stored>(
-    alloc: Global,
-    header: Header,
-    rows: &[Row<K, V>],
-) -> Result<(Vec<u8>, Mark), AllocError>
-    requires { header.shard < header.shards }
-    ensures bytes { IfOk result (λ made. made.0.items ≡ frame_of K.bytes_of V.bytes_of header rows.now) }
-    ensures mark { IfOk result (λ made. made.1 ≡ mark_in (length rows.now) (content_of K.bytes_of V.bytes_of header rows.now)) }
-    ensures fits { OnOk result (Fits K.is_value V.is_value header rows.now) }
-{
-    let room = rows.len().saturating_mul(LIKELY_ROW).saturating_add(FEWEST);
-    let mut out = Vec::with_capacity(alloc, room)?;
-    open_head(&mut out)?;
-    put_header(&mut out, header, rows.len() as u64)?;
-    put_rows(&mut out, rows)?;
-    let check = seal(&mut out)?;
-    let mark = Mark {
-        rows: rows.len() as u64,
-        length: out.len() as u64,
-        check,
-    };
-    Ok((out, mark))
-}
-
 /// The bytes of a frame.
 pub fn encode<K: Stored, V: Stored>(
     alloc: Global,
@@ -130,8 +89,13 @@ pub fn encode<K: Stored, V: Stored>(
     ensures bytes { IfOk result (λ bytes. bytes.items ≡ frame_of K.bytes_of V.bytes_of header rows.now) }
     ensures fits { IfOk result (λ bytes. Fits K.is_value V.is_value header rows.now) }
 {
-    let (bytes, _) = encode_marked(alloc, header, rows)?;
-    Ok(bytes)
+    let room = rows.len().saturating_mul(LIKELY_ROW).saturating_add(FEWEST);
+    let mut out = Vec::with_capacity(alloc, room)?;
+    open_head(&mut out)?;
+    put_header(&mut out, header, rows.len() as u64)?;
+    put_rows(&mut out, rows)?;
+    seal(&mut out)?;
+    Ok(out)
 }
 
 // The frame whose content this is.
@@ -143,9 +107,12 @@ fn frame_in<K: Stored, V: Stored>(alloc: Global, content: &[u8]) -> Result<Frame
         → content.now ≡ content_of K.bytes_of V.bytes_of header rows → ⊥) }
     ensures wrong { IfErr result (λ error. IsWrongInside K.bytes_of K.is_value V.bytes_of V.is_value error content.now) }
 {
-    let Some((header, count, rest)) = header_in(content) else {
+    let Some((header, count, rest)) = take_header(content) else {
         return Err(FrameError::Damaged(Part::Header));
     };
+    if header.shard >= header.shards {
+        return Err(FrameError::Damaged(Part::Header));
+    }
     match take_rows(alloc, count, rest) {
         Err(StoredError::Memory) => Err(FrameError::Memory),
         Err(StoredError::Damaged) => Err(FrameError::Damaged(Part::Rows)),
@@ -158,58 +125,12 @@ fn frame_in<K: Stored, V: Stored>(alloc: Global, content: &[u8]) -> Result<Frame
     }
 }
 
-/// The frame whose bytes these are, and its mark: read whole or refused.
+/// The frame whose bytes these are, read whole or refused.
 ///
 /// The check is compared before any row is read, so that damage is told as damage. A change of bytes
 /// that stand within 8 side by side is found, wherever they begin, and so is a frame that is cut short
 /// or has bytes behind it. A change that reaches further is found wherever it changes the check, which
 /// is all but about one in 2 ^ 64 of them: that one is found too is not promised.
-pub fn decode_marked<K: Stored, V: Stored>(
-    alloc: Global,
-    bytes: &[u8],
-) -> Result<(Frame<K, V>, Mark), FrameError>
-    // What is read is what these bytes are written for.
-    ensures found { IfOk result (λ read. bytes.now ≡ frame_of K.bytes_of V.bytes_of read.0.header read.0.rows.items) }
-    ensures fits { IfOk result (λ read. Fits K.is_value V.is_value read.0.header read.0.rows.items) }
-    ensures mark { IfOk result (λ read. read.1 ≡ mark_in (length read.0.rows.items) (content_of K.bytes_of V.bytes_of read.0.header read.0.rows.items)) }
-
-    // What was written is read, with the mark that it was written with, unless memory runs out.
-    ensures written { (header : Header) (rows : List (Row K V)) → Fits K.is_value V.is_value header rows
-        → bytes.now ≡ frame_of K.bytes_of V.bytes_of header rows
-        → MatchResult result
-        (λ read. (read.0.header ≡ header) × AreSame (IsSameRow K.is_same V.is_same) read.0.rows.items rows
-        × (read.1 ≡ mark_in (length rows) (content_of K.bytes_of V.bytes_of header rows)))
-        (λ error. error ≡ Memory) }
-
-    // An error tells what is wrong with the bytes, or that memory ran out.
-    ensures wrong { IfErr result (λ error. IsWrong K.bytes_of K.is_value V.bytes_of V.is_value error bytes.now) }
-
-    // What was written and then changed anywhere within 8 bytes side by side is damaged.
-    ensures changed { (header : Header) (rows : List (Row K V))
-        → ChangesWithinEight (frame_of K.bytes_of V.bytes_of header rows) bytes.now → IsErrAnd result IsDamaged }
-
-    // A beginning of what was written is told by its length, and so is what has bytes behind it.
-    ensures cut { (header : Header) (rows : List (Row K V)) (rest : List ℕ)
-        → length (frame_of K.bytes_of V.bytes_of header rows) < 2 ^ 64 → rest ≢ []
-        → frame_of K.bytes_of V.bytes_of header rows ≡ bytes.now ++ rest → result ≡ Err (Damaged Length) }
-    ensures longer { (header : Header) (rows : List (Row K V)) (rest : List ℕ)
-        → rest ≢ [] → bytes.now ≡ frame_of K.bytes_of V.bytes_of header rows ++ rest → result ≡ Err (Damaged Length) }
-{
-    match opened(bytes) {
-        Err(part) => Err(FrameError::Damaged(part)),
-        Ok((content, check)) => {
-            let frame = frame_in(alloc, content)?;
-            let mark = Mark {
-                rows: frame.rows.len() as u64,
-                length: bytes.len() as u64,
-                check,
-            };
-            Ok((frame, mark))
-        }
-    }
-}
-
-/// The frame whose bytes these are, read whole or refused, as by `decode_marked`.
 pub fn decode<K: Stored, V: Stored>(alloc: Global, bytes: &[u8]) -> Result<Frame<K, V>, FrameError>
     // What is read is what these bytes are written for.
     ensures found { IfOk result (λ frame. bytes.now ≡ frame_of K.bytes_of V.bytes_of frame.header frame.rows.items) }
@@ -236,8 +157,10 @@ pub fn decode<K: Stored, V: Stored>(alloc: Global, bytes: &[u8]) -> Result<Frame
     ensures longer { (header : Header) (rows : List (Row K V)) (rest : List ℕ)
         → rest ≢ [] → bytes.now ≡ frame_of K.bytes_of V.bytes_of header rows ++ rest → result ≡ Err (Damaged Length) }
 {
-    let (frame, _) = decode_marked(alloc, bytes)?;
-    Ok(frame)
+    match opened(bytes) {
+        Err(part) => Err(FrameError::Damaged(part)),
+        Ok(content) => frame_in(alloc, content),
+    }
 }
 
 /// What is read of what was written: the same header and the same rows, unless memory runs out.

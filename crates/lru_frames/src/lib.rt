@@ -4,7 +4,6 @@
 mod envelope;
 pub mod errors;
 pub mod frame;
-pub mod inspection;
 pub mod laws;
 pub mod mark;
 pub mod row;

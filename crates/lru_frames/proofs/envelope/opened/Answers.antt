@@ -1,7 +1,6 @@
 use Rattle.std.proofs.Common.{rules, ◌++◌, ap, sym, ◌∙◌, arith, length}
-use Rattle.lru_crc64.specs.Crc.{crc_of}
 use Rattle.lru_frames.specs.Envelope.{front_of, head_of, sealed}
-use Rattle.lru_frames.proofs.EnvelopeLaws.{length-sealed, sealed_head, told_of_sealed, sealed_is_checked, is_front, is_sealed, one_head}
+use Rattle.lru_frames.proofs.EnvelopeLaws.{length-sealed, sealed_head, told_of_sealed, sealed_is_checked, is_sealed, one_head}
 use Rattle.lru_frames.proofs.envelope.opened.Goals as goal
 
 pub returns-then-bytes-clause-content : goal.returns-then-bytes-clause-content
@@ -30,10 +29,3 @@ returns-in-Some-clause-content c =
 pub returns-in-Some-clause-told : goal.returns-in-Some-clause-told
 returns-in-Some-clause-told c = λ told rest small other h _.
     absurd (other (one_head told c.in-Ok.told rest c.in-Ok.ensures.head.0 small (search rules) (sym h ∙ c.in-Ok.ensures.head.1) ∙ c.if-told-bytes.false))
-
-pub returns-in-Some-clause-check : goal.returns-in-Some-clause-check
-returns-in-Some-clause-check c =
-    c.in-Some.ensures.check
-    ∙ ap crc_of (is_front c.args.bytes.now c.in-Some.front.now c.in-Ok.ensures.head.0 (search rules) c.if-bytes.false
-    (c.in-Ok.ensures.head.1 ∙ ap (λ told. head_of told ++ c.in-Ok.ensures.head.0) c.if-told-bytes.false) c.in-Some.ensures.front
-    ∙ ap front_of (sym c.split_at.ensures.back))
