@@ -1,15 +1,14 @@
 -- Sealed bytes with bytes changed within 8 side by side, cut short or with bytes behind them are not sealed.
-use Rattle.std.proofs.Common.{◌≡◌, ℕ, ◌+◌, ◌-◌, ◌^◌, ◌<◌, ◌≤◌, List, [], ◌++◌, length, get_or, refl, sym, ap, subst, ◌∙◌, arith, inl, inr, append_assoc}
-use Rattle.std.proofs.Math.ListN.{set}
+use Rattle.std.proofs.Common.{◌≡◌, ℕ, ◌+◌, ◌^◌, ◌<◌, ◌≤◌, List, [], ◌++◌, length, refl, sym, ap, subst, ◌∙◌, arith, inl, inr, append_assoc}
 use Rattle.std.proofs.lemmas.Bool.{cases_lt}
 use Rattle.std.proofs.Common.{drop, take, ◌≢◌, Result, Err}
-use Rattle.std.proofs.lemmas.List.{take_at, drop_at, length-take, take-append-drop, append-nil, nil_from_length, length-append, set-append_left, set-append_right, get_or_append_left, get_or-append_right, length-set, get_or-set_same}
+use Rattle.std.proofs.lemmas.List.{take_at, drop_at, length-take, take-append-drop, append-nil, nil_from_length, length-append}
 use Rattle.lru_crc64.specs.Crc.{crc_of, residue}
 use Rattle.lru_crc64.proofs.CrcLaws.{one_window, with_check as checked_twice}
 use Rattle.lru_frames.specs.declared.errors.Part.{Part}
 use Rattle.lru_frames.specs.declared.errors.Part.TheVariants.{Length}
 use Rattle.lru_frames.specs.Words.{word}
-use Rattle.lru_frames.specs.WordLaws.{same_parts, length-word, one_number, one_word}
+use Rattle.lru_frames.specs.WordLaws.{same_parts, length-word, one_word}
 use Rattle.lru_frames.specs.Envelope.{head_of, magic, version, around, front_of, with_check, sealed, ChangesWithinEight}
 
 -- bytes and their check have one check, whichever they are

@@ -1,3 +1,4 @@
 pub mod EnvelopeLaws
 pub mod RowsLaws
 pub mod FrameLaws
+pub mod MarkLaws

@@ -8,3 +8,4 @@ pub mod RowLaws
 pub mod Frame
 pub mod Causes
 pub mod Marks
+pub mod Sources

@@ -56,7 +56,7 @@ fn put_header(out: &mut Vec<u8>, header: Header, count: u64) -> Result<(), Alloc
 }
 
 // The header and the number of rows at the front, and the bytes behind them.
-fn take_header(bytes: &[u8]) -> Option<(Header, u64, &[u8])>
+pub(crate) fn take_header(bytes: &[u8]) -> Option<(Header, u64, &[u8])>
     ensures { MatchOption result (length bytes.now < 32) (λ found. bytes.now ≡ header_bytes found.0 found.1 ++ found.2.now) }
 {
     let Some((shards, rest)) = take_word(bytes) else {
