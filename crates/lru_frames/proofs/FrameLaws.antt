@@ -108,6 +108,9 @@ module _ {K V : Type 0} (key_bytes : K → List ℕ) (IsKey : K → Type 0) (IsS
   read_again (Err (Damaged part)) content header rows fits read_fits read refused h = absurd (refused (part, refl) header rows fits h)
   read_again (Err Memory) content header rows fits read_fits read refused h = refl
 
+pub same_error : {X Y : Type 0} (part other : Part) → ◌≡◌ {A = Result X Part} (Err part) (Err other) → ◌≡◌ {A = Result Y Part} (Err part) (Err other)
+same_error part other h = let same : part ≡ other = cc in ap (λ (p : Part). Err p) same
+
 -- the part that an error tells
 pub told_length : {X Y : Type 0} (part : Part) → ◌≡◌ {A = Result X Part} (Err part) (Err Length) → ◌≡◌ {A = Result Y FrameError} (Err (Damaged part)) (Err (Damaged Length))
 told_length part h = let same : part ≡ Length = cc in ap (λ (p : Part). Err (Damaged p)) same

@@ -1,18 +1,18 @@
 -- What tells a frame from every other one.
 use Rattle.std.specs.Prelude.{◌≡◌, ℕ, ◌+◌, List, length}
+use Rattle.lru_crc64.specs.Crc.{crc_of}
 use Rattle.lru_frames.specs.declared.errors.Part.{Part}
 use Rattle.lru_frames.specs.declared.errors.Part.TheVariants as part
 use Rattle.lru_frames.specs.declared.frame.Header.{Header}
 use Rattle.lru_frames.specs.declared.mark.Mark.{Mark}
 use Rattle.lru_frames.specs.declared.row.Row.{Row}
 use Rattle.lru_frames.specs.Causes.{HasNoHeader, HasOtherCheck, HasOtherLength, HasOtherMagic, HasOtherVersion}
-use Rattle.lru_frames.specs.Check.{check_of}
 use Rattle.lru_frames.specs.Envelope.{around, front_of, sealed}
 use Rattle.lru_frames.specs.Frame.{content_of}
 
 -- the mark of a frame with so many rows and this content
 abbrev pub mark_in : ℕ → List ℕ → Mark
-mark_in count content = record { rows = count; length = length content + around; check = check_of (front_of content) }
+mark_in count content = record { rows = count; length = length content + around; check = crc_of (front_of content) }
 
 -- the mark of the frame of these rows
 abbrev pub mark_of : {K V : Type 0} → (K → List ℕ) → (V → List ℕ) → Header → List (Row K V) → Mark

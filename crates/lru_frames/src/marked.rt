@@ -1,12 +1,13 @@
 //! Frames and their marks.
-ghost use Rattle.std.specs.Prelude.{◌≡◌, ◌<◌, ◌≤◌, ◌^◌, ◌++◌, ℕ, List, length, IfOk, IfErr, IsOk, MatchResult};
+ghost use Rattle.std.specs.Prelude.{◌≡◌, ◌≢◌, ◌<◌, ◌≤◌, ◌^◌, ◌++◌, ℕ, List, [], length, Err, IfOk, IfErr, IsErr, IsErrAnd, IsOk, MatchResult};
+ghost use Rattle.lru_frames.specs.declared.errors.Part.TheVariants.{Length};
 ghost use Rattle.lru_frames.specs.declared.errors.FrameError.TheVariants.{Damaged, Memory};
 ghost use Rattle.lru_frames.specs.declared.frame.Header.{Header};
 ghost use Rattle.lru_frames.specs.declared.row.Row.{Row};
 ghost use Rattle.lru_frames.specs.Causes.{IsWrong};
-ghost use Rattle.lru_frames.specs.Envelope.{sealed};
+ghost use Rattle.lru_frames.specs.Envelope.{ChangesWithinEight, sealed};
 ghost use Rattle.lru_frames.specs.Rows.{IsSameRow, AreSame};
-ghost use Rattle.lru_frames.specs.Frame.{frame_of, header_bytes, Fits, IsHeader};
+ghost use Rattle.lru_frames.specs.Frame.{frame_of, header_bytes, Fits, IsDamaged, IsHeader};
 ghost use Rattle.lru_frames.specs.Marks.{IsWrongFrame, mark_in, mark_of};
 
 use crate::envelope::opened;
@@ -73,6 +74,17 @@ pub fn decode_marked<K: Stored, V: Stored>(
 
     // An error tells what is wrong with the bytes, or that memory ran out.
     ensures wrong { IfErr result (λ error. IsWrong K.bytes_of K.is_value V.bytes_of V.is_value error bytes.now) }
+
+    // What was written and then changed anywhere within 8 bytes side by side is damaged.
+    ensures changed { (header : Header) (rows : List (Row K V))
+        → ChangesWithinEight (frame_of K.bytes_of V.bytes_of header rows) bytes.now → IsErrAnd result IsDamaged }
+
+    // A beginning of what was written is told by its length, and so is what has bytes behind it.
+    ensures cut { (header : Header) (rows : List (Row K V)) (rest : List ℕ)
+        → length (frame_of K.bytes_of V.bytes_of header rows) < 2 ^ 64 → rest ≢ []
+        → frame_of K.bytes_of V.bytes_of header rows ≡ bytes.now ++ rest → result ≡ Err (Damaged Length) }
+    ensures longer { (header : Header) (rows : List (Row K V)) (rest : List ℕ)
+        → rest ≢ [] → bytes.now ≡ frame_of K.bytes_of V.bytes_of header rows ++ rest → result ≡ Err (Damaged Length) }
 {
     match decode(alloc, bytes) {
         Err(error) => Err(error),
@@ -102,7 +114,14 @@ pub fn inspect(bytes: &[u8]) -> Result<Inspected, Part>
     ensures written { (header : Header) (count : ℕ) (rest : List ℕ) → IsHeader header → count < 2 ^ 64
         → bytes.now ≡ sealed (header_bytes header count ++ rest) → IfOk result (λ it. (it.header ≡ header) × (it.mark ≡ mark_in count (header_bytes header count ++ rest))) × IsOk result }
 
+    // An error tells what is wrong with the bytes.
     ensures wrong { IfErr result (λ part. IsWrongFrame part bytes.now) }
+
+    // What was sealed and then changed anywhere within 8 bytes side by side, cut short or made longer is refused.
+    ensures changed { (content : List ℕ) → ChangesWithinEight (sealed content) bytes.now → IsErr result }
+    ensures cut { (content rest : List ℕ) → length (sealed content) < 2 ^ 64 → rest ≢ []
+        → sealed content ≡ bytes.now ++ rest → result ≡ Err Length }
+    ensures longer { (content rest : List ℕ) → rest ≢ [] → bytes.now ≡ sealed content ++ rest → result ≡ Err Length }
 {
     let content = match opened(bytes) {
         Err(part) => return Err(part),

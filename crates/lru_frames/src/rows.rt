@@ -26,8 +26,8 @@ pub(crate) fn put_rows<K: Stored, V: Stored>(
     Ok(())
 }
 
-// So many rows at the front, and the bytes behind them. At first it makes room for as many as the
-// bytes may have, whatever the count tells.
+// So many rows at the front, and the bytes behind them. Whatever the count tells, memory is taken for
+// rows that were read: a row may have more bytes in memory than in the file.
 pub(crate) fn take_rows<K: Stored, V: Stored>(
     alloc: Global,
     count: u64,
@@ -40,8 +40,7 @@ pub(crate) fn take_rows<K: Stored, V: Stored>(
         → AllByRecursion (IsRow K.is_value V.is_value) rows → length rows ≡ count
         → bytes.now ≡ flat_map (row_bytes K.bytes_of V.bytes_of) rows ++ rest → ⊥ }
 {
-    let room = (count as usize).min(bytes.len() / LIKELY_ROW);
-    let mut rows = Vec::with_capacity(alloc, room)?;
+    let mut rows = Vec::new(alloc);
     let mut rest = bytes;
     for _ in 0..count {
         let (row, after) = Row::load(alloc, rest)?;

@@ -1,9 +1,10 @@
 use Rattle.std.proofs.Common.{ℕ, ◌++◌, rules, sym, ap, ◌∙◌, arith}
+use Rattle.lru_frames.specs.declared.errors.Part.TheVariants.{Length}
 use Rattle.lru_frames.specs.declared.frame.Header.{Header}
 use Rattle.lru_frames.specs.Frame.{header_bytes}
 use Rattle.lru_frames.specs.Marks.{mark_in}
-use Rattle.lru_frames.proofs.EnvelopeLaws.{one_content}
-use Rattle.lru_frames.proofs.FrameLaws.{AreNarrow, no_header, one_header, header_narrow}
+use Rattle.lru_frames.proofs.EnvelopeLaws.{one_content, changed_apart, cut_refused, longer_refused}
+use Rattle.lru_frames.proofs.FrameLaws.{no_error, same_error, AreNarrow, no_header, one_header, header_narrow}
 use Rattle.lru_frames.proofs.marked.inspect.Goals as goal
 
 pub returns-in_default-clause-wrong : goal.returns-in_default-clause-wrong
@@ -46,3 +47,38 @@ returns-clause-written c = λ header count rest is_header small h.
       (parts.0, c.mark_at-mark.ensures (header_bytes header count ++ rest) h ∙ ap (λ (n : ℕ). mark_in n (header_bytes header count ++ rest)) parts.1),
       search rules,
     )
+
+pub returns-in_default-clause-cut : goal.returns-in_default-clause-cut
+returns-in_default-clause-cut c = λ content rest small some h.
+    absurd (no_error _ (cut_refused _ c.args.bytes.now content rest c.in-Ok.ensures.short c.in-Ok.ensures.told small some h))
+
+pub returns-in_default-clause-longer : goal.returns-in_default-clause-longer
+returns-in_default-clause-longer c = λ content rest some h.
+    absurd (no_error _ (longer_refused _ c.args.bytes.now content rest c.in-Ok.ensures.told (search rules) some h))
+
+pub returns-then-header-clause-cut : goal.returns-then-header-clause-cut
+returns-then-header-clause-cut c = λ content rest small some h.
+    absurd (no_error _ (cut_refused _ c.args.bytes.now content rest c.in-Ok.ensures.short c.in-Ok.ensures.told small some h))
+
+pub returns-then-header-clause-longer : goal.returns-then-header-clause-longer
+returns-then-header-clause-longer c = λ content rest some h.
+    absurd (no_error _ (longer_refused _ c.args.bytes.now content rest c.in-Ok.ensures.told (search rules) some h))
+
+pub returns-in-Err-clause-cut : goal.returns-in-Err-clause-cut
+returns-in-Err-clause-cut c = λ content rest small some h.
+    same_error c.in-Err.part Length (cut_refused _ c.args.bytes.now content rest c.in-Err.ensures.short c.in-Err.ensures.told small some h)
+
+pub returns-in-Err-clause-longer : goal.returns-in-Err-clause-longer
+returns-in-Err-clause-longer c = λ content rest some h.
+    same_error c.in-Err.part Length (longer_refused _ c.args.bytes.now content rest c.in-Err.ensures.told (search rules) some h)
+
+pub returns-clause-changed : goal.returns-clause-changed
+returns-clause-changed c = λ content change. absurd (changed_apart content c.in-Ok.content.now c.args.bytes.now change c.in-Ok.ensures.content)
+
+pub returns-clause-cut : goal.returns-clause-cut
+returns-clause-cut c = λ content rest small some h.
+    absurd (no_error _ (cut_refused _ c.args.bytes.now content rest c.in-Ok.ensures.short c.in-Ok.ensures.told small some h))
+
+pub returns-clause-longer : goal.returns-clause-longer
+returns-clause-longer c = λ content rest some h.
+    absurd (no_error _ (longer_refused _ c.args.bytes.now content rest c.in-Ok.ensures.told (search rules) some h))
