@@ -30,8 +30,8 @@ not_ahead (x ∷ xs) other h = other (omega arith) h
 -- what is read of a text without them
 pub number_read : {E : Type 0} (text : List ℕ) (r : Result ℕ E) → (1 < length text → get_or text 0 0 ≢ 48) → (0 < length text → get_or text 0 0 ≢ 43) → ParsesUnsigned 64 10 text r
     → MatchOption (result_ok r) ((n : ℕ) → n < 2 ^ 64 → text ≢ decimal n) (λ n. text ≡ decimal n)
-number_read text (Ok n) zero plus h =
-    let read = parse_plain own 64 text (Ok n) h (not_ahead text plus) in
+number_read {E} text (Ok n) zero plus h =
+    let read = parse_plain own {E = E} 64 text (Ok n) h (not_ahead text plus) in
     let short : get_or text 0 0 ≡ 48 → length text ≡ 1 = λ e. elim (cases_lt 1 (length text)) [ inl lt ↦ absurd (zero lt e) | inr le ↦ omega (arith, read.0.1) ] in
     sym (decimal-digits_value own text read.0.0 read.0.1 short read.0.2) ∙ ap decimal (sym read.1)
-number_read text (Err e) zero plus h = λ n small same. let none = parse-decimal 64 n text (Err e) small small same h in let f : ⊥ = cc in f
+number_read {E} text (Err e) zero plus h = λ n small same. let none = parse-decimal {E = E} 64 n text (Err e) small small same h in let f : ⊥ = cc in f

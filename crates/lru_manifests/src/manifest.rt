@@ -10,7 +10,7 @@ ghost use Rattle.lru_frames.specs.declared.errors.Part.TheVariants.{Length};
 ghost use Rattle.lru_frames.specs.declared.mark.Mark.{Mark};
 ghost use Rattle.lru_frames.specs.Envelope.{ChangesOneByte};
 ghost use Rattle.lru_frames.specs.Frame.{IsDamaged};
-ghost use Rattle.lru_manifests.specs.Manifests.{IsFrameOf, IsWrongFrame, IsManifest, IsWrongManifest, part_header, manifest_bytes, mark_row};
+ghost use Rattle.lru_manifests.specs.Manifests.{IsFrameOf, IsWrongFrame, IsManifest, IsWrongManifest, part_header, manifest_bytes};
 
 use lru_frames::errors::{FrameError, Part};
 use lru_frames::frame::{Frame, Header, decode, encode};
@@ -41,35 +41,21 @@ impl Manifest {
     }
 }
 
-// What a manifest has of a frame, as a row.
-fn row_of(mark: &Mark) -> Row<u64, u64>
-    ensures { result ≡ mark_row mark.now }
-{
-    Row {
-        key: mark.rows,
-        data: mark.check,
-        weight: mark.length as usize,
-    }
-}
-
-// The mark that a row has.
-fn mark_of(row: &Row<u64, u64>) -> Mark
-    ensures { mark_row result ≡ row.now }
-{
-    Mark {
-        rows: row.key,
-        length: row.weight as u64,
-        check: row.data,
-    }
-}
-
 /// The bytes of a manifest.
 pub fn encode_manifest(alloc: Global, manifest: &Manifest) -> Result<Vec<u8>, AllocError>
     requires { suc (length manifest.now.frames.items) < 2 ^ 64 }
     ensures bytes { IfOk result (λ bytes. bytes.items ≡ manifest_bytes manifest.now.generation manifest.now.frames.items) }
     ensures fits { IfOk result (λ bytes. IsManifest manifest.now.generation manifest.now.frames.items) }
 {
-    let rows: Vec<Row<u64, u64>> = manifest.frames.iter().map(row_of).collect(alloc)?;
+    let rows: Vec<Row<u64, u64>> = manifest
+        .frames
+        .iter()
+        .map(|mark| Row {
+            key: mark.rows,
+            data: mark.check,
+            weight: mark.length as usize,
+        })
+        .collect(alloc)?;
     encode(alloc, manifest.part(rows.len() as u64), &rows)
 }
 
@@ -85,7 +71,12 @@ fn manifest_in(alloc: Global, frame: Frame<u64, u64>) -> Result<Manifest, FrameE
     if frame.rows.len() as u64 != header.shard {
         return Err(FrameError::Damaged(Part::Rows));
     }
-    match frame.rows.iter().map(mark_of).collect(alloc) {
+    let marks = frame.rows.iter().map(|row| Mark {
+        rows: row.key,
+        length: row.weight as u64,
+        check: row.data,
+    });
+    match marks.collect(alloc) {
         Err(_) => Err(FrameError::Memory),
         Ok(frames) => Ok(Manifest {
             generation: header.generation,
