@@ -19,7 +19,7 @@ use Rattle.lru_frames.specs.WordLaws.{one_word}
 use Rattle.lru_frames.proofs.EnvelopeLaws.{one_content}
 use Rattle.lru_frames.proofs.FrameLaws.{fits_narrow, one_frame, one_header}
 use Rattle.lru_manifests.specs.declared.manifest.Manifest.{Manifest}
-use Rattle.lru_manifests.specs.Manifests.{IsFrameOf, IsWrongFrame, IsManifest, IsMark, IsWrongManifest, HasOtherContent, part_header, mark_row, manifest_content, manifest_bytes}
+use Rattle.lru_manifests.specs.Manifests.{IsFrameOf, IsWrongFrame, IsManifest, IsMark, IsWrongManifest, HasOtherContent, part_header, mark_row, row_mark, manifest_content, manifest_bytes}
 
 -- numbers as keys and data
 abbrev pub IsNumber : ℕ → Type 0
@@ -27,10 +27,6 @@ IsNumber n = n < 2 ^ 64
 
 abbrev pub IsSameNumber : ℕ → ℕ → Type 0
 IsSameNumber a b = a ≡ b
-
--- a mark from its row
-abbrev pub row_mark : Row ℕ ℕ → Mark
-row_mark row = record { rows = row.key; length = row.weight; check = row.data }
 
 marks_again : (marks : List Mark) → map row_mark (map mark_row marks) ≡ marks
 marks_again [] = refl
@@ -158,10 +154,28 @@ module _ (frame : Frame ℕ ℕ) (bytes : List ℕ) (reads : ReadsFrames (Ok fra
       (ap (λ (header : Header). header.generation) (sym is.0 ∙ read.0), one_list manifest.frames.items marks (sym is.1 ∙ read.1))
   written_so (Err error) is wrong generation marks numbers same = refused_frame error wrong generation marks (read_so generation marks numbers same)
 
-  pub found_so : Fits IsNumber IsNumber frame.header frame.rows.items → (generation : ℕ) (marks : List Mark) → IsFrameOf frame.header frame.rows.items generation marks
+  found_marks : Fits IsNumber IsNumber frame.header frame.rows.items → (generation : ℕ) (marks : List Mark) → IsFrameOf frame.header frame.rows.items generation marks
       → IsManifest generation marks × (bytes ≡ manifest_bytes generation marks)
-  found_so fits generation marks is = (
+  found_marks fits generation marks is = (
     is_manifest generation marks (subst (λ (rows : List (Row ℕ ℕ)). Fits IsNumber IsNumber (header_of generation marks) rows) is.1
     (subst (λ (header : Header). Fits IsNumber IsNumber header frame.rows.items) is.0 fits)),
     found ∙ ap (λ (header : Header). frame_of word word header frame.rows.items) is.0 ∙ ap (frame_of word word (header_of generation marks)) is.1,
   )
+
+  pub found_so : Fits IsNumber IsNumber frame.header frame.rows.items → (r : Result Manifest FrameError)
+      → IfOk r (λ manifest. IsFrameOf frame.header frame.rows.items manifest.generation manifest.frames.items)
+      → IfOk r (λ manifest. IsManifest manifest.generation manifest.frames.items × (bytes ≡ manifest_bytes manifest.generation manifest.frames.items))
+  found_so fits (Ok manifest) is = found_marks fits manifest.generation manifest.frames.items is
+  found_so fits (Err error) is = tt
+
+  pub wrong_result : (r : Result Manifest FrameError) → IfErr r (λ error. IsWrongFrame error frame.header frame.rows.items) → IfErr r (λ error. IsWrongManifest error bytes)
+  wrong_result (Ok manifest) h = tt
+  wrong_result (Err error) h = wrong_frame error h
+
+-- the frame of a manifest, from the number of its rows
+pub frame_so : (header : Header) (rows : List (Row ℕ ℕ)) → suc header.shard ≡ header.shards → length rows ≡ header.shard → IsFrameOf header rows header.generation (map row_mark rows)
+frame_so header rows last count =
+    let shards : length (map row_mark rows) ≡ header.shard = omega (arith, length-map rows row_mark, count) in (
+      ap (λ n. record { shards = n; shard = header.shard; generation = header.generation }) (sym last) ∙ ap (λ n. part_header header.generation n n) (sym shards),
+      sym (rows_again rows),
+    )

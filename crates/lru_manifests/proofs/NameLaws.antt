@@ -1,6 +1,6 @@
 -- The names of a checkpoint's files: which of them are the same.
-use Rattle.std.proofs.Common.{◌≡◌, ◌≢◌, ℕ, suc, ◌%◌, ◌+◌, ◌^◌, ◌<◌, Bool, true, false, List, [], ◌∷◌, ◌++◌, length, get_or, refl, sym, ◌∙◌, ap, subst, arith, rules}
-use Rattle.std.specs.Prelude.{codes, ◌||◌, ◌==◌}
+use Rattle.std.proofs.Common.{◌≡◌, ◌≢◌, ℕ, suc, ◌%◌, ◌+◌, ◌^◌, ◌<◌, Bool, true, false, List, [], ◌∷◌, ◌++◌, length, get_or, Option, Some, None, Bor, refl, sym, ◌∙◌, ap, subst, arith, rules}
+use Rattle.std.specs.Prelude.{MatchOption, codes, ◌||◌, ◌==◌}
 use Rattle.std.specs.Fmt.{decimal}
 use Rattle.std.specs.Int.{IsInRange}
 use Rattle.std.proofs.lemmas.Fmt.{decimal_by_steps, decimal_injective, decimal_is_IsNumeral, decimal_nonempty}
@@ -199,6 +199,17 @@ module _ (file_name name number kind : List ℕ) (cut : IsCut file_name name num
   no_kind manifest temp none (Frame g s) is h = none s is.1 (cut_parts (Frame g s) is h).1
   no_kind manifest temp none (Manifest g) is h = manifest (cut_parts (Manifest g) is h).1
   no_kind manifest temp none (Temp g) is h = temp (cut_parts (Temp g) is h).1
+
+-- a name's front, the dot behind it, and what stands on either side of the next dot
+pub IsCut-split : (file_name name rest behind : List ℕ) (r : Option (Bor (List ℕ) × Bor (List ℕ))) → name ≡ file_name ++ rest → rest ≡ 46 ∷ behind
+    → MatchOption r ((i : ℕ) → i < length behind → get_or behind i 0 ≢ 46) (λ x. (behind ≡ x.0.now ++ (46 ∷ x.1.now)) × ((i : ℕ) → i < length x.0.now → get_or x.0.now i 0 ≢ 46))
+    → MatchOption r ((number kind : List ℕ) → name ≢ file_name ++ (46 ∷ (number ++ (46 ∷ kind)))) (λ words. IsCut file_name name words.0.now words.1.now)
+IsCut-split file_name name rest behind (Some words) h k split =
+    (LacksDot-by_index words.0.now split.1, h ∙ ap (λ (l : List ℕ). file_name ++ l) (k ∙ ap (λ (l : List ℕ). 46 ∷ l) split.0))
+IsCut-split file_name name rest behind None h k none = λ number kind same.
+    let tail = append_cancel_left file_name rest (46 ∷ (number ++ (46 ∷ kind))) (sym h ∙ same) in
+    let there : behind ≡ number ++ 46 ∷ kind = cc in
+    has_dot number kind (subst LacksDot there (LacksDot-by_index behind none))
 
 -- a name with no words behind its front
 pub no_words : (file_name name : List ℕ) → ((number kind : List ℕ) → name ≢ file_name ++ (46 ∷ (number ++ (46 ∷ kind)))) → (part : PartName) → name ≢ part_text file_name part

@@ -20,6 +20,10 @@ part_header generation shards number = record { shards = suc shards; shard = num
 abbrev pub mark_row : Mark → Row ℕ ℕ
 mark_row mark = record { key = mark.rows; «data» = mark.check; weight = mark.length }
 
+-- and back
+abbrev pub row_mark : Row ℕ ℕ → Mark
+row_mark row = record { rows = row.key; length = row.weight; check = row.data }
+
 -- the last part, with a row for each shard
 abbrev pub manifest_content : ℕ → List Mark → List ℕ
 manifest_content generation marks = content_of word word (part_header generation (length marks) (length marks)) (map mark_row marks)

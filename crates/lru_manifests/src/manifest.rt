@@ -4,13 +4,13 @@
 //! manifest: a frame with a row for each shard, which has the number of rows, the check and the length of the
 //! shard's frame. So a manifest is no shard's frame, it has no more shards than its bytes have rows, and what is
 //! told of frames that are changed, cut short or longer is told of manifests too.
-ghost use Rattle.std.specs.Prelude.{◌≡◌, ◌≢◌, ◌<◌, ◌^◌, ◌++◌, ℕ, suc, List, [], length, IfOk, IfErr, IsErrAnd, MatchResult, Err};
+ghost use Rattle.std.specs.Prelude.{◌≡◌, ◌≢◌, ◌<◌, ◌^◌, ◌++◌, ℕ, suc, List, [], length, map, IfOk, IfErr, IsErrAnd, MatchResult, Err};
 ghost use Rattle.lru_frames.specs.declared.errors.FrameError.TheVariants.{Damaged, Memory};
 ghost use Rattle.lru_frames.specs.declared.errors.Part.TheVariants.{Length};
 ghost use Rattle.lru_frames.specs.declared.mark.Mark.{Mark};
 ghost use Rattle.lru_frames.specs.Envelope.{ChangesOneByte};
 ghost use Rattle.lru_frames.specs.Frame.{IsDamaged};
-ghost use Rattle.lru_manifests.specs.Manifests.{IsFrameOf, IsWrongFrame, IsManifest, IsWrongManifest, part_header, manifest_bytes};
+ghost use Rattle.lru_manifests.specs.Manifests.{IsFrameOf, IsWrongFrame, IsManifest, IsWrongManifest, part_header, manifest_bytes, mark_row, row_mark};
 
 use lru_frames::errors::{FrameError, Part};
 use lru_frames::frame::{Frame, Header, decode, encode};
@@ -41,21 +41,37 @@ impl Manifest {
     }
 }
 
+// The rows of these marks.
+fn rows_of(alloc: Global, marks: &[Mark]) -> Result<Vec<Row<u64, u64>>, AllocError>
+    ensures { IfOk result (λ rows. rows.items ≡ map mark_row marks.now) }
+{
+    let rows = marks.iter().map(|mark| Row {
+        key: mark.rows,
+        data: mark.check,
+        weight: mark.length as usize,
+    });
+    rows.collect(alloc)
+}
+
+// The marks of these rows.
+fn marks_of(alloc: Global, rows: &[Row<u64, u64>]) -> Result<Vec<Mark>, AllocError>
+    ensures { IfOk result (λ marks. marks.items ≡ map row_mark rows.now) }
+{
+    let marks = rows.iter().map(|row| Mark {
+        rows: row.key,
+        length: row.weight as u64,
+        check: row.data,
+    });
+    marks.collect(alloc)
+}
+
 /// The bytes of a manifest.
 pub fn encode_manifest(alloc: Global, manifest: &Manifest) -> Result<Vec<u8>, AllocError>
     requires { suc (length manifest.now.frames.items) < 2 ^ 64 }
     ensures bytes { IfOk result (λ bytes. bytes.items ≡ manifest_bytes manifest.now.generation manifest.now.frames.items) }
     ensures fits { IfOk result (λ bytes. IsManifest manifest.now.generation manifest.now.frames.items) }
 {
-    let rows: Vec<Row<u64, u64>> = manifest
-        .frames
-        .iter()
-        .map(|mark| Row {
-            key: mark.rows,
-            data: mark.check,
-            weight: mark.length as usize,
-        })
-        .collect(alloc)?;
+    let rows = rows_of(alloc, &manifest.frames)?;
     encode(alloc, manifest.part(rows.len() as u64), &rows)
 }
 
@@ -71,12 +87,7 @@ fn manifest_in(alloc: Global, frame: Frame<u64, u64>) -> Result<Manifest, FrameE
     if frame.rows.len() as u64 != header.shard {
         return Err(FrameError::Damaged(Part::Rows));
     }
-    let marks = frame.rows.iter().map(|row| Mark {
-        rows: row.key,
-        length: row.weight as u64,
-        check: row.data,
-    });
-    match marks.collect(alloc) {
+    match marks_of(alloc, &frame.rows) {
         Err(_) => Err(FrameError::Memory),
         Ok(frames) => Ok(Manifest {
             generation: header.generation,
