@@ -1,7 +1,9 @@
 -- What the bytes of a manifest tell.
-use Rattle.std.proofs.Common.{◌≡◌, ◌≢◌, ℕ, suc, ◌^◌, ◌<◌, List, [], ◌∷◌, length, Result, Ok, Err, refl, sym, ap, subst, ◌∙◌, append-nil, arith}
-use Rattle.std.specs.Prelude.{map, MatchResult, IfOk, IfErr}
+use Rattle.std.proofs.Common.{◌≡◌, ◌≢◌, ℕ, suc, ◌+◌, ◌^◌, ◌<◌, eqb, Bool, true, false, Option, Some, None, List, [], ◌∷◌, length, Result, Ok, Err, refl, sym, ap, subst, ◌∙◌, arith}
+use Rattle.std.specs.Prelude.{not, map, MatchResult, IfOk, IfErr}
+use Rattle.std.specs.Option.{SomeIff, option_eq}
 use Rattle.std.specs.List.{flat_map, AllByRecursion}
+use Rattle.std.proofs.lemmas.Bool.{eqb-true}
 use Rattle.std.proofs.lemmas.List.{length-map}
 use Rattle.lru_frames.specs.declared.errors.Part.TheVariants as part
 use Rattle.lru_frames.specs.declared.errors.FrameError.{FrameError}
@@ -11,7 +13,7 @@ use Rattle.lru_frames.specs.declared.frame.Frame.{Frame}
 use Rattle.lru_frames.specs.declared.mark.Mark.{Mark}
 use Rattle.lru_frames.specs.declared.row.Row.{Row}
 use Rattle.lru_frames.specs.Envelope.{sealed}
-use Rattle.lru_frames.specs.Frame.{content_of, frame_of, Fits, IsHeader}
+use Rattle.lru_frames.specs.Frame.{content_of, frame_of, Fits}
 use Rattle.lru_frames.specs.Rows.{row_bytes, IsRow, IsSameRow, AreSame}
 use Rattle.lru_frames.specs.Causes.{IsWrong}
 use Rattle.lru_frames.specs.Words.{word}
@@ -158,7 +160,7 @@ module _ (frame : Frame ℕ ℕ) (bytes : List ℕ) (reads : ReadsFrames (Ok fra
       → IsManifest generation marks × (bytes ≡ manifest_bytes generation marks)
   found_marks fits generation marks is = (
     is_manifest generation marks (subst (λ (rows : List (Row ℕ ℕ)). Fits IsNumber IsNumber (header_of generation marks) rows) is.1
-    (subst (λ (header : Header). Fits IsNumber IsNumber header frame.rows.items) is.0 fits)),
+        (subst (λ (header : Header). Fits IsNumber IsNumber header frame.rows.items) is.0 fits)),
     found ∙ ap (λ (header : Header). frame_of word word header frame.rows.items) is.0 ∙ ap (frame_of word word (header_of generation marks)) is.1,
   )
 
@@ -179,3 +181,18 @@ frame_so header rows last count =
       ap (λ n. record { shards = n; shard = header.shard; generation = header.generation }) (sym last) ∙ ap (λ n. part_header header.generation n n) (sym shards),
       sym (rows_again rows),
     )
+
+-- a number, and the one after it, as it is compared
+pub last_so : (next : Option ℕ) (shard shards : ℕ) → false ≡ not (option_eq eqb next (Some shards)) → SomeIff next (shard + 1 < 2 ^ 64) (shard + 1) → suc shard ≡ shards
+last_so (Some n) shard shards same is =
+    let test : eqb n shards ≡ true = elim (eqb n shards) as (λ (b : Bool). false ≡ not b → b ≡ true) [ true ↦ λ h. refl | false ↦ λ h. h ] same in
+    omega (arith, eqb-true n shards test, is.1)
+last_so None shard shards same is = let f : ⊥ = cc in absurd f
+
+-- what is written fits
+pub fits_so : {T E : Type 0} (r : Result T E) (header : Header) (rows : List (Row ℕ ℕ)) (generation : ℕ) (marks : List Mark) → IfOk r (λ _. Fits IsNumber IsNumber header rows)
+    → header ≡ header_of generation marks → rows ≡ map mark_row marks → IfOk r (λ _. IsManifest generation marks)
+fits_so (Ok bytes) header rows generation marks fits h k =
+    is_manifest generation marks (subst (λ (rs : List (Row ℕ ℕ)). Fits IsNumber IsNumber (header_of generation marks) rs) k
+    (subst (λ (he : Header). Fits IsNumber IsNumber he rows) h fits))
+fits_so (Err error) header rows generation marks fits h k = tt

@@ -7,7 +7,7 @@ use Rattle.std.proofs.lemmas.Fmt.{decimal_by_steps, decimal_injective, decimal_i
 use Rattle.std.proofs.lemmas.List.{append_assoc, append_cancel_left}
 use Rattle.std.proofs.lemmas.List.Folds.{list_any-append}
 use Rattle.std.proofs.lemmas.Str.Parse.{digit_at}
-use Rattle.lru_folder.specs.Names.{has_slash, path_text, shard_text}
+use Rattle.lru_folder.specs.Names.{has_slash, shard_text}
 use Rattle.lru_folder.proofs.NamesLemmas.{path_text-injective, has_slash-shard_text}
 use Rattle.lru_manifests.specs.declared.names.PartName.{PartName}
 use Rattle.lru_manifests.specs.declared.names.PartName.TheVariants.{Frame, Manifest, Temp}

@@ -1,5 +1,4 @@
 use Rattle.std.specs.Prelude.{map}
-use Rattle.lru_frames.specs.Words.{word}
 use Rattle.lru_manifests.specs.Manifests.{mark_row}
 use Rattle.lru_manifests.proofs.ManifestLaws.{header_of, refused, wrong_so, written_so, found_so, wrong_result}
 use Rattle.lru_manifests.proofs.manifest.decode_manifest.Goals as goal

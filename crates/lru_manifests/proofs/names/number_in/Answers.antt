@@ -1,4 +1,4 @@
-use Rattle.std.proofs.Common.{◌≢◌, ◌<◌, length, get_or, arith, sym, subst, List, ℕ, ap}
+use Rattle.std.proofs.Common.{◌≢◌, ◌<◌, length, get_or, arith, subst, List, ℕ}
 use Rattle.lru_manifests.proofs.NumberLaws.{no_plus_ahead, no_zero_ahead, number_read}
 use Rattle.lru_manifests.proofs.names.number_in.Goals as goal
 use Rattle.lru_manifests.proofs.names.number_in.Goals.{else-bytes-gt1-via-then-bytes-gt1+else-bytes-eq48, else-bytes-gt1-via-else-bytes-gt1, else-bytes-gt0-via-then-bytes-gt0+else-bytes-eq43, else-bytes-gt0-via-else-bytes-gt0}

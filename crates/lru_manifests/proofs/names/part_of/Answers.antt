@@ -16,5 +16,5 @@ pub returns-in-text : goal.returns-in-text
 returns-in-text c = (
   search rules,
   part_read c.args.file_name.now c.args.name.now c.in_ok-number.number.now c.in_ok-number.kind.now c.in_ok-number.ensures
-  (Temp c.in_ok-generation.generation) c.in_ok-generation.ensures c.in-text.is,
+      (Temp c.in_ok-generation.generation) c.in_ok-generation.ensures c.in-text.is,
 )
