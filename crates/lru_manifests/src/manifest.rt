@@ -1,9 +1,9 @@
 //! The manifest of a checkpoint: which generation is whole, and which frames it has.
 //!
 //! A checkpoint of N shards has N + 1 parts. Those below N are the frames of its shards, and part N is the
-//! manifest: a frame with a row for each shard, which has the number of rows, the check and the length of the
-//! shard's frame. So a manifest is no shard's frame, it has no more shards than its bytes have rows, and what is
-//! told of frames that are changed, cut short or longer is told of manifests too.
+//! manifest: a frame with one row for each shard, which has the number of rows, the check and the length of the
+//! shard's frame. So a manifest is no shard's frame, it tells no more shards than it has rows, and what is told
+//! of frames that are changed, cut short or longer is told of manifests too.
 ghost use Rattle.std.specs.Prelude.{◌≡◌, ◌≢◌, ◌<◌, ◌^◌, ◌++◌, ℕ, suc, List, [], length, map, IfOk, IfErr, IsErrAnd, MatchResult, Err};
 ghost use Rattle.lru_frames.specs.declared.errors.FrameError.TheVariants.{Damaged, Memory};
 ghost use Rattle.lru_frames.specs.declared.errors.Part.TheVariants.{Length};
@@ -98,8 +98,8 @@ fn manifest_in(alloc: Global, frame: Frame<u64, u64>) -> Result<Manifest, FrameE
 
 /// The manifest whose bytes these are, read whole or refused as `lru_frames::frame::decode` refuses a frame.
 ///
-/// `Damaged(Rows)` is also told of a frame with more rows or fewer than the manifest has of such a checkpoint,
-/// and `Damaged(Header)` of one that is not the last part.
+/// `Damaged(Header)` is also told of a frame that is not the last part, and `Damaged(Rows)` of a last part that
+/// has not one row for each shard.
 pub fn decode_manifest(alloc: Global, bytes: &[u8]) -> Result<Manifest, FrameError>
     // What is read is what these bytes are written for.
     ensures found { IfOk result (λ manifest. IsManifest manifest.generation manifest.frames.items
