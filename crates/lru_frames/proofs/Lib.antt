@@ -1,4 +1,3 @@
-pub mod CheckLaws
 pub mod EnvelopeLaws
 pub mod RowsLaws
 pub mod FrameLaws

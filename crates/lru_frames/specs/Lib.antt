@@ -1,6 +1,5 @@
 pub mod Words
 pub mod WordLaws
-pub mod Check
 pub mod Envelope
 pub mod Errors
 pub mod StoredErrors

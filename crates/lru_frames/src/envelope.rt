@@ -5,15 +5,15 @@ ghost use Rattle.lru_frames.specs.Words.{word};
 ghost use Rattle.lru_frames.specs.Causes.{IsWrongAround};
 ghost use Rattle.lru_frames.specs.Envelope.{head_of, with_check, sealed};
 
-use crate::check::check_of;
 use crate::errors::Part;
 use crate::words::{put_word, take_word};
+use lru_crc64::crc64;
 use std::alloc::AllocError;
 
 // The bytes of the text LRUFRAME as a number.
 const MAGIC: u64 = 0x454D_4152_4655_524C;
 
-const VERSION: u64 = 1;
+const VERSION: u64 = 2;
 
 // Where the length stands.
 const LENGTH: usize = 16;
@@ -47,7 +47,7 @@ pub(crate) fn seal(out: &mut Vec<u8>) -> Result<(), AllocError>
 {
     let length = out.len() as u64 + CHECK as u64;
     set_word(out, LENGTH, length);
-    let check = check_of(out);
+    let check = crc64(out);
     put_word(out, check)
 }
 
@@ -91,7 +91,7 @@ fn checked(bytes: &[u8]) -> Option<&[u8]>
     ensures length { IfSome result (λ front. length front.now + 8 ≡ length bytes.now) }
 {
     let (front, end) = bytes.split_at(bytes.len() - CHECK);
-    match behind(end, check_of(front)) {
+    match behind(end, crc64(front)) {
         None => None,
         Some(_) => Some(front),
     }

@@ -1,16 +1,16 @@
 //! A frame: the rows of one shard as bytes that are read whole or refused.
 //!
 //! All numbers have 8 bytes, the lowest first. A frame begins with the text `LRUFRAME`, its version,
-//! which is 1, and the length of the whole frame in bytes. The number of shards, the number of the
+//! which is 2, and the length of the whole frame in bytes. The number of shards, the number of the
 //! shard, the generation and the number of rows follow, then each row with key, data and weight, and
-//! at the end a check of all bytes before it.
+//! at the end a check of all bytes before it, their CRC-64.
 ghost use Rattle.std.specs.Prelude.{◌≡◌, ◌≢◌, ◌<◌, ◌^◌, ◌++◌, ℕ, List, [], length, OnOk, IfOk, IfErr, IsErrAnd, MatchOption, MatchResult, Err};
 ghost use Rattle.lru_frames.specs.declared.errors.FrameError.TheVariants.{Damaged, Memory};
 ghost use Rattle.lru_frames.specs.declared.errors.Part.TheVariants.{Length};
 ghost use Rattle.lru_frames.specs.declared.frame.Header.{Header};
 ghost use Rattle.lru_frames.specs.declared.row.Row.{Row};
 ghost use Rattle.lru_frames.specs.Causes.{IsWrongInside, IsWrong};
-ghost use Rattle.lru_frames.specs.Envelope.{ChangesOneByte};
+ghost use Rattle.lru_frames.specs.Envelope.{ChangesWithinEight};
 ghost use Rattle.lru_frames.specs.Rows.{IsSameRow, AreSame};
 ghost use Rattle.lru_frames.specs.Frame.{header_bytes, content_of, frame_of, Fits, IsDamaged};
 
@@ -127,10 +127,10 @@ fn frame_in<K: Stored, V: Stored>(alloc: Global, content: &[u8]) -> Result<Frame
 
 /// The frame whose bytes these are, read whole or refused.
 ///
-/// The check is compared before any row is read, so that damage is told as damage. A change of one
-/// byte is found, whichever byte it is, and so is a frame that is cut short or has bytes behind it.
-/// A change of two bytes or more is found wherever it changes the check, which is all but about one
-/// in 2 ^ 64 of them: that one is found too is not promised.
+/// The check is compared before any row is read, so that damage is told as damage. A change of bytes
+/// that stand within 8 side by side is found, wherever they begin, and so is a frame that is cut short
+/// or has bytes behind it. A change that reaches further is found wherever it changes the check, which
+/// is all but about one in 2 ^ 64 of them: that one is found too is not promised.
 pub fn decode<K: Stored, V: Stored>(alloc: Global, bytes: &[u8]) -> Result<Frame<K, V>, FrameError>
     // What is read is what these bytes are written for.
     ensures found { IfOk result (λ frame. bytes.now ≡ frame_of K.bytes_of V.bytes_of frame.header frame.rows.items) }
@@ -146,9 +146,9 @@ pub fn decode<K: Stored, V: Stored>(alloc: Global, bytes: &[u8]) -> Result<Frame
     // An error tells what is wrong with the bytes, or that memory ran out.
     ensures wrong { IfErr result (λ error. IsWrong K.bytes_of K.is_value V.bytes_of V.is_value error bytes.now) }
 
-    // What was written and then changed in one byte is damaged.
-    ensures one_byte { (header : Header) (rows : List (Row K V))
-        → ChangesOneByte (frame_of K.bytes_of V.bytes_of header rows) bytes.now → IsErrAnd result IsDamaged }
+    // What was written and then changed anywhere within 8 bytes side by side is damaged.
+    ensures changed { (header : Header) (rows : List (Row K V))
+        → ChangesWithinEight (frame_of K.bytes_of V.bytes_of header rows) bytes.now → IsErrAnd result IsDamaged }
 
     // A beginning of what was written is told by its length, and so is what has bytes behind it.
     ensures cut { (header : Header) (rows : List (Row K V)) (rest : List ℕ)

@@ -2,7 +2,7 @@
 ghost use Rattle.std.specs.Prelude.{◌≡◌, ◌<◌, ◌^◌, ◌++◌, ℕ, List, [], length};
 ghost use Rattle.lru_frames.specs.declared.frame.Header.{Header};
 ghost use Rattle.lru_frames.specs.declared.row.Row.{Row};
-ghost use Rattle.lru_frames.specs.Envelope.{ChangesOneByte};
+ghost use Rattle.lru_frames.specs.Envelope.{ChangesWithinEight};
 ghost use Rattle.lru_frames.specs.Rows.{IsSameRow, AreSame};
 ghost use Rattle.lru_frames.specs.Frame.{frame_of, Fits};
 
@@ -17,8 +17,8 @@ pub fn one_frame<K: Stored, V: Stored>()
         → (rest ≡ []) × (header ≡ other) × AreSame (IsSameRow K.is_same V.is_same) rows others }
 {}
 
-/// No frame is another frame with one byte changed, in whichever part.
-pub fn more_than_one_byte_apart<K: Stored, V: Stored>()
+/// No frame is another frame with bytes changed within 8 that stand side by side, in whichever part.
+pub fn more_than_eight_bytes_apart<K: Stored, V: Stored>()
     ensures { (header other : Header) (rows others : List (Row K V))
-        → ChangesOneByte (frame_of K.bytes_of V.bytes_of header rows) (frame_of K.bytes_of V.bytes_of other others) → ⊥ }
+        → ChangesWithinEight (frame_of K.bytes_of V.bytes_of header rows) (frame_of K.bytes_of V.bytes_of other others) → ⊥ }
 {}

@@ -1,7 +1,6 @@
 //! The bytes of one shard's checkpoint: rows in a frame that is read whole or refused.
 #![tactic(auto)]
 
-mod check;
 mod envelope;
 pub mod errors;
 pub mod frame;

@@ -16,4 +16,4 @@ returns c = λ content h.
     ∙ c.set_word.ensures ∙ ap (λ (x : List ℕ). take 16 x ++ (word (c.len.result + 8) ++ drop 24 x)) old
     ∙ head_told content (c.len.result + 8) ∙ ap (λ (n : ℕ). head_of n ++ content) told in
     IfOk-equal c.put_word.result c.put_word.new.out.items _ (sealed content) c.put_word.ensures
-    (ap (λ (x : List ℕ). x ++ word c.check_of-check.result) (sym c.deref.ensures.value) ∙ sealed_now c.deref.result.now content c.check_of-check.result now c.check_of-check.ensures)
+    (ap (λ (x : List ℕ). x ++ word c.crc64-check.result) (sym c.deref.ensures.value) ∙ sealed_now c.deref.result.now content c.crc64-check.result now c.crc64-check.ensures)

@@ -1,6 +1,6 @@
 use Rattle.std.proofs.Common.{rules, sym, ◌∙◌}
 use Rattle.lru_frames.specs.Frame.{content_of}
-use Rattle.lru_frames.proofs.EnvelopeLaws.{one_content, one_byte_apart, cut_refused, longer_refused}
+use Rattle.lru_frames.proofs.EnvelopeLaws.{one_content, changed_apart, cut_refused, longer_refused}
 use Rattle.lru_frames.proofs.FrameLaws.{read_again, told_length, no_error}
 use Rattle.lru_frames.proofs.frame.decode.Goals as goal
 
@@ -20,9 +20,9 @@ returns-in-Ok-clause-written g c = λ header rows fits h.
     c.frame_in.result c.in-Ok.content.now header rows fits c.frame_in.ensures.fits c.frame_in.ensures.content c.frame_in.ensures.refused
     (one_content c.in-Ok.content.now (content_of K.bytes_of V.bytes_of header rows) (sym c.in-Ok.ensures.content ∙ h))
 
-pub returns-in-Ok-clause-one_byte : goal.returns-in-Ok-clause-one_byte
-returns-in-Ok-clause-one_byte g c = λ header rows change.
-    absurd (one_byte_apart (content_of g.K.Stored.bytes_of g.V.Stored.bytes_of header rows) c.in-Ok.content.now c.args.bytes.now change c.in-Ok.ensures.content)
+pub returns-in-Ok-clause-changed : goal.returns-in-Ok-clause-changed
+returns-in-Ok-clause-changed g c = λ header rows change.
+    absurd (changed_apart (content_of g.K.Stored.bytes_of g.V.Stored.bytes_of header rows) c.in-Ok.content.now c.args.bytes.now change c.in-Ok.ensures.content)
 
 pub returns-in-Ok-clause-cut : goal.returns-in-Ok-clause-cut
 returns-in-Ok-clause-cut g c = λ header rows rest small some h.

@@ -1,0 +1,5 @@
+pub mod Xors
+pub mod Steps
+pub mod CrcLaws
+pub mod TableLaws
+pub mod LaneLaws

@@ -1,8 +1,0 @@
-use Rattle.std.proofs.Common.{refl}
-use Rattle.lru_frames.specs.Frame.{content_of}
-use Rattle.lru_frames.proofs.EnvelopeLaws.{one_byte_apart}
-use Rattle.lru_frames.proofs.laws.more_than_one_byte_apart.Goals as goal
-
-pub returns : goal.returns
-returns g c = λ header other rows others change.
-    one_byte_apart (content_of g.K.Stored.bytes_of g.V.Stored.bytes_of header rows) (content_of g.K.Stored.bytes_of g.V.Stored.bytes_of other others) _ change refl
