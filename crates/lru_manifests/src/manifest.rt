@@ -8,7 +8,7 @@ ghost use Rattle.std.specs.Prelude.{◌≡◌, ◌≢◌, ◌<◌, ◌^◌, ◌+
 ghost use Rattle.lru_frames.specs.declared.errors.FrameError.TheVariants.{Damaged, Memory};
 ghost use Rattle.lru_frames.specs.declared.errors.Part.TheVariants.{Length};
 ghost use Rattle.lru_frames.specs.declared.mark.Mark.{Mark};
-ghost use Rattle.lru_frames.specs.Envelope.{ChangesOneByte};
+ghost use Rattle.lru_frames.specs.Envelope.{ChangesWithinEight};
 ghost use Rattle.lru_frames.specs.Frame.{IsDamaged};
 ghost use Rattle.lru_manifests.specs.Manifests.{IsFrameOf, IsWrongFrame, IsManifest, IsWrongManifest, part_header, manifest_bytes, mark_row, row_mark};
 
@@ -112,8 +112,8 @@ pub fn decode_manifest(alloc: Global, bytes: &[u8]) -> Result<Manifest, FrameErr
     // An error tells what is wrong with the bytes, or that memory ran out.
     ensures wrong { IfErr result (λ error. IsWrongManifest error bytes.now) }
 
-    // What was written and then changed in one byte is damaged.
-    ensures one_byte { (generation : ℕ) (marks : List Mark) → ChangesOneByte (manifest_bytes generation marks) bytes.now → IsErrAnd result IsDamaged }
+    // What was written and then changed anywhere within 8 bytes side by side is damaged.
+    ensures changed { (generation : ℕ) (marks : List Mark) → ChangesWithinEight (manifest_bytes generation marks) bytes.now → IsErrAnd result IsDamaged }
 
     // A beginning of what was written is told by its length, and so is what has bytes behind it.
     ensures cut { (generation : ℕ) (marks : List Mark) (rest : List ℕ) → length (manifest_bytes generation marks) < 2 ^ 64
