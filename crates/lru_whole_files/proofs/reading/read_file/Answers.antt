@@ -46,3 +46,9 @@ returns-in-Err-read_opened-clause-touches g c k =
     (touches_looked g.F.Folder.meaning (λ q. ⊥) start start c.open.new.self
     (touches_started g.F.Folder.meaning (λ q. ⊥) start k) (c.open.ensures.time k) (c.open.ensures.loss k))
     (c.read_opened.ensures.touches (c.open.ensures.kept.0 k))
+
+pub returns-then-len-most-clause-touches : goal.returns-then-len-most-clause-touches
+returns-then-len-most-clause-touches g c k =
+    let start = c.args.folder.now in
+    touches_looked g.F.Folder.meaning (λ q. ⊥) start start c.open.new.self
+    (touches_started g.F.Folder.meaning (λ q. ⊥) start k) (c.open.ensures.time k) (c.open.ensures.loss k)

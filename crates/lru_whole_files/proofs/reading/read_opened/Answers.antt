@@ -4,10 +4,6 @@ use Rattle.lru_whole_files.proofs.Touched.{touches_started, touches_looked}
 use Rattle.lru_whole_files.proofs.reading.read_opened.Goals as goal
 use Rattle.lru_whole_files.proofs.reading.read_opened.Goals.{else-loop-folder-test, then-loop-folder-test+in-Ok+then-is_empty}
 
-pub returns-in_err-bytes-clause-touches : goal.returns-in_err-bytes-clause-touches
-returns-in_err-bytes-clause-touches g c k =
-    touches_started g.F.Folder.meaning (λ q. ⊥) c.args.folder.now k
-
 pub loop-folder-init : goal.loop-folder-init
 loop-folder-init g c = record {
   mode = search rules;
