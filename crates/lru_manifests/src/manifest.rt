@@ -10,7 +10,7 @@ ghost use Rattle.lru_frames.specs.declared.errors.Part.TheVariants.{Length};
 ghost use Rattle.lru_frames.specs.declared.mark.Mark.{Mark};
 ghost use Rattle.lru_frames.specs.Envelope.{ChangesWithinEight};
 ghost use Rattle.lru_frames.specs.Frame.{IsDamaged};
-ghost use Rattle.lru_manifests.specs.Manifests.{IsFrameOf, IsWrongFrame, IsManifest, IsWrongManifest, part_header, manifest_bytes, mark_row, row_mark};
+ghost use Rattle.lru_manifests.specs.Manifests.{IsFrameOf, IsRefused, IsManifest, IsWrongManifest, part_header, manifest_bytes, mark_row, row_mark};
 
 use lru_frames::errors::{FrameError, Part};
 use lru_frames::frame::{Frame, Header, decode, encode};
@@ -78,7 +78,7 @@ pub fn encode_manifest(alloc: Global, manifest: &Manifest) -> Result<Vec<u8>, Al
 // The manifest that this frame is.
 fn manifest_in(alloc: Global, frame: Frame<u64, u64>) -> Result<Manifest, FrameError>
     ensures found { IfOk result (λ manifest. IsFrameOf frame.header frame.rows.items manifest.generation manifest.frames.items) }
-    ensures wrong { IfErr result (λ error. IsWrongFrame error frame.header frame.rows.items) }
+    ensures wrong { IfErr result (λ error. IsRefused error frame.header frame.rows.items) }
 {
     let header = frame.header;
     if header.shard.checked_add(1) != Some(header.shards) {
