@@ -21,7 +21,7 @@ use Rattle.lru_frames.specs.WordLaws.{one_word}
 use Rattle.lru_frames.proofs.EnvelopeLaws.{one_content}
 use Rattle.lru_frames.proofs.FrameLaws.{fits_narrow, one_frame, one_header}
 use Rattle.lru_manifests.specs.declared.manifest.Manifest.{Manifest}
-use Rattle.lru_manifests.specs.Manifests.{IsFrameOf, IsWrongFrame, IsManifest, IsMark, IsWrongManifest, HasOtherContent, part_header, mark_row, row_mark, manifest_content, manifest_bytes}
+use Rattle.lru_manifests.specs.Manifests.{IsFrameOf, IsRefused, IsManifest, IsMark, IsWrongManifest, HasOtherContent, part_header, mark_row, row_mark, manifest_content, manifest_bytes}
 
 -- numbers as keys and data
 abbrev pub IsNumber : ℕ → Type 0
@@ -128,7 +128,7 @@ module _ (frame : Frame ℕ ℕ) (bytes : List ℕ) (reads : ReadsFrames (Ok fra
     (found, λ generation marks is same. other generation marks (read_so generation marks is (found ∙ ap sealed same))),
   )
 
-  pub wrong_frame : (error : FrameError) → IsWrongFrame error frame.header frame.rows.items → IsWrongManifest error bytes
+  pub wrong_frame : (error : FrameError) → IsRefused error frame.header frame.rows.items → IsWrongManifest error bytes
   wrong_frame Memory h = tt
   wrong_frame (Damaged part.Length) h = absurd h
   wrong_frame (Damaged part.Magic) h = absurd h
@@ -137,7 +137,7 @@ module _ (frame : Frame ℕ ℕ) (bytes : List ℕ) (reads : ReadsFrames (Ok fra
   wrong_frame (Damaged part.Header) h = other_content h
   wrong_frame (Damaged part.Rows) h = other_content h
 
-  refused_frame : (error : FrameError) → IsWrongFrame error frame.header frame.rows.items → (generation : ℕ) (marks : List Mark) → IsFrameOf frame.header frame.rows.items generation marks → error ≡ Memory
+  refused_frame : (error : FrameError) → IsRefused error frame.header frame.rows.items → (generation : ℕ) (marks : List Mark) → IsFrameOf frame.header frame.rows.items generation marks → error ≡ Memory
   refused_frame Memory h generation marks is = refl
   refused_frame (Damaged part.Length) h generation marks is = absurd h
   refused_frame (Damaged part.Magic) h generation marks is = absurd h
@@ -148,7 +148,7 @@ module _ (frame : Frame ℕ ℕ) (bytes : List ℕ) (reads : ReadsFrames (Ok fra
 
   -- what is read of a manifest's bytes
   pub written_so : (r : Result Manifest FrameError) → IfOk r (λ manifest. IsFrameOf frame.header frame.rows.items manifest.generation manifest.frames.items)
-      → IfErr r (λ error. IsWrongFrame error frame.header frame.rows.items)
+      → IfErr r (λ error. IsRefused error frame.header frame.rows.items)
       → (generation : ℕ) (marks : List Mark) → IsManifest generation marks → bytes ≡ manifest_bytes generation marks
       → MatchResult r (λ manifest. (manifest.generation ≡ generation) × (manifest.frames.items ≡ marks)) (λ error. error ≡ Memory)
   written_so (Ok manifest) is wrong generation marks numbers same =
@@ -170,7 +170,7 @@ module _ (frame : Frame ℕ ℕ) (bytes : List ℕ) (reads : ReadsFrames (Ok fra
   found_so fits (Ok manifest) is = found_marks fits manifest.generation manifest.frames.items is
   found_so fits (Err error) is = tt
 
-  pub wrong_result : (r : Result Manifest FrameError) → IfErr r (λ error. IsWrongFrame error frame.header frame.rows.items) → IfErr r (λ error. IsWrongManifest error bytes)
+  pub wrong_result : (r : Result Manifest FrameError) → IfErr r (λ error. IsRefused error frame.header frame.rows.items) → IfErr r (λ error. IsWrongManifest error bytes)
   wrong_result (Ok manifest) h = tt
   wrong_result (Err error) h = wrong_frame error h
 

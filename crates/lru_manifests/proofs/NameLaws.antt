@@ -11,7 +11,7 @@ use Rattle.lru_folder.specs.Names.{has_slash, shard_text}
 use Rattle.lru_folder.proofs.NamesLemmas.{path_text-injective, has_slash-shard_text}
 use Rattle.lru_manifests.specs.declared.names.PartName.{PartName}
 use Rattle.lru_manifests.specs.declared.names.PartName.TheVariants.{Frame, Manifest, Temp}
-use Rattle.lru_manifests.specs.Names.{IsPart, LacksDot, part_path, part_text}
+use Rattle.lru_manifests.specs.Names.{IsPart, LacksDot, generation_of, part_path, part_text}
 
 LacksDot-push : (ds : List ℕ) (c : ℕ) → LacksDot ds → c ≢ 46 → LacksDot (ds ++ c ∷ [])
 LacksDot-push [] c lacks other = (other, tt)
@@ -149,11 +149,6 @@ abbrev pub kind_text : PartName → List ℕ
 kind_text (Frame generation shard) = decimal shard
 kind_text (Manifest generation) = codes "manifest"
 kind_text (Temp generation) = codes "manifest.tmp"
-
-abbrev pub generation_of : PartName → ℕ
-generation_of (Frame generation shard) = generation
-generation_of (Manifest generation) = generation
-generation_of (Temp generation) = generation
 
 pub shard_parts : (file_name more : List ℕ) (generation : ℕ) → shard_text file_name generation ++ more ≡ file_name ++ (codes "." ++ (decimal generation ++ more))
 shard_parts file_name more generation = append_assoc file_name (codes "." ++ decimal generation) more

@@ -48,14 +48,14 @@ abbrev pub IsFrameOf : Header → List (Row ℕ ℕ) → ℕ → List Mark → T
 IsFrameOf header rows generation marks = (header ≡ part_header generation (length marks) (length marks)) × (rows ≡ map mark_row marks)
 
 -- it is none; where memory ran out, maybe one
-abbrev pub IsWrongFrame : FrameError → Header → List (Row ℕ ℕ) → Type 0
-IsWrongFrame Memory header rows = Unit {0}
-IsWrongFrame (Damaged part.Header) header rows = (generation : ℕ) (marks : List Mark) → IsFrameOf header rows generation marks → ⊥
-IsWrongFrame (Damaged part.Rows) header rows = (generation : ℕ) (marks : List Mark) → IsFrameOf header rows generation marks → ⊥
-IsWrongFrame (Damaged part.Length) header rows = ⊥
-IsWrongFrame (Damaged part.Magic) header rows = ⊥
-IsWrongFrame (Damaged part.Version) header rows = ⊥
-IsWrongFrame (Damaged part.Check) header rows = ⊥
+abbrev pub IsRefused : FrameError → Header → List (Row ℕ ℕ) → Type 0
+IsRefused Memory header rows = Unit {0}
+IsRefused (Damaged part.Header) header rows = (generation : ℕ) (marks : List Mark) → IsFrameOf header rows generation marks → ⊥
+IsRefused (Damaged part.Rows) header rows = (generation : ℕ) (marks : List Mark) → IsFrameOf header rows generation marks → ⊥
+IsRefused (Damaged part.Length) header rows = ⊥
+IsRefused (Damaged part.Magic) header rows = ⊥
+IsRefused (Damaged part.Version) header rows = ⊥
+IsRefused (Damaged part.Check) header rows = ⊥
 
 -- all around the content is right, and the content is no manifest's
 abbrev pub HasOtherContent : List ℕ → Type 0

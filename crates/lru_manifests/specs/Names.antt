@@ -17,6 +17,12 @@ IsPart (Frame generation shard) = (generation < 2 ^ 64) × (shard < 2 ^ 64)
 IsPart (Manifest generation) = generation < 2 ^ 64
 IsPart (Temp generation) = generation < 2 ^ 64
 
+-- the number of the checkpoint that a part is of
+abbrev pub generation_of : PartName → ℕ
+generation_of (Frame generation shard) = generation
+generation_of (Manifest generation) = generation
+generation_of (Temp generation) = generation
+
 -- no byte is a dot
 abbrev pub LacksDot : List ℕ → Type 0
 LacksDot bytes = AllByRecursion (λ byte. byte ≢ 46) bytes

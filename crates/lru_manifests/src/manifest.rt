@@ -1,16 +1,16 @@
 //! The manifest of a checkpoint: which generation is whole, and which frames it has.
 //!
 //! A checkpoint of N shards has N + 1 parts. Those below N are the frames of its shards, and part N is the
-//! manifest: a frame with a row for each shard, which has the number of rows, the check and the length of the
-//! shard's frame. So a manifest is no shard's frame, it has no more shards than its bytes have rows, and what is
-//! told of frames that are changed, cut short or longer is told of manifests too.
+//! manifest: a frame with one row for each shard, which has the number of rows, the check and the length of the
+//! shard's frame. So a manifest is no shard's frame, it tells no more shards than it has rows, and what is told
+//! of frames that are changed, cut short or longer is told of manifests too.
 ghost use Rattle.std.specs.Prelude.{◌≡◌, ◌≢◌, ◌<◌, ◌^◌, ◌++◌, ℕ, suc, List, [], length, map, IfOk, IfErr, IsErrAnd, MatchResult, Err};
 ghost use Rattle.lru_frames.specs.declared.errors.FrameError.TheVariants.{Damaged, Memory};
 ghost use Rattle.lru_frames.specs.declared.errors.Part.TheVariants.{Length};
 ghost use Rattle.lru_frames.specs.declared.mark.Mark.{Mark};
-ghost use Rattle.lru_frames.specs.Envelope.{ChangesOneByte};
+ghost use Rattle.lru_frames.specs.Envelope.{ChangesWithinEight};
 ghost use Rattle.lru_frames.specs.Frame.{IsDamaged};
-ghost use Rattle.lru_manifests.specs.Manifests.{IsFrameOf, IsWrongFrame, IsManifest, IsWrongManifest, part_header, manifest_bytes, mark_row, row_mark};
+ghost use Rattle.lru_manifests.specs.Manifests.{IsFrameOf, IsRefused, IsManifest, IsWrongManifest, part_header, manifest_bytes, mark_row, row_mark};
 
 use lru_frames::errors::{FrameError, Part};
 use lru_frames::frame::{Frame, Header, decode, encode};
@@ -78,7 +78,7 @@ pub fn encode_manifest(alloc: Global, manifest: &Manifest) -> Result<Vec<u8>, Al
 // The manifest that this frame is.
 fn manifest_in(alloc: Global, frame: Frame<u64, u64>) -> Result<Manifest, FrameError>
     ensures found { IfOk result (λ manifest. IsFrameOf frame.header frame.rows.items manifest.generation manifest.frames.items) }
-    ensures wrong { IfErr result (λ error. IsWrongFrame error frame.header frame.rows.items) }
+    ensures wrong { IfErr result (λ error. IsRefused error frame.header frame.rows.items) }
 {
     let header = frame.header;
     if header.shard.checked_add(1) != Some(header.shards) {
@@ -98,8 +98,8 @@ fn manifest_in(alloc: Global, frame: Frame<u64, u64>) -> Result<Manifest, FrameE
 
 /// The manifest whose bytes these are, read whole or refused as `lru_frames::frame::decode` refuses a frame.
 ///
-/// `Damaged(Rows)` is also told of a frame with more rows or fewer than the manifest has of such a checkpoint,
-/// and `Damaged(Header)` of one that is not the last part.
+/// `Damaged(Header)` is also told of a frame that is not the last part, and `Damaged(Rows)` of a last part that
+/// has not one row for each shard.
 pub fn decode_manifest(alloc: Global, bytes: &[u8]) -> Result<Manifest, FrameError>
     // What is read is what these bytes are written for.
     ensures found { IfOk result (λ manifest. IsManifest manifest.generation manifest.frames.items
@@ -112,8 +112,8 @@ pub fn decode_manifest(alloc: Global, bytes: &[u8]) -> Result<Manifest, FrameErr
     // An error tells what is wrong with the bytes, or that memory ran out.
     ensures wrong { IfErr result (λ error. IsWrongManifest error bytes.now) }
 
-    // What was written and then changed in one byte is damaged.
-    ensures one_byte { (generation : ℕ) (marks : List Mark) → ChangesOneByte (manifest_bytes generation marks) bytes.now → IsErrAnd result IsDamaged }
+    // What was written and then changed anywhere within 8 bytes side by side is damaged.
+    ensures changed { (generation : ℕ) (marks : List Mark) → ChangesWithinEight (manifest_bytes generation marks) bytes.now → IsErrAnd result IsDamaged }
 
     // A beginning of what was written is told by its length, and so is what has bytes behind it.
     ensures cut { (generation : ℕ) (marks : List Mark) (rest : List ℕ) → length (manifest_bytes generation marks) < 2 ^ 64

@@ -6,7 +6,7 @@
 ghost use Rattle.std.specs.Prelude.{◌≡◌, ◌≢◌, ◌<◌, ◌^◌, ◌∷◌, ◌++◌, ℕ, List, IfOk, MatchOption, string_bytes};
 ghost use Rattle.std.specs.Fmt.{decimal};
 ghost use Rattle.lru_manifests.specs.declared.names.PartName.{PartName};
-ghost use Rattle.lru_manifests.specs.Names.{IsPart, LacksDot, frame_path, manifest_path, manifest_temp_path, part_text};
+ghost use Rattle.lru_manifests.specs.Names.{IsPart, LacksDot, frame_path, generation_of, manifest_path, manifest_temp_path, part_text};
 
 use lru_folder::names::{path_of, shard_name, shard_path};
 use std::alloc::{AllocError, Global};
@@ -31,6 +31,19 @@ pub enum PartName {
         /// The number of the checkpoint.
         generation: u64,
     },
+}
+
+impl PartName {
+    /// The number of the checkpoint that the part is of.
+    pub fn generation(&self) -> u64
+        ensures { result ≡ generation_of self.now }
+    {
+        match self {
+            PartName::Frame { generation, .. } => *generation,
+            PartName::Manifest { generation } => *generation,
+            PartName::Temp { generation } => *generation,
+        }
+    }
 }
 
 /// The path of the file of a shard of this generation.

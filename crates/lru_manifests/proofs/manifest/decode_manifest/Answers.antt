@@ -9,8 +9,8 @@ returns-in-Err-clause-written c = refused c.in-Err.error c.args.bytes.now c.in-E
 pub returns-in-Err-clause-wrong : goal.returns-in-Err-clause-wrong
 returns-in-Err-clause-wrong c = wrong_so c.in-Err.error c.args.bytes.now c.in-Err.ensures.written c.in-Err.ensures.wrong
 
-pub returns-in-Err-clause-one_byte : goal.returns-in-Err-clause-one_byte
-returns-in-Err-clause-one_byte c generation marks change = c.in-Err.ensures.one_byte (header_of generation marks) (map mark_row marks) change
+pub returns-in-Err-clause-changed : goal.returns-in-Err-clause-changed
+returns-in-Err-clause-changed c generation marks change = c.in-Err.ensures.changed (header_of generation marks) (map mark_row marks) change
 
 pub returns-in-Err-clause-cut : goal.returns-in-Err-clause-cut
 returns-in-Err-clause-cut c generation marks rest small some h =
@@ -29,8 +29,8 @@ returns-in-Ok-clause-written c = written_so c.in-Ok.frame c.args.bytes.now c.in-
 pub returns-in-Ok-clause-wrong : goal.returns-in-Ok-clause-wrong
 returns-in-Ok-clause-wrong c = wrong_result c.in-Ok.frame c.args.bytes.now c.in-Ok.ensures.written c.in-Ok.ensures.found c.manifest_in.result c.manifest_in.ensures.wrong
 
-pub returns-in-Ok-clause-one_byte : goal.returns-in-Ok-clause-one_byte
-returns-in-Ok-clause-one_byte c generation marks change = absurd (c.in-Ok.ensures.one_byte (header_of generation marks) (map mark_row marks) change)
+pub returns-in-Ok-clause-changed : goal.returns-in-Ok-clause-changed
+returns-in-Ok-clause-changed c generation marks change = absurd (c.in-Ok.ensures.changed (header_of generation marks) (map mark_row marks) change)
 
 pub returns-in-Ok-clause-cut : goal.returns-in-Ok-clause-cut
 returns-in-Ok-clause-cut c generation marks rest small some h =
