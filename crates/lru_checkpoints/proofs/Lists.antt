@@ -1,5 +1,6 @@
 -- Items of lists by their number, and what follows of answers.
-use Rattle.std.proofs.Common.{◌≡◌, ◌⊎◌, inl, inr, ⊎_elim, ℕ, zero, suc, ◌<◌, List, [], ◌∷◌, ◌++◌, length, Some, slice_get, Result, Ok, Err, refl, sym, ap, subst, arith}
+use Rattle.std.proofs.Common.{◌≡◌, ◌⊎◌, inl, inr, ⊎_elim, ℕ, zero, suc, ◌<◌, List, [], ◌∷◌, ◌++◌, length, Some, slice_get, get_or, Result, Ok, Err, refl, sym, ◌∙◌, ap, subst, arith}
+use Rattle.std.proofs.lemmas.Option.{get_or_from_slice_get}
 use Rattle.std.specs.Prelude.{OnOk}
 
 module _ {A : Type 0} where
@@ -31,6 +32,10 @@ module _ {A : Type 0} where
   get-there [] i below = absurd (omega (arith, below))
   get-there (x ∷ xs) zero below = (x, refl)
   get-there (x ∷ xs) (suc i) below = get-there xs i (omega (arith, below))
+
+  -- what stands at a number below the length is the item
+  pub index_is : (xs : List A) (i : ℕ) (x : A) → i < length xs → x ≡ get_or xs i x → slice_get xs i ≡ Some x
+  index_is xs i x below h = let item = get-there xs i below in item.1 ∙ ap Some (sym (h ∙ get_or_from_slice_get xs i item.0 x item.1))
 
   -- what holds of each item holds of one more
   pub each-push : (P : ℕ → A → Type 0) (xs : List A) (x : A) → ((i : ℕ) (y : A) → slice_get xs i ≡ Some y → P i y) → P (length xs) x → (i : ℕ) (y : A) → slice_get (xs ++ x ∷ []) i ≡ Some y → P i y

@@ -13,6 +13,11 @@ use Rattle.lru_frames.proofs.EnvelopeLaws.{one_content}
 use Rattle.lru_frames.proofs.FrameLaws.{one_frame}
 use Rattle.lru_manifests.specs.Manifests.{part_header}
 use Rattle.lru_manifests.specs.Names.{frame_path}
+use Rattle.std.specs.Prelude.{Vec}
+use Rattle.std.specs.declared.alloc.Global.{Global}
+use Rattle.lru_whole_files.specs.declared.reading.Found.{Found}
+use Rattle.lru_whole_files.specs.declared.reading.Found.TheVariants.{Bytes, TooLong}
+use Rattle.lru_whole_files.specs.Reading.{IsFound}
 use Rattle.lru_whole_files.specs.Touching.{HasReason}
 use Rattle.lru_frames.specs.declared.errors.FrameError.{FrameError}
 use Rattle.lru_frames.specs.declared.errors.FrameError.TheVariants as frame
@@ -65,6 +70,19 @@ module _ {F : Type 0} (meaning : Meaning F) (IsDamage : Part → List ℕ → Ty
 -- bytes are refused without blame where memory ran out alone
 pub fault_so : (at : CheckpointFile) (error : FrameError) (e : CheckpointError) → e ≡ refused at error → error ≡ frame.Memory → IsFault e
 fault_so at error e is memory = subst IsFault (sym (is ∙ ap (refused at) memory)) tt
+
+-- what was found at a path is what stands there
+pub held : (most : ℕ) (found : Found) (bytes : Vec ℕ Global) (p path : List ℕ) (files : Files) → found ≡ Bytes bytes → IsFound most found (get files p) → p ≡ path → get files path ≡ Some bytes.items
+held most found bytes p path files is h at = ap (get files) (sym at) ∙ (subst (λ (f : Found). IsFound most f (get files p)) is h).0
+
+pub too_long : (most : ℕ) (found : Found) (p path : List ℕ) (files : Files) → found ≡ TooLong → IsFound most found (get files p) → p ≡ path → (bytes : List ℕ) × ((get files path ≡ Some bytes) × (most < length bytes))
+too_long most found p path files is h at =
+    let there = subst (λ (f : Found). IsFound most f (get files p)) is h in
+    (there.0, (ap (get files) (sym at) ∙ there.1.0, there.1.1))
+
+-- one path has one file
+pub one_file : (a b : List ℕ) (file : Option (List ℕ)) → file ≡ Some a → file ≡ Some b → a ≡ b
+one_file a b file p q = let same : ◌≡◌ {A = Option (List ℕ)} (Some a) (Some b) = sym p ∙ q in cc
 
 -- the bytes that were read at a path are those that stand there
 pub bytes_so : (shown bytes p path other : List ℕ) (files : Files) → shown ≡ bytes → get files p ≡ Some bytes → p ≡ path → get files path ≡ Some other → shown ≡ other

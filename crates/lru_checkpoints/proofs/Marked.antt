@@ -1,5 +1,9 @@
 -- Frames and the marks that a manifest keeps of them.
-use Rattle.std.proofs.Common.{◌≡◌, ℕ, ◌+◌, suc, ◌<◌, ◌≤◌, ◌^◌, List, ◌++◌, length, refl, sym, ◌∙◌, ap, subst, arith}
+use Rattle.std.proofs.Common.{◌≡◌, ℕ, ◌+◌, ◌*◌, suc, ◌<◌, ◌≤◌, ◌^◌, List, [], ◌∷◌, ◌++◌, length, refl, sym, ◌∙◌, ap, subst, arith, length-append}
+use Rattle.std.specs.Prelude.{map}
+use Rattle.lru_frames.specs.Words.{word}
+use Rattle.lru_frames.specs.WordLaws.{length-word}
+use Rattle.lru_manifests.specs.Manifests.{mark_row, manifest_bytes, part_header}
 use Rattle.lru_frames.specs.declared.frame.Header.{Header}
 use Rattle.lru_frames.specs.declared.mark.Mark.{Mark}
 use Rattle.lru_frames.specs.declared.row.Row.{Row}
@@ -43,3 +47,37 @@ module _ {K V : Type 0} (key_bytes : K → List ℕ) (IsKey : K → Type 0) (dat
   -- and a whole one by its check
   pub frame_whole : (header : Header) (rows : List (Row K V)) → IsWholeFrame header (mark_of key_bytes data_bytes header rows) (frame_of key_bytes data_bytes header rows)
   frame_whole header rows = (flat_map (row_bytes key_bytes data_bytes) rows, (refl, refl))
+
+-- a manifest has 64 bytes, and 24 for each shard
+length-rows : (marks : List Mark) → length (flat_map (row_bytes word word) (map mark_row marks)) ≡ 24 * length marks
+length-rows [] = refl
+length-rows (m ∷ ms) =
+    let row = row_bytes word word (mark_row m) in
+    omega (
+      arith,
+      length-append row (flat_map (row_bytes word word) (map mark_row ms)),
+      length-append (word m.rows) (word m.check ++ word m.length),
+      length-append (word m.check) (word m.length),
+      length-word m.rows,
+      length-word m.check,
+      length-word m.length,
+      length-rows ms,
+    )
+
+length-header : (header : Header) (count : ℕ) → length (header_bytes header count) ≡ 32
+length-header h n = omega (
+  arith,
+  length-append (word h.shards) (word h.shard ++ (word h.generation ++ word n)),
+  length-append (word h.shard) (word h.generation ++ word n),
+  length-append (word h.generation) (word n),
+  length-word h.shards,
+  length-word h.shard,
+  length-word h.generation,
+  length-word n,
+)
+
+pub manifest_length : (generation : ℕ) (marks : List Mark) → length (manifest_bytes generation marks) ≡ 64 + 24 * length marks
+manifest_length generation marks =
+    let header = part_header generation (length marks) (length marks) in
+    let rows = map mark_row marks in
+    omega (arith, length-sealed (content_of word word header rows), length-append (header_bytes header (length rows)) (flat_map (row_bytes word word) rows), length-header header (length rows), length-rows marks)

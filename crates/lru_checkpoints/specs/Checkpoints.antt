@@ -12,9 +12,8 @@ use Rattle.lru_frames.specs.Envelope.{sealed}
 use Rattle.lru_frames.specs.Frame.{frame_of, header_bytes, Fits}
 use Rattle.lru_frames.specs.Marks.{mark_in, mark_of}
 use Rattle.lru_manifests.specs.declared.names.PartName.{PartName}
-use Rattle.lru_manifests.specs.declared.names.PartName.TheVariants as part
 use Rattle.lru_manifests.specs.Manifests.{IsManifest, part_header, manifest_bytes}
-use Rattle.lru_manifests.specs.Names.{IsPart, part_path, frame_path, manifest_path}
+use Rattle.lru_manifests.specs.Names.{IsPart, generation_of, part_path, frame_path, manifest_path}
 
 -- the rows of each shard
 abbrev pub Shards : Type 0 → Type 0 → Type 0
@@ -23,12 +22,6 @@ Shards K V = List (List (Row K V))
 -- no checkpoint has more shards
 abbrev pub most_shards : ℕ
 most_shards = 2 ^ 20
-
--- the number of a part's generation
-abbrev pub generation_of : PartName → ℕ
-generation_of (part.Frame generation shard) = generation
-generation_of (part.Manifest generation) = generation
-generation_of (part.Temp generation) = generation
 
 -- the path of a shard's frame, and of any file of a generation
 abbrev pub IsFrame : List ℕ → List ℕ → ℕ → List ℕ → Type 0

@@ -2,6 +2,7 @@
 ghost use Rattle.std.specs.Prelude.{◌≡◌, ◌≢◌, ◌↔◌, ◌<◌, ◌≤◌, ◌^◌, ℕ, suc, List, length, slice_get, IfErr, IfOk, OnOk, Some};
 ghost use Rattle.std.specs.FinMap.{get};
 ghost use Rattle.lru_frames.specs.declared.mark.Mark.{Mark};
+ghost use Rattle.lru_frames.specs.Frame.{IsHeader};
 ghost use Rattle.lru_manifests.specs.Manifests.{IsManifest, part_header};
 ghost use Rattle.lru_manifests.specs.Names.{frame_path};
 ghost use Rattle.lru_whole_files.specs.Touching.{TouchesNothing};
@@ -30,6 +31,8 @@ fn check_frame<F: Folder>(
 ) -> Result<(), CheckpointError>
     ensures found { F.meaning.keeps folder.old → OnOk result ((bytes : List ℕ)
         × ((get (F.meaning.files folder.old) (frame_path dir.now file_name.now header.generation header.shard) ≡ Some bytes) × IsWholeFrame header mark bytes)) }
+    ensures whole { F.meaning.keeps folder.old → (bytes : List ℕ) → get (F.meaning.files folder.old) (frame_path dir.now file_name.now header.generation header.shard) ≡ Some bytes
+        → IsWholeFrame header mark bytes → IsHeader header → IfErr result IsFault }
     ensures refused { F.meaning.keeps folder.old → IfErr result (IsRefusedByCheck F.meaning dir.now file_name.now header mark folder.old folder.new) }
     ensures touches { F.meaning.keeps folder.old → TouchesNothing F.meaning folder.old folder.new }
     ensures files { F.meaning.keeps folder.old → F.meaning.files folder.new ≡ F.meaning.files folder.old }
@@ -72,6 +75,9 @@ fn check_frames<F: Folder>(
     ensures found { F.meaning.keeps folder.old → OnOk result ((shard : ℕ) (mark : Mark) → slice_get manifest.now.frames.items shard ≡ Some mark
         → (bytes : List ℕ) × ((get (F.meaning.files folder.old) (frame_path dir.now file_name.now manifest.now.generation shard) ≡ Some bytes)
         × IsWholeFrame (part_header manifest.now.generation (length manifest.now.frames.items) shard) mark bytes)) }
+    ensures whole { F.meaning.keeps folder.old → manifest.now.generation < 2 ^ 64 → ((shard : ℕ) (mark : Mark) → slice_get manifest.now.frames.items shard ≡ Some mark
+        → (bytes : List ℕ) × ((get (F.meaning.files folder.old) (frame_path dir.now file_name.now manifest.now.generation shard) ≡ Some bytes)
+        × IsWholeFrame (part_header manifest.now.generation (length manifest.now.frames.items) shard) mark bytes)) → IfErr result IsFault }
     ensures refused { F.meaning.keeps folder.old → IfErr result (λ error. (shard : ℕ) × ((mark : Mark) × ((slice_get manifest.now.frames.items shard ≡ Some mark)
         × IsRefusedByCheck F.meaning dir.now file_name.now (part_header manifest.now.generation (length manifest.now.frames.items) shard) mark folder.old folder.new error))) }
     ensures touches { F.meaning.keeps folder.old → TouchesNothing F.meaning folder.old folder.new }
@@ -83,7 +89,9 @@ fn check_frames<F: Folder>(
     for shard in 0..manifest.frames.len() {
         let header = manifest.part(shard as u64);
         let mark = manifest.frames[shard];
-        check_frame(alloc, folder, dir, file_name, header, mark)?;
+        if let Err(error) = check_frame(alloc, folder, dir, file_name, header, mark) {
+            return Err(error);
+        }
     }
     Ok(())
 }

@@ -149,5 +149,9 @@ pub fn load_generation<F: Folder, K: Stored, V: Stored>(
         Err(error) => return Err(error),
         Ok(manifest) => manifest,
     };
-    load_frames(alloc, folder, dir, file_name, &manifest)
+    let shards = match load_frames(alloc, folder, dir, file_name, &manifest) {
+        Err(error) => return Err(error),
+        Ok(shards) => shards,
+    };
+    Ok(shards)
 }
