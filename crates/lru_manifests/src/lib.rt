@@ -2,6 +2,6 @@
 #![tactic(auto)]
 
 pub mod laws;
-// pub mod listing;
+pub mod listing;
 pub mod manifest;
 pub mod names;
