@@ -1,3 +1,5 @@
 pub mod NameLaws
 pub mod NumberLaws
 pub mod ManifestLaws
+pub mod Members
+pub mod ListingLaws
