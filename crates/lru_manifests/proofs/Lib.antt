@@ -3,3 +3,4 @@ pub mod NumberLaws
 pub mod ManifestLaws
 pub mod Members
 pub mod ListingLaws
+pub mod FolderLaws

@@ -1,5 +1,5 @@
 -- The files of a checkpoint that stand in a folder.
-use Rattle.std.specs.Prelude.{◌≡◌, ◌↔◌, ◌⊎◌, ◌<◌, ◌≤◌, ℕ, List, Some, Contains}
+use Rattle.std.specs.Prelude.{◌≡◌, ◌↔◌, ◌⊎◌, ◌<◌, ℕ, List, Some, Contains}
 use Rattle.std.specs.FinMap.{get}
 use Rattle.lru_folder.specs.Files.{Files}
 use Rattle.lru_whole_files.specs.declared.errors.ReadError.{ReadError}

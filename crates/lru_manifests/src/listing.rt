@@ -107,6 +107,16 @@ fn has_manifest(parts: &[PartName], generation: u64) -> bool
     parts.contains(&PartName::Manifest { generation })
 }
 
+// Whether no manifest tells of the part.
+fn is_leftover(parts: &[PartName], part: PartName) -> bool
+    ensures { IsTrue result ↔ IsLeftover parts.now part }
+{
+    match part {
+        PartName::Temp { .. } => true,
+        _ => !has_manifest(parts, part.generation()),
+    }
+}
+
 /// The parts that no manifest tells of, in order: those of a generation without a manifest, and each file that a
 /// manifest was first written to.
 pub fn leftovers(alloc: Global, parts: &[PartName]) -> Result<Vec<PartName>, AllocError>
@@ -114,8 +124,7 @@ pub fn leftovers(alloc: Global, parts: &[PartName]) -> Result<Vec<PartName>, All
 {
     let mut left = Vec::new(alloc);
     for part in parts {
-        let is_temp = matches!(part, PartName::Temp { .. });
-        if is_temp || !has_manifest(parts, part.generation()) {
+        if is_leftover(parts, *part) {
             left.push(*part)?;
         }
     }

@@ -1,8 +1,4 @@
-use Rattle.std.proofs.Common.{◌≡◌, Some, refl, sym, ◌∙◌, ap}
-use Rattle.lru_folder.specs.declared.listed.Listed.{Listed}
-use Rattle.lru_folder.specs.Listings.{name_of}
-use Rattle.lru_manifests.specs.declared.names.PartName.{PartName}
-use Rattle.lru_manifests.specs.Names.{IsPart, part_text}
+use Rattle.std.proofs.Common.{refl, sym, ◌∙◌, get_or}
 use Rattle.lru_manifests.proofs.Members.{come_all, come_push_at, come_skip_at}
 use Rattle.lru_manifests.proofs.ListingLaws.{Names, named_part, one_part, listed_parts, no_part, no_name}
 use Rattle.lru_manifests.proofs.listing.parts_in.Goals as goal
@@ -14,19 +10,20 @@ loop-entry-preserved c =
     let xs = c.args.listed.now in
     let i = c.loop-entry.entry-index in
     let d = c.entry-item.result in
+    let E = get_or xs i d in
     elim c.match-entry.branch [
       | in-Name+in-Some+in_ok-push w ↦
           let named = sym c.entry-item.is ∙ w.in-Name.is in
-          let r = named_part c.args.file_name.now _ w.in-Name.name w.in-Some.part named w.in-Some.ensures.0 (sym w.as_str.ensures.value ∙ w.in-Some.ensures.1) in
+          let r = named_part c.args.file_name.now E w.in-Name.name w.in-Some.part named w.in-Some.ensures.0 (sym w.as_str.ensures.value ∙ w.in-Some.ensures.1) in
           rw w.parts-is (come_push_at R xs i d c.loop-entry-test.true c.loop-entry.parts.items w.push.new.self.items c.loop-entry.invariant
-          w.in-Some.part w.in_ok-push.ensures.items r (λ other s. one_part c.args.file_name.now _ w.in-Some.part other r s))
+          w.in-Some.part w.in_ok-push.ensures.items r (λ other s. one_part c.args.file_name.now E w.in-Some.part other r s))
       | in-Name+in_default-part_of w ↦
           let named = sym c.entry-item.is ∙ w.in-Name.is in
           rw w.parts-is (come_skip_at R xs i d c.loop-entry-test.true c.loop-entry.parts.items c.loop-entry.parts.items c.loop-entry.invariant refl
-          (no_part c.args.file_name.now _ w.in-Name.name named (λ part is h. w.in_default-part_of.ensures part is (w.as_str.ensures.value ∙ h))))
+          (no_part c.args.file_name.now E w.in-Name.name named (λ part is h. w.in_default-part_of.ensures part is (w.as_str.ensures.value ∙ h))))
       | in_default w ↦
           rw w.parts-is (come_skip_at R xs i d c.loop-entry-test.true c.loop-entry.parts.items c.loop-entry.parts.items c.loop-entry.invariant refl
-          (no_name c.args.file_name.now _ (λ name h. w.in_default.not-Name name (c.entry-item.is ∙ h))))
+          (no_name c.args.file_name.now E (λ name h. w.in_default.not-Name name (c.entry-item.is ∙ h))))
     ]
 
 pub returns : goal.returns
