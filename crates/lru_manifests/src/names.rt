@@ -94,7 +94,7 @@ fn number_in(text: &str) -> Option<u64>
     if bytes.len() > 1 && bytes[0] == b'0' {
         return None;
     }
-    if bytes.len() > 0 && bytes[0] == b'+' {
+    if !bytes.is_empty() && bytes[0] == b'+' {
         return None;
     }
     text.parse().ok()
