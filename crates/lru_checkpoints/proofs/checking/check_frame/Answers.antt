@@ -3,6 +3,7 @@ use Rattle.lru_frames.proofs.FrameLaws.{AreNarrow}
 use Rattle.lru_manifests.specs.Names.{frame_path}
 use Rattle.lru_whole_files.proofs.Touched.{touches_started}
 use Rattle.lru_checkpoints.specs.Checkpoints.{IsWholeFrame}
+use Rattle.lru_checkpoints.proofs.Lists.{never}
 use Rattle.lru_checkpoints.proofs.Loaded.{held, too_long, one_file}
 use Rattle.lru_checkpoints.proofs.Marked.{whole_length, whole_alike}
 use Rattle.lru_checkpoints.proofs.checking.check_frame.Goals as goal
@@ -64,7 +65,7 @@ returns-in-Err-inspect-clause-whole g c k those there whole is_header =
     let at = held _ c.in-Ok-Bytes.field-0 c.in-Ok-Bytes.bytes c.deref.result.now path files c.in-Ok-Bytes.field-0-is (c.in-Ok-Bytes.ensures.found k) (c.deref.ensures ∙ c.in-Ok.ensures) in
     let given : bytes ≡ those = one_file bytes those _ at there in
     let shown = subst (λ (b : List ℕ). IsWholeFrame header c.args.mark b) (sym given) whole in
-    (c.in-Err-inspect.ensures.written header c.args.mark.rows shown.0 is_header (search rules) (c.deref-2.ensures.value ∙ shown.1.0)).1
+    never (c.in-Err-inspect.ensures.written header c.args.mark.rows shown.0 is_header (search rules) (c.deref-2.ensures.value ∙ shown.1.0)).1
 
 pub returns-then-ne-clause-whole : goal.returns-then-ne-clause-whole
 returns-then-ne-clause-whole g c k those there whole is_header =
