@@ -36,7 +36,7 @@ pub(crate) fn pass_over(
 ) -> Result<(), CheckpointError>
     ensures passed { OnOk result (passed.new.items ≡ passed.old.items ++ record { generation = generation; error = error } ∷ []) }
     ensures unblamed { OnOk result (¬ IsFault error) }
-    ensures told { IfErr result (λ e. IsFault e × ((e ≡ error) ⊎ (e ≡ CheckpointError.Memory))) }
+    ensures told { IfErr result (λ e. ((e ≡ error) × IsFault error) ⊎ ((e ≡ CheckpointError.Memory) × (¬ IsFault error))) }
 {
     if error.is_fault() {
         return Err(error);
