@@ -1,5 +1,5 @@
 -- Generations that are tried one after the other, the highest first.
-use Rattle.std.proofs.Common.{◌≡◌, ◌⊎◌, inl, inr, ⊎_elim, ℕ, suc, ◌+◌, ◌<◌, ◌≤◌, List, [], ◌∷◌, ◌++◌, length, take, drop, get_or, Some, None, Result, Ok, Err, sym, ◌∙◌, ap, subst, arith}
+use Rattle.std.proofs.Common.{◌≡◌, inl, inr, ⊎_elim, ℕ, suc, ◌+◌, ◌<◌, ◌≤◌, List, [], ◌∷◌, ◌++◌, length, take, drop, get_or, Some, None, Result, Ok, Err, sym, ◌∙◌, ap, subst, arith}
 use Rattle.std.proofs.Math.Seq.{drop-cons}
 use Rattle.std.proofs.lemmas.Bool.{cases_lt}
 use Rattle.std.proofs.lemmas.List.{get_or_default, map-append, take-append-drop, take_all, take_more}
@@ -57,7 +57,7 @@ pub front_at : (numbers : List ℕ) (i : ℕ) (front : List ℕ) (n : ℕ) → i
 front_at numbers i front n within is at = (
   drop (suc i) numbers,
   sym (take-append-drop i numbers) ∙ ap (λ (l : List ℕ). take i numbers ++ l) (drop-cons numbers i 0 within)
-  ∙ ap (λ (m : ℕ). take i numbers ++ m ∷ drop (suc i) numbers) (sym at) ∙ ap (λ (l : List ℕ). l ++ n ∷ drop (suc i) numbers) (sym is),
+      ∙ ap (λ (m : ℕ). take i numbers ++ m ∷ drop (suc i) numbers) (sym at) ∙ ap (λ (l : List ℕ). l ++ n ∷ drop (suc i) numbers) (sym is),
 )
 
 pub front_all : (numbers : List ℕ) (i : ℕ) (front : List ℕ) → length numbers ≤ i → front ≡ take i numbers → IsFront numbers None front

@@ -6,9 +6,8 @@ use Rattle.lru_manifests.specs.declared.names.PartName.{PartName}
 use Rattle.lru_manifests.specs.Listing.{HasParts}
 use Rattle.lru_whole_files.proofs.Touched.{touches_then}
 use Rattle.lru_checkpoints.specs.Checkpoints.{Shards, HasCheckpoint}
-use Rattle.lru_checkpoints.specs.Loads.{IsRefused, IsRefusedFrame}
-use Rattle.lru_generations.specs.Loaded.{IsLoaded, IsReadable, IsSameCheckpoint, number_of}
-use Rattle.lru_generations.specs.Newest.{AreGenerations, ArePassed, HasAllManifests}
+use Rattle.lru_generations.specs.Loaded.{IsLoaded, IsReadable, IsSameCheckpoint}
+use Rattle.lru_generations.specs.Newest.{AreGenerations, HasAllManifests}
 use Rattle.lru_generations.proofs.Passing.{generations_so, if_ok}
 use Rattle.lru_generations.proofs.Refusals.{frame_again}
 use Rattle.lru_generations.proofs.loading.load.Goals as goal

@@ -1,11 +1,11 @@
-use Rattle.std.proofs.Common.{◌≡◌, ◌<◌, inl, inr, ℕ, List, [], ◌∷◌, ◌++◌, length, get_or, refl, sym, ◌∙◌, ap, subst, arith}
+use Rattle.std.proofs.Common.{◌≡◌, inl, inr, ℕ, List, [], ◌∷◌, ◌++◌, length, get_or, refl, sym, ◌∙◌, ap, subst, arith}
 use Rattle.std.proofs.lemmas.Bool.{cases_lt}
 use Rattle.std.specs.Prelude.{Contains}
 use Rattle.lru_folder.specs.Files.{Files}
 use Rattle.lru_folder.specs.Meaning.{Meaning}
 use Rattle.lru_manifests.specs.Manifests.{manifest_bytes}
 use Rattle.lru_whole_files.proofs.Touched.{touches_started, touches_then}
-use Rattle.lru_checkpoints.specs.Checkpoints.{Shards, HasCheckpoint}
+use Rattle.lru_checkpoints.specs.Checkpoints.{HasCheckpoint}
 use Rattle.lru_checkpoints.specs.Loads.{IsFault, IsRefused, IsRefusedFrame, rows_of}
 use Rattle.lru_generations.specs.declared.newest.Passed.{Passed}
 use Rattle.lru_generations.specs.Loaded.{IsReadable}
@@ -65,7 +65,7 @@ returns-in-Ok-clause-written g c k all generation shards h top =
     let k-1 = so_far.kept.0 k in
     let found = subst (λ (f : Files). HasCheckpoint K.bytes_of K.is_value V.bytes_of V.is_value dir file_name n (rows_of c.in-Ok.shards.items) f) (so_far.files k) (c.in-Ok.ensures.found k-1) in
     let higher = none_higher (IsReadable K.bytes_of K.is_value V.bytes_of V.is_value dir file_name files) numbers (among K.bytes_of K.is_value V.bytes_of V.is_value dir file_name files numbers all)
-        c.requires.falling i c.loop-generation-test.true (so_far.none k) in
+    c.requires.falling i c.loop-generation-test.true (so_far.none k) in
     let same : n ≡ generation = elim (cases_lt n generation) [
       | inl lt ↦ absurd (higher generation lt (shards, h))
       | inr le ↦ elim (cases_lt generation n) [

@@ -1,4 +1,4 @@
-use Rattle.std.proofs.Common.{rules, ◌≡◌, ◌<◌, inl, inr, ℕ, List, None, get_or, length, refl, ◌∙◌, ap, subst, arith}
+use Rattle.std.proofs.Common.{rules, ◌≡◌, inl, inr, ℕ, List, None, get_or, refl, ◌∙◌, ap, subst, arith}
 use Rattle.std.specs.FinMap.{get}
 use Rattle.std.proofs.lemmas.Bool.{cases_lt}
 use Rattle.std.proofs.lemmas.List.{get_or_default}
@@ -9,7 +9,7 @@ use Rattle.lru_manifests.specs.declared.names.PartName.{PartName}
 use Rattle.lru_manifests.specs.declared.names.PartName.TheVariants.{Frame}
 use Rattle.lru_manifests.specs.Names.{part_path}
 use Rattle.lru_whole_files.proofs.Touched.{touches_started, touches_then, touches_more}
-use Rattle.lru_generations.specs.Removing.{IsPathOf, NamesOnly}
+use Rattle.lru_generations.specs.Removing.{IsPathOf}
 use Rattle.lru_generations.proofs.removing.remove_parts.Goals as goal
 
 pub loop-part-init : goal.loop-part-init
