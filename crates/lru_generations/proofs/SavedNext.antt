@@ -135,9 +135,9 @@ module _ {K V : Type 0} (key_bytes : K → List ℕ) (IsKey : K → Type 0) (dat
 
     -- no file of the new generation is there
     pub unused : IsUnused dir file_name found generation
-    unused part is high = none_or (get found (path_of part)) (λ bytes there.
-    let within = survey.above part (is_among part is bytes there) in
-    omega (arith, within, high))
+    unused part is high =
+        let no : (bytes : List ℕ) → get found (path_of part) ≡ Some bytes → ⊥ = λ bytes there. let within = survey.above part (is_among part is bytes there) in omega (arith, within, high) in
+        none_or (get found (path_of part)) no
 
     named_manifest : (was : Files) → AreNamed dir found was → (g : ℕ) → g < 2 ^ 64 → (bytes : List ℕ) → get was (manifest_path dir file_name g) ≡ Some bytes → Contains parts (Manifest g)
     named_manifest was names g small bytes there =
