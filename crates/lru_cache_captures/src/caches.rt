@@ -5,12 +5,16 @@ ghost use Rattle.lru_copies.specs.Copies.{AreEach, IsEntryCopy};
 ghost use Rattle.lru_cache_captures.specs.Captures.{PutsEntries, PutsOrLeaves};
 
 use lru_cache::cache::{Cache, Cause, Refused};
+use lru_frames::frame::Header;
+use lru_frames::mark::Mark;
+use lru_frames::marked::encode_marked;
 use lru_frames::row::Row;
+use lru_frames::source::Source;
+use lru_frames::stored::Stored;
 use std::alloc::{AllocError, Global};
 use std::hash::{BuildHasher, Hash};
 
-/// Copies of the entries, most recent first, with clones of their keys and values: the one shard that a checkpoint is saved
-/// of.
+/// Copies of the entries, most recent first, with clones of their keys and values.
 pub fn capture_cache<K: Hash + Clone + Drop, V: Clone + Drop, S: BuildHasher>(
     alloc: Global,
     cache: &Cache<K, V, S>,
@@ -24,6 +28,31 @@ pub fn capture_cache<K: Hash + Clone + Drop, V: Clone + Drop, S: BuildHasher>(
         rows.push(Row { key, data, weight })?;
     }
     Ok(rows)
+}
+
+/// A cache of which a checkpoint is saved: the one shard of it. Its entries are copied when they are asked for.
+pub struct CacheSource<'a, K: Hash, V> {
+    /// The cache.
+    pub cache: &'a Cache<K, V>,
+}
+
+impl<'a, K: Hash + Clone + Stored, V: Clone + Stored> Source<K, V> for CacheSource<'a, K, V> {
+    ghost use Rattle.std.specs.Prelude.{map};
+    ghost use Rattle.lru_cache.specs.Cache.{parts_of};
+    ghost use Rattle.lru_copies.specs.Copies.{AreEach, IsEntryCopy};
+
+    ghost count = { λ source. 1 };
+
+    ghost hands_out = { λ source shard rows. AreEach (IsEntryCopy K.is_clone V.is_clone) (map parts_of source.cache.now.entries) rows };
+
+    fn shards(&self) -> usize {
+        1
+    }
+
+    fn frame(&self, alloc: Global, header: Header) -> Result<(Vec<u8>, Mark), AllocError> {
+        let rows = capture_cache(alloc, self.cache)?;
+        encode_marked(alloc, header, &rows)
+    }
 }
 
 // Puts an entry, unless it is too heavy by itself; whether it is.

@@ -53,6 +53,13 @@ impl<T, const N: usize> Locked<T, N> {
         unit
     }
 
+    // The shard itself.
+    pub(crate) fn unit(&self) -> &LruUnit<T>
+        ensures { result.now ≡ self.now.unit }
+    {
+        &self.unit
+    }
+
     pub(crate) fn totals(&self) -> Totals
         ensures weight { result.weight ≡ weight_of self.now.unit.rows }
         ensures len { result.len ≡ length self.now.unit.rows }

@@ -134,6 +134,19 @@ impl Counters {
     }
 }
 
+/// A shard under its lock, which is held as long as this is there.
+#[derive(Drop)]
+pub struct LockedShard<'a, T, const N: usize> {
+    locked: MutexGuard<'a, Locked<T, N>>,
+}
+
+impl<'a, T, const N: usize> LockedShard<'a, T, N> {
+    /// The rows of the shard, as they are while the lock is held.
+    pub fn unit(&'a self) -> &'a LruUnit<T> {
+        self.locked.unit()
+    }
+}
+
 /// N shards, each a list of rows, most recent first, behind a lock. A key's shard is the key modulo N.
 ///
 /// It answers, refuses and takes memory as an `LruCore` does, for many threads at once: a call on a key takes the lock
@@ -255,6 +268,16 @@ impl<T, const N: usize> Lru<T, N> {
         requires visit { F.IsAlwaysCallable visit }
     {
         self.units[shard].lock.lock(rt).visit(visit);
+    }
+
+    /// Takes the lock of a shard, and holds it as long as what it answers is there. Meanwhile a call that waits for the same
+    /// shard has to come from another thread.
+    pub fn lock_shard(&self, rt: &impl Wait, shard: usize) -> LockedShard<'_, T, N>
+        requires { shard < N }
+    {
+        LockedShard {
+            locked: self.units[shard].lock.lock(rt),
+        }
     }
 
     /// Whether a key has a row.
@@ -394,7 +417,7 @@ impl<T, const N: usize> Lru<T, N> {
 
 impl<T: Drop, const N: usize> Lru<T, N> {
     ghost use Rattle.lru_batches.specs.Batches.{AreAnswered};
-    ghost use Rattle.lru_locks.specs.LruCalls.{HandsBack, MayAnswer, IsAskedOf};
+    ghost use Rattle.lru_locks.specs.LruCalls.{HandsBack, MayAnswer, MayInsertTail, IsAskedOf};
     ghost use Rattle.lru_locks.specs.Sheds.{VisitsLight};
 
     /// As `LruCore::admit`: puts a row first in the shard of its key, and answers that shard.
@@ -452,7 +475,8 @@ impl<T: Drop, const N: usize> Lru<T, N> {
         data: T,
         weight: usize,
     ) -> Result<bool, Refused<T>>
-        ensures { IfErr result (λ refused. refused.held ≡ «data») }
+        ensures held { IfErr result (λ refused. refused.held ≡ «data») }
+        ensures row { MayInsertTail N key «data» weight result }
     {
         let shard = self.shard_of(key);
         let mut unit = self.unit_at(rt, shard);
