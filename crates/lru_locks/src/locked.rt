@@ -3,6 +3,7 @@ ghost use Rattle.std.specs.Prelude.{◌≡◌, ℕ, ◌%◌, ◌<◌, ◌≤◌,
 ghost use Rattle.lru_rules.specs.Limits.{cap_of};
 ghost use Rattle.lru_rules.specs.Shards.{AreAtHome, IsOwn};
 
+use crate::look::Look;
 use crate::shed::{Room, shed};
 use lru_batches::{Admission, admit_each};
 use lru_rules::totals::Totals;
@@ -53,11 +54,10 @@ impl<T, const N: usize> Locked<T, N> {
         unit
     }
 
-    // The shard itself.
-    pub(crate) fn unit(&self) -> &LruUnit<T>
-        ensures { result.now ≡ self.now.unit }
+    pub(crate) fn look_at<A, L: Look<T, A>>(&self, look: L) -> A
+        ensures { L.tells look self.now.unit result }
     {
-        &self.unit
+        look.look_at(&self.unit)
     }
 
     pub(crate) fn totals(&self) -> Totals

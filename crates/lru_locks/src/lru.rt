@@ -5,6 +5,7 @@ ghost use Rattle.lru_rules.specs.Limits.{cap_of};
 ghost use Rattle.lru_rules.specs.Shards.{IsOwn, AreOwn};
 
 use crate::locked::Locked;
+use crate::look::Look;
 use crate::shed::Room;
 use crossbeam_utils::CachePadded;
 use lru_batches::Admission;
@@ -134,19 +135,6 @@ impl Counters {
     }
 }
 
-/// A shard under its lock, which is held as long as this is there.
-#[derive(Drop)]
-pub struct LockedShard<'a, T, const N: usize> {
-    locked: MutexGuard<'a, Locked<T, N>>,
-}
-
-impl<'a, T, const N: usize> LockedShard<'a, T, N> {
-    /// The rows of the shard, as they are while the lock is held.
-    pub fn unit(&'a self) -> &'a LruUnit<T> {
-        self.locked.unit()
-    }
-}
-
 /// N shards, each a list of rows, most recent first, behind a lock. A key's shard is the key modulo N.
 ///
 /// It answers, refuses and takes memory as an `LruCore` does, for many threads at once: a call on a key takes the lock
@@ -166,6 +154,8 @@ pub struct Lru<T, const N: usize> {
 }
 
 impl<T, const N: usize> Lru<T, N> {
+    ghost use Rattle.lru_locks.specs.LruCalls.{MaySee};
+
     /// An empty `Lru` with a limit on its weight. Each shard has room for `capacity` rows, and may weigh
     /// `usize::MAX / N`.
     pub fn with_capacity(
@@ -270,14 +260,13 @@ impl<T, const N: usize> Lru<T, N> {
         self.units[shard].lock.lock(rt).visit(visit);
     }
 
-    /// Takes the lock of a shard, and holds it as long as what it answers is there. Meanwhile a call that waits for the same
-    /// shard has to come from another thread.
-    pub fn lock_shard(&self, rt: &impl Wait, shard: usize) -> LockedShard<'_, T, N>
+    /// Looks at the rows of a shard under its lock, and answers what the look does. No row is used by that, and the look must
+    /// make no call that waits for the same shard.
+    pub fn look_at<A, L: Look<T, A>>(&self, rt: &impl Wait, shard: usize, look: L) -> A
         requires { shard < N }
+        ensures { MaySee N shard (L.tells look) result }
     {
-        LockedShard {
-            locked: self.units[shard].lock.lock(rt),
-        }
+        self.unit_at(rt, shard).look_at(look)
     }
 
     /// Whether a key has a row.

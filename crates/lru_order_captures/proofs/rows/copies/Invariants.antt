@@ -1,7 +1,7 @@
 use Rattle.std.proofs.Common.{◌≡◌, ℕ, List, ◌++◌, length}
 use Rattle.lru_copies.specs.Copies.{AreEach}
 use Rattle.lru_order_captures.specs.Captures.{IsCopy}
-use Rattle.lru_order_captures.proofs.cores.capture_shard.Given as goal
+use Rattle.lru_order_captures.proofs.rows.copies.Given as goal
 
 -- those before the rest were copied
 abbrev pub invariant-loop-pair : goal.invariant-loop-pair
