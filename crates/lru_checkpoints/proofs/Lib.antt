@@ -1,4 +1,4 @@
+pub mod Lists
 pub mod Saved
 pub mod Loaded
-pub mod Crashed
-pub mod Counted
+pub mod Marked

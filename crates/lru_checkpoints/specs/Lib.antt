@@ -2,5 +2,3 @@ pub mod Texts
 pub mod Checkpoints
 pub mod Causes
 pub mod Loads
-pub mod Crashes
-pub mod Generations

@@ -17,6 +17,8 @@ pub enum CheckpointFile {
     Manifest,
     /// The frame of this shard.
     Shard(u64),
+    /// No file, but the names in the folder: that they are listed or synced, or that the folder is claimed.
+    Names,
 }
 
 impl Display for CheckpointFile {
@@ -29,6 +31,7 @@ impl Display for CheckpointFile {
         match self {
             CheckpointFile::Manifest => f.write_str("manifest"),
             CheckpointFile::Shard(shard) => write!(f, "shard {shard}"),
+            CheckpointFile::Names => f.write_str("folder"),
         }
     }
 }
@@ -57,13 +60,15 @@ pub enum CheckpointError {
         /// Where the damage was found.
         part: Part,
     },
-    /// The file is whole, but is another part, or of another checkpoint.
+    /// The file may be whole, but is another part, of another checkpoint or of another save.
     Other {
         /// Which one.
         file: CheckpointFile,
     },
-    /// No generation is left after that of the manifest.
+    /// No number is left above those of the files in the folder.
     LastGeneration,
+    /// Another save is at work in the folder.
+    InUse,
 }
 
 impl CheckpointError {
@@ -79,6 +84,7 @@ impl CheckpointError {
             CheckpointError::Damaged { .. } => false,
             CheckpointError::Other { .. } => false,
             CheckpointError::LastGeneration => false,
+            CheckpointError::InUse => false,
         }
     }
 }
@@ -97,6 +103,7 @@ impl Display for CheckpointError {
             CheckpointError::Damaged { file, part } => write!(f, "{file}: damaged {part}"),
             CheckpointError::Other { file } => write!(f, "{file}: of another checkpoint"),
             CheckpointError::LastGeneration => f.write_str("no generation is left"),
+            CheckpointError::InUse => f.write_str("another save is at work in the folder"),
         }
     }
 }

@@ -1,20 +1,21 @@
-//! A checkpoint saved.
-ghost use Rattle.std.specs.Prelude.{◌≡◌, ◌↔◌, ◌<◌, ◌^◌, ℕ, suc, List, length, IfErr, OnOk, slice_get, Some, Vec};
-ghost use Rattle.std.specs.declared.alloc.Global.{Global};
+//! The parts of a checkpoint saved.
+ghost use Rattle.std.specs.Prelude.{◌≡◌, ◌↔◌, ◌<◌, ◌≤◌, ◌^◌, ℕ, suc, List, length, IfErr, IfOk, OnOk};
 ghost use Rattle.lru_folder.specs.Losses.{firmed};
 ghost use Rattle.lru_frames.specs.declared.row.Row.{Row};
 ghost use Rattle.lru_frames.specs.Frame.{frame_of, Fits};
+ghost use Rattle.lru_frames.specs.Marks.{mark_of};
 ghost use Rattle.lru_manifests.specs.Manifests.{IsManifest, part_header, manifest_bytes};
 ghost use Rattle.lru_manifests.specs.Names.{frame_path, manifest_path, manifest_temp_path};
 ghost use Rattle.lru_whole_files.specs.Touching.{IsWritten, TouchesOnly};
 ghost use Rattle.lru_whole_files.specs.Replacing.{IsReplaced, Replaces};
-ghost use Rattle.lru_checkpoints.specs.Checkpoints.{FitsEach, HasCheckpoint, HasFrames, IsFrame, AreFirm, SavesCheckpoint};
-ghost use Rattle.lru_checkpoints.specs.Causes.{HasSaveReason};
+ghost use Rattle.lru_checkpoints.specs.Checkpoints.{Shards, AreFirm, AreHandedOut, AreMarked, FitsEach, HasFrames, IsFrame, most_shards};
+ghost use Rattle.lru_checkpoints.specs.Causes.{HasSaveReason, IsUnnamed};
 
 use crate::errors::{CheckpointError, CheckpointFile};
 use lru_folder::folder::Folder;
-use lru_frames::frame::encode;
-use lru_frames::row::Row;
+use lru_frames::frame::Header;
+use lru_frames::mark::Mark;
+use lru_frames::source::Source;
 use lru_frames::stored::Stored;
 use lru_manifests::manifest::{Manifest, encode_manifest};
 use lru_manifests::names::{frame_path, manifest_path, manifest_temp_path};
@@ -22,37 +23,48 @@ use lru_whole_files::replacing::replace_file;
 use lru_whole_files::writing::write_file;
 use std::alloc::Global;
 
-// Writes the frame of one shard to its file.
-fn save_frame<F: Folder, K: Stored, V: Stored>(
+/// The most shards that a checkpoint may have.
+pub const MOST_SHARDS: usize = 1_048_576;
+
+// Writes the frame of one shard of so many to its file.
+fn save_frame<F: Folder, K: Stored, V: Stored, S: Source<K, V>>(
     alloc: Global,
     folder: &mut F,
     dir: &str,
     file_name: &str,
-    manifest: &Manifest,
+    generation: u64,
+    count: u64,
     shard: u64,
-    rows: &[Row<K, V>],
-) -> Result<(), CheckpointError>
-    requires shard { shard < manifest.now.shards }
-    requires shards { suc manifest.now.shards < 2 ^ 64 }
+    source: &S,
+) -> Result<Mark, CheckpointError>
+    requires shard { shard < count }
+    requires count { count ≡ S.count source.now }
+    requires few { count ≤ most_shards }
 
-    ensures written { F.meaning.keeps folder.old → OnOk result (IsWritten F.meaning
-        (frame_path dir.now file_name.now manifest.now.generation shard) (frame_of K.bytes_of V.bytes_of (part_header manifest.now shard) rows.now) folder.old folder.new) }
-    ensures fits { OnOk result (Fits K.is_value V.is_value (part_header manifest.now shard) rows.now) }
-    ensures touches { F.meaning.keeps folder.old → TouchesOnly F.meaning
-        (λ q. q ≡ frame_path dir.now file_name.now manifest.now.generation shard) folder.old folder.new }
-    ensures reason { F.meaning.keeps folder.old → IfErr result (HasSaveReason F.meaning dir.now file_name.now manifest.now.generation folder.old folder.new) }
+    ensures saved { IfOk result (λ mark. (rows : List (Row K V)) × (S.hands_out source.now shard rows × (Fits K.is_value V.is_value (part_header generation count shard) rows
+        × ((mark ≡ mark_of K.bytes_of V.bytes_of (part_header generation count shard) rows)
+        × (F.meaning.keeps folder.old → IsWritten F.meaning (frame_path dir.now file_name.now generation shard)
+        (frame_of K.bytes_of V.bytes_of (part_header generation count shard) rows) folder.old folder.new))))) }
+    ensures touches { F.meaning.keeps folder.old → TouchesOnly F.meaning (λ q. q ≡ frame_path dir.now file_name.now generation shard) folder.old folder.new }
+    ensures reason { F.meaning.keeps folder.old → IfErr result (HasSaveReason F.meaning dir.now file_name.now generation folder.old folder.new) }
     ensures faults { F.meaning.keeps folder.old → OnOk result (F.meaning.faults folder.new ≡ F.meaning.faults folder.old) }
     ensures places { F.meaning.keeps folder.old → F.meaning.folders folder.new ≡ F.meaning.folders folder.old }
     ensures kept { F.meaning.keeps folder.old ↔ F.meaning.keeps folder.new }
 {
-    let Ok(path) = frame_path(alloc, dir, file_name, manifest.generation, shard) else {
+    let Ok(path) = frame_path(alloc, dir, file_name, generation, shard) else {
         return Err(CheckpointError::Memory);
     };
-    let Ok(bytes) = encode(alloc, manifest.part(shard), rows) else {
+    let shards = count + 1;
+    let header = Header {
+        shards,
+        shard,
+        generation,
+    };
+    let Ok((bytes, mark)) = source.frame(alloc, header) else {
         return Err(CheckpointError::Memory);
     };
     match write_file(folder, &path, &bytes) {
-        Ok(()) => Ok(()),
+        Ok(()) => Ok(mark),
         Err(fault) => {
             let file = CheckpointFile::Shard(shard);
             Err(CheckpointError::Folder { file, fault })
@@ -60,39 +72,45 @@ fn save_frame<F: Folder, K: Stored, V: Stored>(
     }
 }
 
-/// Writes the frame of each shard to its file, and syncs it. At every moment no path but those of these frames changes.
+/// Writes the frame of each shard that the source hands out to its file, and syncs it, one after the other; their marks.
+/// At every moment no path but those of the frames of this generation changes.
 ///
-/// It is the first half of `save_generation`, for those who sync the folder's names before the manifest is replaced. Its
-/// errors are the same.
-pub fn save_frames<F: Folder, K: Stored, V: Stored>(
+/// `Memory`: no memory was found for a name or for bytes. `Folder`: a call failed on the file that is named. The other
+/// errors are never told.
+pub fn save_frames<F: Folder, K: Stored, V: Stored, S: Source<K, V>>(
     alloc: Global,
     folder: &mut F,
     dir: &str,
     file_name: &str,
-    manifest: &Manifest,
-    shards: &[Vec<Row<K, V>>],
-) -> Result<(), CheckpointError>
-    requires count { manifest.now.shards ≡ length shards.now }
-    requires shards { suc manifest.now.shards < 2 ^ 64 }
-    ensures frames { F.meaning.keeps folder.old → OnOk result (HasFrames K.bytes_of V.bytes_of
-        dir.now file_name.now manifest.now shards.now (F.meaning.files folder.new)) }
-    ensures firm { F.meaning.keeps folder.old → OnOk result (AreFirm dir.now file_name.now manifest.now (F.meaning.loose folder.new)) }
-    ensures fits { OnOk result (FitsEach K.is_value V.is_value manifest.now shards.now) }
-    ensures touches { F.meaning.keeps folder.old → TouchesOnly F.meaning (IsFrame dir.now file_name.now manifest.now) folder.old folder.new }
-    ensures reason { F.meaning.keeps folder.old → IfErr result (HasSaveReason F.meaning dir.now file_name.now manifest.now.generation folder.old folder.new) }
+    generation: u64,
+    source: &S,
+) -> Result<Vec<Mark>, CheckpointError>
+    requires { S.count source.now ≤ most_shards }
+    ensures saved { IfOk result (λ marks. (shards : Shards K V) × (AreHandedOut (S.hands_out source.now) (S.count source.now) shards
+        × (AreMarked K.bytes_of V.bytes_of generation (S.count source.now) shards marks.items × (FitsEach K.is_value V.is_value generation (S.count source.now) shards
+        × (F.meaning.keeps folder.old → HasFrames K.bytes_of V.bytes_of dir.now file_name.now generation (S.count source.now) shards (F.meaning.files folder.new)
+        × AreFirm dir.now file_name.now generation (S.count source.now) (F.meaning.loose folder.new)))))) }
+    ensures touches { F.meaning.keeps folder.old → TouchesOnly F.meaning (IsFrame dir.now file_name.now generation) folder.old folder.new }
+    ensures reason { F.meaning.keeps folder.old → IfErr result (HasSaveReason F.meaning dir.now file_name.now generation folder.old folder.new) }
     ensures faults { F.meaning.keeps folder.old → OnOk result (F.meaning.faults folder.new ≡ F.meaning.faults folder.old) }
     ensures places { F.meaning.keeps folder.old → F.meaning.folders folder.new ≡ F.meaning.folders folder.old }
     ensures kept { F.meaning.keeps folder.old ↔ F.meaning.keeps folder.new }
 {
-    for shard in 0..shards.len() {
-        let rows = &shards[shard];
-        save_frame(alloc, folder, dir, file_name, manifest, shard as u64, rows)?;
+    let count = source.shards() as u64;
+    let mut marks = Vec::new(alloc);
+    for shard in 0..count {
+        let mark = save_frame(
+            alloc, folder, dir, file_name, generation, count, shard, source,
+        )?;
+        let Ok(()) = marks.push(mark) else {
+            return Err(CheckpointError::Memory);
+        };
     }
-    Ok(())
+    Ok(marks)
 }
 
-/// Replaces the manifest by this one: the second half of `save_generation`. A stop or a loss of power at any moment leaves
-/// the manifest as it was, or this one, and with this one each file that was synced before.
+/// Replaces the manifest of its generation by this one. A stop or a loss of power at any moment leaves the manifest as it
+/// was, or this one, and with this one each file that was synced before.
 ///
 /// `Memory`: no memory was found for a name or for bytes. `Folder`: a call failed on the file that a manifest is first
 /// written to. After both the manifest is as it was, unless the call that failed is its renaming, which may have been done.
@@ -104,24 +122,28 @@ pub fn save_manifest<F: Folder>(
     file_name: &str,
     manifest: &Manifest,
 ) -> Result<(), CheckpointError>
-    requires shards { suc manifest.now.shards < 2 ^ 64 }
-    ensures done { F.meaning.keeps folder.old → OnOk result (IsReplaced
-        (manifest_temp_path dir.now file_name.now) (manifest_path dir.now file_name.now) (manifest_bytes manifest.now)
+    requires { suc (length manifest.now.frames.items) < 2 ^ 64 }
+    ensures done { F.meaning.keeps folder.old → OnOk result (IsReplaced (manifest_temp_path dir.now file_name.now manifest.now.generation)
+        (manifest_path dir.now file_name.now manifest.now.generation) (manifest_bytes manifest.now.generation manifest.now.frames.items)
         (F.meaning.files folder.old) (F.meaning.loose folder.old) (F.meaning.files folder.old) (F.meaning.files folder.new)) }
-    ensures fits { OnOk result (IsManifest manifest.now) }
-    ensures replaces { F.meaning.keeps folder.old → Replaces F.meaning
-        (manifest_temp_path dir.now file_name.now) (manifest_path dir.now file_name.now) (manifest_bytes manifest.now) folder.old folder.new }
+    ensures fits { OnOk result (IsManifest manifest.now.generation manifest.now.frames.items) }
+    ensures replaces { F.meaning.keeps folder.old → Replaces F.meaning (manifest_temp_path dir.now file_name.now manifest.now.generation)
+        (manifest_path dir.now file_name.now manifest.now.generation) (manifest_bytes manifest.now.generation manifest.now.frames.items) folder.old folder.new }
     ensures firm { F.meaning.keeps folder.old → OnOk result ((q : List ℕ) → F.meaning.loose folder.new q
-        → firmed (manifest_temp_path dir.now file_name.now) (firmed (manifest_path dir.now file_name.now) (F.meaning.loose folder.old)) q) }
+        → firmed (manifest_temp_path dir.now file_name.now manifest.now.generation) (firmed (manifest_path dir.now file_name.now manifest.now.generation) (F.meaning.loose folder.old)) q) }
+    // Where another call failed than the renaming, no path but the temporary one has changed at any moment.
+    ensures unnamed { F.meaning.keeps folder.old → IfErr result (λ error. ¬ IsUnnamed error
+        → TouchesOnly F.meaning (λ q. q ≡ manifest_temp_path dir.now file_name.now manifest.now.generation) folder.old folder.new) }
+
     ensures reason { F.meaning.keeps folder.old → IfErr result (HasSaveReason F.meaning dir.now file_name.now manifest.now.generation folder.old folder.new) }
     ensures faults { F.meaning.keeps folder.old → OnOk result (F.meaning.faults folder.new ≡ F.meaning.faults folder.old) }
     ensures places { F.meaning.keeps folder.old → F.meaning.folders folder.new ≡ F.meaning.folders folder.old }
     ensures kept { F.meaning.keeps folder.old ↔ F.meaning.keeps folder.new }
 {
-    let Ok(temp) = manifest_temp_path(alloc, dir, file_name) else {
+    let Ok(temp) = manifest_temp_path(alloc, dir, file_name, manifest.generation) else {
         return Err(CheckpointError::Memory);
     };
-    let Ok(path) = manifest_path(alloc, dir, file_name) else {
+    let Ok(path) = manifest_path(alloc, dir, file_name, manifest.generation) else {
         return Err(CheckpointError::Memory);
     };
     let Ok(bytes) = encode_manifest(alloc, manifest) else {
@@ -134,46 +156,4 @@ pub fn save_manifest<F: Folder>(
             Err(CheckpointError::Folder { file, fault })
         }
     }
-}
-
-/// Saves the shards as the checkpoint of this generation.
-///
-/// Each shard's frame is written to its own file, which is called by its generation and so is none of another
-/// checkpoint's, and synced. Then the manifest is replaced by one that names this generation. A stop or a loss of
-/// power at any moment leaves the manifest as it was, and with it all files but those of this generation; or it
-/// leaves the whole new checkpoint. The folder of the files has to be there.
-///
-/// `Memory`: no memory was found for a name or for bytes. `Folder`: a call failed on the file that is named. After
-/// both the checkpoint that was there is as it was, unless the call that failed is the manifest's renaming, which may
-/// have been done; files of this generation may be left. The other errors are never told.
-pub fn save_generation<F: Folder, K: Stored, V: Stored>(
-    alloc: Global,
-    folder: &mut F,
-    dir: &str,
-    file_name: &str,
-    generation: u64,
-    shards: &[Vec<Row<K, V>>],
-) -> Result<(), CheckpointError>
-    requires { suc (length shards.now) < 2 ^ 64 }
-
-    ensures saved { F.meaning.keeps folder.old → OnOk result (HasCheckpoint K.bytes_of K.is_value V.bytes_of V.is_value
-        dir.now file_name.now generation shards.now (F.meaning.files folder.new)) }
-
-    // A stop, and a loss of power, at any moment leaves the checkpoint that was there, or the whole new one.
-    ensures saves { F.meaning.keeps folder.old → SavesCheckpoint K.bytes_of K.is_value V.bytes_of V.is_value
-        dir.now file_name.now F.meaning generation shards.now folder.old folder.new }
-
-    // An error names the file and the call that failed, and it has its reason.
-    ensures reason { F.meaning.keeps folder.old → IfErr result (HasSaveReason F.meaning dir.now file_name.now generation folder.old folder.new) }
-
-    ensures faults { F.meaning.keeps folder.old → OnOk result (F.meaning.faults folder.new ≡ F.meaning.faults folder.old) }
-    ensures places { F.meaning.keeps folder.old → F.meaning.folders folder.new ≡ F.meaning.folders folder.old }
-    ensures kept { F.meaning.keeps folder.old ↔ F.meaning.keeps folder.new }
-{
-    let manifest = Manifest {
-        generation,
-        shards: shards.len() as u64,
-    };
-    save_frames(alloc, folder, dir, file_name, &manifest, shards)?;
-    save_manifest(alloc, folder, dir, file_name, &manifest)
 }

@@ -13,4 +13,5 @@ pub enum FolderCall {
     Read,
     List,
     Remove,
+    Claim,
 }

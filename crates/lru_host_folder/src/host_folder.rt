@@ -27,7 +27,8 @@ use std::{fs, io};
 /// process or not, neither creates nor removes it, and answers `Io`. `rename` syncs the folder of the new name, and answers
 /// `Io` where that fails, though the name is given. `make` syncs each folder that it makes into the one above it; one that
 /// is there it leaves as it is, also where a stop came between its making and its sync. `sync_dir` opens the folder and syncs
-/// it: that the disk keeps the names then is the system's promise. What is a link or a pipe is not opened. `create` of a path that is there
+/// it: that the disk keeps the names then is the system's promise. `claim_dir` opens the folder and locks it, as `create` locks a
+/// file, so no file is left behind where a program stops: the system then takes the lock back. What is a link or a pipe is not opened. `create` of a path that is there
 /// removes it first, so a stop between leaves no file there, where a folder's meaning leaves the old one or the empty one;
 /// saves create temp files alone.
 ///
@@ -37,6 +38,7 @@ use std::{fs, io};
 pub struct HostFolder<R: Files> {
     rt: R,
     file: HostOpen<R::File>,
+    claimed: Option<R::File>,
 }
 
 impl<R: Files> Model for HostFolder<R> {
@@ -57,6 +59,7 @@ impl<R: Files> HostFolder<R> {
         HostFolder {
             rt,
             file: HostOpen::Closed,
+            claimed: None,
         }
     }
 }
@@ -101,6 +104,14 @@ fn folder_of(path: &str) -> &str {
 /// Syncs a folder, so that a loss of power keeps the names in it.
 fn sync_folder(rt: &impl Files, dir: &str) -> io::Result<()> {
     fs::open(rt, dir)?.sync_all()
+}
+
+/// Opens a folder, to claim it. What is no folder is refused before it is opened.
+fn open_folder<R: Files>(rt: &R, dir: &str) -> io::Result<R::File> {
+    if !fs::metadata(rt, dir)?.is_dir() {
+        return Err(io::Error::new(ErrorKind::NotADirectory, "not a folder"));
+    }
+    fs::open(rt, dir)
 }
 
 /// Whether a folder of this path is there.
@@ -375,5 +386,20 @@ where
     fn sync_dir(&mut self, dir: &str) -> Result<(), FolderFault> {
         let name = if dir.is_empty() { "." } else { dir };
         answer(&self.rt, "sync", name, sync_folder(&self.rt, name))
+    }
+
+    fn claim_dir(&mut self, dir: &str) -> Result<bool, FolderFault> {
+        self.claimed = None;
+        let name = if dir.is_empty() { "." } else { dir };
+        let folder = answer(&self.rt, "claim", name, open_folder(&self.rt, name))?;
+        let alone = folder.claim();
+        if alone {
+            self.claimed = Some(folder);
+        }
+        Ok(alone)
+    }
+
+    fn leave_dir(&mut self) {
+        self.claimed = None;
     }
 }

@@ -1,33 +1,66 @@
 -- A manifest as bytes, and the parts of a checkpoint.
-use Rattle.std.specs.Prelude.{◌≡◌, ◌≢◌, ℕ, suc, ◌<◌, ◌^◌, List}
+use Rattle.std.specs.Prelude.{◌≡◌, ◌≢◌, ℕ, suc, ◌<◌, ◌^◌, List, length, map}
+use Rattle.std.specs.List.{AllByRecursion}
 use Rattle.lru_frames.specs.declared.errors.Part.TheVariants as part
 use Rattle.lru_frames.specs.declared.errors.FrameError.{FrameError}
 use Rattle.lru_frames.specs.declared.errors.FrameError.TheVariants.{Damaged, Memory}
 use Rattle.lru_frames.specs.declared.frame.Header.{Header}
+use Rattle.lru_frames.specs.declared.mark.Mark.{Mark}
+use Rattle.lru_frames.specs.declared.row.Row.{Row}
 use Rattle.lru_frames.specs.Causes.{HasOtherLength, HasOtherMagic, HasOtherVersion, HasOtherCheck}
 use Rattle.lru_frames.specs.Envelope.{sealed}
-use Rattle.lru_frames.specs.Frame.{header_bytes}
-use Rattle.lru_manifests.specs.declared.manifest.Manifest.{Manifest}
+use Rattle.lru_frames.specs.Frame.{content_of, frame_of}
+use Rattle.lru_frames.specs.Words.{word}
 
--- the header of a part: the frames of the shards, and behind them the manifest
-abbrev pub part_header : Manifest → ℕ → Header
-part_header manifest number = record { shards = suc manifest.shards; shard = number; generation = manifest.generation }
+-- the header of a part of a generation with so many shards: the frames of the shards, and behind them the manifest
+abbrev pub part_header : ℕ → ℕ → ℕ → Header
+part_header generation shards number = record { shards = suc shards; shard = number; generation = generation }
 
--- the last part, without rows
-abbrev pub manifest_content : Manifest → List ℕ
-manifest_content manifest = header_bytes (part_header manifest manifest.shards) 0
+-- a mark as a row
+abbrev pub mark_row : Mark → Row ℕ ℕ
+mark_row mark = record { key = mark.rows; «data» = mark.check; weight = mark.length }
 
-abbrev pub manifest_bytes : Manifest → List ℕ
-manifest_bytes manifest = sealed (manifest_content manifest)
+-- and back
+abbrev pub row_mark : Row ℕ ℕ → Mark
+row_mark row = record { rows = row.key; length = row.weight; check = row.data }
+
+-- the last part, with a row for each shard
+abbrev pub manifest_content : ℕ → List Mark → List ℕ
+manifest_content generation marks = content_of word word (part_header generation (length marks) (length marks)) (map mark_row marks)
+
+abbrev pub manifest_bytes : ℕ → List Mark → List ℕ
+manifest_bytes generation marks = frame_of word word (part_header generation (length marks) (length marks)) (map mark_row marks)
+
+-- Numbers that a mark may have.
+pub record IsMark (mark : Mark) : Type 0 where
+  pub rows : mark.rows < 2 ^ 64
+  pub length : mark.length < 2 ^ 64
+  pub check : mark.check < 2 ^ 64
 
 -- Numbers that a manifest may have.
-pub record IsManifest (manifest : Manifest) : Type 0 where
-  pub shards : suc manifest.shards < 2 ^ 64
-  pub generation : manifest.generation < 2 ^ 64
+pub record IsManifest (number : ℕ) (marks : List Mark) : Type 0 where
+  pub shards : suc (length marks) < 2 ^ 64
+  pub generation : number < 2 ^ 64
+  pub each : AllByRecursion IsMark marks
+
+-- a frame of this header and with these rows is the manifest
+abbrev pub IsFrameOf : Header → List (Row ℕ ℕ) → ℕ → List Mark → Type 0
+IsFrameOf header rows generation marks = (header ≡ part_header generation (length marks) (length marks)) × (rows ≡ map mark_row marks)
+
+-- it is none; where memory ran out, maybe one
+abbrev pub IsRefused : FrameError → Header → List (Row ℕ ℕ) → Type 0
+IsRefused Memory header rows = Unit {0}
+IsRefused (Damaged part.Header) header rows = (generation : ℕ) (marks : List Mark) → IsFrameOf header rows generation marks → ⊥
+IsRefused (Damaged part.Rows) header rows = (generation : ℕ) (marks : List Mark) → IsFrameOf header rows generation marks → ⊥
+IsRefused (Damaged part.Length) header rows = ⊥
+IsRefused (Damaged part.Magic) header rows = ⊥
+IsRefused (Damaged part.Version) header rows = ⊥
+IsRefused (Damaged part.Check) header rows = ⊥
 
 -- all around the content is right, and the content is no manifest's
 abbrev pub HasOtherContent : List ℕ → Type 0
-HasOtherContent bytes = (content : List ℕ) × ((bytes ≡ sealed content) × ((manifest : Manifest) → IsManifest manifest → content ≢ manifest_content manifest))
+HasOtherContent bytes = (content : List ℕ) × ((bytes ≡ sealed content)
+    × ((generation : ℕ) (marks : List Mark) → IsManifest generation marks → content ≢ manifest_content generation marks))
 
 -- what is wrong with the bytes; where memory ran out, maybe nothing
 abbrev pub IsWrongManifest : FrameError → List ℕ → Type 0

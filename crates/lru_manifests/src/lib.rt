@@ -1,6 +1,7 @@
-//! The files of a checkpoint: what they are called, and the manifest that names the one that is whole.
+//! The files of a checkpoint: what they are called, which of them stand in a folder, and the manifest of each generation.
 #![tactic(auto)]
 
 pub mod laws;
+pub mod listing;
 pub mod manifest;
 pub mod names;

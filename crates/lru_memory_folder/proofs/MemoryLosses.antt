@@ -100,7 +100,7 @@ pub settled : {T : Type 0} (deed : Memory → Deed) (found : Bool) (fate : Optio
     → Goes (deed was) (end_of fate found) (history was) new result
     → OnOk result ((q : List ℕ) → (loss_left new.calls (at_opening (from_entries new.begun))).loose q → loose_done (deed old) (files_of old) (loose_of old) q)
 settled deed found fate was old new result is goes =
-    let later : Memory = record { begun = new.begun; calls = new.calls; made = was.made; opened = was.opened; plan = was.plan; last = was.last } in
+    let later : Memory = record { begun = new.begun; calls = new.calls; made = was.made; opened = was.opened; plan = was.plan; last = was.last; elsewhere = was.elsewhere } in
     subst (λ (m : Memory). OnOk result ((q : List ℕ) → loose_of later q → loose_done (deed m) (files_of m) (loose_of m) q)) is
     (settled_at (deed was) was later result (whole_call (deed was) found fate was later result goes))
 

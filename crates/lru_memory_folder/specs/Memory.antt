@@ -1,5 +1,6 @@
 -- A folder in memory: what it began with, its calls since, and which of the next ones are made to fail.
-use Rattle.std.specs.Prelude.{ℕ, List, length}
+use Rattle.std.specs.Prelude.{ℕ, Bool, false, List, length, Option, Some, None}
+use Rattle.std.specs.Str.{bytes_eq}
 use Rattle.std.specs.FinMap.{from_entries}
 use Rattle.std.specs.FinSet.{from_list}
 use Rattle.lru_memory_folder.specs.declared.calls.Plan.{Plan}
@@ -9,7 +10,7 @@ use Rattle.lru_memory_folder.specs.Losing.{loss_left, LostSince}
 use Rattle.lru_folder.specs.Files.{Files}
 use Rattle.lru_folder.specs.Losses.{Loss, at_opening}
 use Rattle.lru_folder.specs.Folder.{Opened}
-use Rattle.lru_folder.specs.Places.{Folders}
+use Rattle.lru_folder.specs.Places.{Folders, without_last_slash}
 use Rattle.lru_folder.specs.declared.folder_call.FolderCall.{FolderCall}
 
 pub record Memory : Type 0 where
@@ -19,6 +20,13 @@ pub record Memory : Type 0 where
   pub opened : Opened
   pub plan : Plan
   pub last : FolderCall
+  -- the folder that another saver has claimed
+  pub elsewhere : Option (List ℕ)
+
+-- whether another saver has claimed this folder
+abbrev pub has_another : Option (List ℕ) → List ℕ → Bool
+has_another None dir = false
+has_another (Some claimed) dir = bytes_eq (without_last_slash claimed) (without_last_slash dir)
 
 -- the files now: the calls done on what was there
 abbrev pub files_of : Memory → Files

@@ -1,6 +1,7 @@
 // A folder in memory, which can be made to fail, and which knows what a stop or a loss of power could have left.
-ghost use Rattle.std.specs.Prelude.{◌≡◌, ◌≢◌, [], ℕ, List, None, Some, IfOk, IsErrOf, IsTrue, MatchOption, MatchResult, OnOk, length, map, string_bytes, take};
+ghost use Rattle.std.specs.Prelude.{◌≡◌, ◌≢◌, [], ℕ, List, not, None, Some, IfOk, IsErrOf, IsTrue, MatchOption, MatchResult, OnOk, length, map, string_bytes, take};
 ghost use Rattle.std.specs.FinMap.{get, insert, keys};
+ghost use Rattle.std.specs.Option.{option_map};
 ghost use Rattle.lru_memory_folder.specs.declared.calls.Plan.TheVariants.{Works, FailsAt, StopsAt};
 ghost use Rattle.lru_folder.specs.Files.{created, appended, renamed, removed, AllOrNone, SomeFront, Same};
 ghost use Rattle.lru_folder.specs.Losses.{IsSynced, Loses, creating, writing, renaming, removing, looking, firmed, handed_on};
@@ -8,7 +9,7 @@ ghost use Rattle.lru_folder.specs.Folder as mode;
 ghost use Rattle.lru_folder.specs.Folder.{HasCause, IsReading, IsWriting, Passes, Reads, written_path};
 ghost use Rattle.lru_folder.specs.Listings.{name_of};
 ghost use Rattle.lru_memory_folder.specs.Kept.{IsMarked};
-ghost use Rattle.lru_memory_folder.specs.Memory.{files_of, folders_of, clock_of, faults_of, stopped_since_of, lost_since_of, loose_of, loss_kept};
+ghost use Rattle.lru_memory_folder.specs.Memory.{files_of, folders_of, clock_of, faults_of, stopped_since_of, lost_since_of, loose_of, loss_kept, has_another};
 ghost use Rattle.lru_memory_folder.specs.MemoryLaws.{memory_meaning};
 ghost use Rattle.lru_folder.specs.Places.{folder_of, is_there, can_list, listing, MakesAll, MakesSome};
 ghost use Rattle.lru_synced_folder.specs.Names.{AreSynced};
@@ -16,6 +17,7 @@ ghost use Rattle.lru_memory_folder.specs.Plans.{front_of, nothing, GoesAsPlanned
 
 use crate::calls::Plan;
 use crate::held::find;
+use crate::places::is_claimed;
 use crate::plan::next_fate;
 use crate::store::Store;
 use lru_folder::fault::FolderFault;
@@ -35,6 +37,7 @@ pub struct MemoryFolder {
     store: Store,
     plan: Plan,
     last: FolderCall,
+    elsewhere: Option<String>,
 }
 
 impl Model for MemoryFolder {
@@ -50,12 +53,13 @@ impl Model for MemoryFolder {
 impl MemoryFolder {
     /// A folder without files.
     pub fn new(alloc: Global) -> Self
-        ensures { result ≡ record { begun = []; calls = []; made = []; opened = mode.Closed; plan = Works; last = FolderCall.Make } }
+        ensures { result ≡ record { begun = []; calls = []; made = []; opened = mode.Closed; plan = Works; last = FolderCall.Make; elsewhere = None } }
     {
         MemoryFolder {
             store: Store::new(alloc),
             plan: Plan::Works,
             last: FolderCall::Make,
+            elsewhere: None,
         }
     }
 
@@ -64,12 +68,19 @@ impl MemoryFolder {
         ensures files { IfOk result (λ folder. files_of folder ≡ insert (files_of self) path.now bytes.now) }
         ensures folders { IfOk result (λ folder. MakesAll (folder_of path.now) (folders_of self) (folders_of folder)) }
         ensures begins { IfOk result (λ folder. (folder.calls ≡ []) × (folder.opened ≡ mode.Closed) × (folder.plan ≡ self.plan)) }
+        ensures claimed { IfOk result (λ folder. folder.elsewhere ≡ self.elsewhere) }
     {
-        let MemoryFolder { store, plan, .. } = self;
+        let MemoryFolder {
+            store,
+            plan,
+            elsewhere,
+            ..
+        } = self;
         Ok(MemoryFolder {
             store: store.with(path, bytes)?,
             plan,
             last: FolderCall::Make,
+            elsewhere,
         })
     }
 
@@ -100,18 +111,20 @@ impl MemoryFolder {
     /// `remove`) that were done since the last `sync` or `sync_dir` that answered Ok or since the folder began, after all where
     /// there are fewer; and in each of those paths that was loose at some moment from there to the next name change, the one byte in
     /// place of its bytes. A `create` that was done is such a change, and what it makes loose comes after it; one that failed
-    /// is none, and the path that it had begun is loose. The folder keeps its folders and begins anew, and no call is made to
-    /// fail.
+    /// is none, and the path that it had begun is loose. The folder keeps its folders and begins anew, no call is made to
+    /// fail, and nobody else has claimed anything.
     pub fn after_loss(&self, names: usize, byte: u8) -> Result<MemoryFolder, AllocError>
         ensures files { IfOk result (λ folder. IsMarked byte (loss_kept names self.now) (files_of folder)) }
         ensures lost { IfOk result (λ folder. lost_since_of self.now (clock_of self.now) (files_of folder)) }
         ensures folders { IfOk result (λ folder. folders_of folder ≡ folders_of self.now) }
         ensures begins { IfOk result (λ folder. (folder.calls ≡ []) × (folder.opened ≡ mode.Closed) × (folder.plan ≡ Works)) }
+        ensures claimed { IfOk result (λ folder. folder.elsewhere ≡ None) }
     {
         Ok(MemoryFolder {
             store: self.store.after_loss(names, byte)?,
             plan: Plan::Works,
             last: FolderCall::Make,
+            elsewhere: None,
         })
     }
 
@@ -135,6 +148,14 @@ impl MemoryFolder {
         ensures { self.new ≡ record self.old { plan = Works } }
     {
         self.plan = Plan::Works;
+    }
+
+    /// Sets which folder another saver has claimed, if one: `claim_dir` of that folder is refused. There are no other
+    /// savers of a folder in memory, so nothing else sets that.
+    pub fn claimed_by_another(&mut self, dir: Option<String>)
+        ensures { self.new ≡ record self.old { elsewhere = option_map string_bytes dir } }
+    {
+        self.elsewhere = dir;
     }
 }
 
@@ -332,4 +353,26 @@ impl SyncedFolder for MemoryFolder {
         let fate = next_fate(&mut self.plan);
         self.store.sync_dir(dir, fate)
     }
+
+    fn claim_dir(&mut self, dir: &str) -> Result<bool, FolderFault>
+        ensures mode { self.new.opened ≡ self.old.opened }
+        ensures granted { IfOk result (λ alone. alone ≡ not (has_another self.old.elsewhere dir.now)) }
+        ensures places { folders_of self.new ≡ folders_of self.old }
+        ensures time { Passes memory_meaning Same self.old self.new }
+        ensures loss { Loses memory_meaning looking self.old self.new }
+        ensures last { self.new.last ≡ FolderCall.Claim }
+        ensures cause { HasCause (faults_of self.old) (faults_of self.new) result }
+        ensures found { IsErrOf result FolderFault.NotFound → ¬ IsTrue (is_there (folders_of self.old) dir.now) }
+        ensures planned { GoesAsPlanned nothing self.old self.new result }
+    {
+        self.last = FolderCall::Claim;
+        let fate = next_fate(&mut self.plan);
+        let alone = !is_claimed(&self.elsewhere, dir);
+        self.store.claim_dir(dir, fate, alone)
+    }
+
+    // No other saver sees what this one claims.
+    fn leave_dir(&mut self)
+        ensures { self.new ≡ self.old }
+    {}
 }

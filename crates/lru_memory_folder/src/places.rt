@@ -1,9 +1,11 @@
 // The folders that a folder in memory has, and the names in them.
-ghost use Rattle.std.specs.Prelude.{◌≡◌, ◌==◌, ◌&&◌, not, length, None, Some, MatchOption, OnErr, OnOk};
+ghost use Rattle.std.specs.Prelude.{◌≡◌, ◌==◌, ◌&&◌, not, length, string_bytes, None, Some, MatchOption, OnErr, OnOk};
+ghost use Rattle.std.specs.Option.{option_map};
 ghost use Rattle.std.specs.FinSet.{insert};
 ghost use Rattle.std.specs.List.{list_any};
 ghost use Rattle.std.specs.Str.{bytes_eq};
 ghost use Rattle.lru_memory_folder.specs.MadeInside.{folders_in};
+ghost use Rattle.lru_memory_folder.specs.Memory.{has_another};
 ghost use Rattle.lru_folder.specs.Names.{has_slash};
 ghost use Rattle.lru_folder.specs.Places.{folder_of, is_there, name_after, without_last_slash, MakesAll, MakesSome};
 
@@ -44,6 +46,18 @@ pub(crate) fn is_there(made: &[Vec<u8>], dir: &[u8]) -> bool
 {
     let text = without_last_slash(dir);
     text.is_empty() || text == b"/".as_slice() || has(made, text)
+}
+
+/// Whether another saver has claimed this folder.
+pub(crate) fn is_claimed(elsewhere: &Option<String>, dir: &str) -> bool
+    ensures { result ≡ has_another (option_map string_bytes elsewhere.now) dir.now }
+{
+    match elsewhere {
+        Some(claimed) => {
+            without_last_slash(claimed.as_bytes()) == without_last_slash(dir.as_bytes())
+        }
+        None => false,
+    }
 }
 
 /// Adds a folder.

@@ -174,6 +174,22 @@ impl Store {
         self.journal.conclude(self.alloc, call, fate, found)
     }
 
+    pub(crate) fn claim_dir(
+        &mut self,
+        dir: &str,
+        fate: Option<usize>,
+        alone: bool,
+    ) -> Result<bool, FolderFault>
+        ensures mode { self.new.file ≡ self.old.file }
+        ensures goes { Goes Looks (end_of fate (is_there (folders_in self.old.made.items) dir.now)) self.old.journal self.new.journal result }
+        ensures told { IfOk result (λ told. told ≡ alone) }
+        ensures made { self.new.made ≡ self.old.made }
+    {
+        let found = is_there(&self.made, dir.as_bytes());
+        self.journal.conclude(self.alloc, Call::Look, fate, found)?;
+        Ok(alone)
+    }
+
     pub(crate) fn rename(
         &mut self,
         from: &str,

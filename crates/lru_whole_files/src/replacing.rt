@@ -2,7 +2,8 @@
 ghost use Rattle.std.specs.Prelude.{◌≡◌, ◌≢◌, ◌↔◌, ℕ, List, IfErr, OnOk, IsTrue};
 ghost use Rattle.lru_folder.specs.Losses.{firmed};
 ghost use Rattle.lru_folder.specs.Places.{folder_of, is_there};
-ghost use Rattle.lru_whole_files.specs.Touching.{HasReason};
+ghost use Rattle.lru_whole_files.specs.Touching.{HasReason, TouchesOnly};
+ghost use Rattle.lru_folder.specs.declared.folder_call.FolderCall.{FolderCall};
 ghost use Rattle.lru_whole_files.specs.Replacing.{IsReplaced, Replaces};
 
 use crate::errors::CallFault;
@@ -29,6 +30,9 @@ pub fn replace_file<F: Folder>(
 
     // A file that was replaced is not loose.
     ensures firm { F.meaning.keeps folder.old → OnOk result ((q : List ℕ) → F.meaning.loose folder.new q → firmed temp.now (firmed path.now (F.meaning.loose folder.old)) q) }
+
+    // Where another call failed than the renaming, no path but the temporary one has changed at any moment.
+    ensures unnamed { F.meaning.keeps folder.old → IfErr result (λ fault. fault.call ≢ FolderCall.Rename → TouchesOnly F.meaning (λ q. q ≡ temp.now) folder.old folder.new) }
 
     // An error names the call that failed, and it has its reason.
     ensures named { F.meaning.keeps folder.old → IfErr result (λ fault. F.meaning.last_call folder.new ≡ fault.call) }

@@ -15,7 +15,7 @@ pub returns-clause-mode : goal.returns-clause-mode
 returns-clause-mode c =
     let now : Memory = c.args.self.now in
     let store = c.sync_dir.new.self in
-    let later : Memory = record { begun = store.journal.begun; calls = store.journal.calls; made = now.made; opened = now.opened; plan = now.plan; last = now.last } in
+    let later : Memory = record { begun = store.journal.begun; calls = store.journal.calls; made = now.made; opened = now.opened; plan = now.plan; last = now.last; elsewhere = now.elsewhere } in
     let time : Passes memory_meaning Same now later = passes (λ m. SyncsNames c.args.dir.now) _ _ _ _ c.sync_dir.result c.self.view_is c.sync_dir.ensures.goes in
     ap (λ (f : Files). opened_in f store.file) (time.leaves ∙ sym (ap files_of c.self.view_is)) ∙ ap (opened_in _) c.sync_dir.ensures.mode ∙ ap (λ (m : Memory). m.opened) c.self.view_is
 
@@ -34,5 +34,5 @@ pub returns-clause-done : goal.returns-clause-done
 returns-clause-done c =
     let now : Memory = c.args.self.now in
     let store = c.sync_dir.new.self in
-    let later : Memory = record { begun = store.journal.begun; calls = store.journal.calls; made = now.made; opened = now.opened; plan = now.plan; last = now.last } in
+    let later : Memory = record { begun = store.journal.begun; calls = store.journal.calls; made = now.made; opened = now.opened; plan = now.plan; last = now.last; elsewhere = now.elsewhere } in
     names_synced c.args.dir.now _ c.next_fate-fate.result _ _ later c.sync_dir.result c.self.view_is c.sync_dir.ensures.goes
