@@ -6,7 +6,7 @@ use Rattle.lru_cache.specs.declared.cache.Cause.TheVariants.{TooHeavy}
 use Rattle.lru_cache.specs.declared.cache.Refused as cached
 use Rattle.lru_cache.specs.Cache.{Cached, with_entries, without, parts_of, Leaves, MayRefuse}
 use Rattle.lru_entries.specs.Entries.{entry}
-use Rattle.lru_copies.specs.Copies.{AreEach, IsEntryCopy}
+use Rattle.lru_frames.specs.Copies.{AreEach, IsEntryCopy}
 
 -- rows may be the copies of a cache: there are entries of which they are
 abbrev pub MayCopy : {K V : Type 0} → (K → K → Type 0) → (V → V → Type 0) → List (Row K V) → Type 0

@@ -1,7 +1,7 @@
 -- Rows copied out of the shards of an order, and put back.
 use Rattle.std.specs.Prelude.{◌≡◌, ◌⊎◌, ℕ, Bool, List, [], ◌∷◌, map, Result, Ok, Err}
 use Rattle.lru_frames.specs.declared.row.Row.{Row}
-use Rattle.lru_copies.specs.Copies.{AreEach}
+use Rattle.lru_frames.specs.Copies.{AreEach}
 use Rattle.lru_shard.specs.declared.unit.Refused.{Refused}
 use Rattle.lru_shard.specs.Row as order
 use Rattle.lru_rules.specs.Shards.{AreAtHome}

@@ -1,6 +1,6 @@
 // Rows copied.
 ghost use Rattle.std.specs.Prelude.{IfOk};
-ghost use Rattle.lru_copies.specs.Copies.{AreEach};
+ghost use Rattle.lru_frames.specs.Copies.{AreEach};
 ghost use Rattle.lru_order_captures.specs.Captures.{IsCopy};
 
 use lru_frames::row::Row;

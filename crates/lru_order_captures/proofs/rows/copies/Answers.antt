@@ -1,7 +1,7 @@
 use Rattle.std.proofs.Common.{ℕ, List, [], ◌∷◌, ◌++◌, sym, ap, ◌∙◌, subst, append_assoc}
-use Rattle.lru_copies.specs.Copies.{AreEach}
+use Rattle.lru_frames.specs.Copies.{AreEach}
 use Rattle.lru_order_captures.specs.Captures.{IsCopy}
-use Rattle.lru_copies.proofs.Copied.{each_more}
+use Rattle.lru_frames.proofs.Copied.{each_more}
 use Rattle.lru_order_captures.proofs.rows.copies.Goals as goal
 
 pub loop-pair-preserved : goal.loop-pair-preserved

@@ -1,5 +1,5 @@
 use Rattle.std.proofs.Common.{◌≡◌, ℕ, List, ◌++◌, length}
-use Rattle.lru_copies.specs.Copies.{AreEach}
+use Rattle.lru_frames.specs.Copies.{AreEach}
 use Rattle.lru_order_captures.specs.Captures.{IsCopy}
 use Rattle.lru_order_captures.proofs.rows.copies.Given as goal
 

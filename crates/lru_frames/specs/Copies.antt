@@ -1,5 +1,5 @@
 -- Rows copied one by one.
-use Rattle.std.specs.Prelude.{◌≡◌, ◌⊎◌, ℕ, Bool, true, false, List, [], ◌∷◌, ◌++◌}
+use Rattle.std.specs.Prelude.{◌≡◌, ℕ, List, [], ◌∷◌}
 use Rattle.lru_frames.specs.declared.row.Row.{Row}
 
 -- lists of one length whose items are so one by one
@@ -11,8 +11,3 @@ AreEach P _ _ = ⊥
 -- a row with clones of a key and a value, and their weight
 abbrev pub IsEntryCopy : {K V : Type 0} → (K → K → Type 0) → (V → V → Type 0) → K × V × ℕ → Row K V → Type 0
 IsEntryCopy IsCloneKey IsCloneValue entry row = IsCloneKey entry.0 row.key × (IsCloneValue entry.1 row.data × (row.weight ≡ entry.2))
-
--- One row more was copied, or memory was refused to it or to one before.
-abbrev pub AddsCopy : {K V : Type 0} → (K → K → Type 0) → (V → V → Type 0) → List (Row K V) × Bool → K × V × ℕ → List (Row K V) × Bool → Type 0
-AddsCopy {K} {V} IsCloneKey IsCloneValue old entry new = ((new.0 ≡ old.0) × (new.1 ≡ true))
-    ⊎ ((old.1 ≡ false) × ((new.1 ≡ false) × ((row : Row K V) × (IsEntryCopy IsCloneKey IsCloneValue entry row × (new.0 ≡ old.0 ++ row ∷ [])))))

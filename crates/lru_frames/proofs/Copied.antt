@@ -1,6 +1,6 @@
 -- One copy more.
 use Rattle.std.proofs.Common.{List, [], ◌∷◌, ◌++◌}
-use Rattle.lru_copies.specs.Copies.{AreEach}
+use Rattle.lru_frames.specs.Copies.{AreEach}
 
 module _ {A B : Type 0} (P : A → B → Type 0) where
   pub each_more : (xs : List A) (ys : List B) (x : A) (y : B) → AreEach P xs ys → P x y → AreEach P (xs ++ x ∷ []) (ys ++ y ∷ [])
