@@ -1,6 +1,6 @@
 -- An entry was put or left out, and then others were.
-use Rattle.std.proofs.Common.{◌≡◌, ℕ, ◌+◌, inl, List, ◌∷◌, Ok, subst, arith, suc, true, false, sym}
-use Rattle.std.specs.Prelude.{Bool, Option, Result}
+use Rattle.std.proofs.Common.{◌≡◌, ℕ, ◌+◌, inl, List, ◌∷◌, Ok, Err, subst, arith, suc, true, false, sym}
+use Rattle.std.specs.Prelude.{Bool, Option, Result, IfOk}
 use Rattle.std.proofs.lemmas.Bool.{false≢true}
 use Rattle.lru_frames.specs.declared.row.Row.{Row}
 use Rattle.lru_entries.specs.declared.entry.Entry.{Entry}
@@ -22,6 +22,11 @@ module _ {K V : Type 0} (eq : K → K → Bool) (old mid : Cached K V) (row : Ro
 pub may_put : {K V F : Type 0} (eq : K → K → Bool) (row : Row K V) (Step : F → Entry K V → F → Type 0) (visit : F) (was : Option (Entry K V))
     → MayPut eq Step visit row.key row.data row.weight (Ok was) → MayPutOrLeave eq row (Ok false)
 may_put eq row Step visit was p = (p.0, (p.1.0, (p.1.1.1.1.0, (p.1.1.1.1.1.0, (p.1.1.1.1.1.1.0, p.1.1.1.1.1.1.1.1)))))
+
+-- what follows from three facts on what was made
+pub if_all_ok : {X E : Type 0} (r : Result X E) (A B C D : X → Type 0) → ((x : X) → A x → B x → C x → D x) → IfOk r A → IfOk r B → IfOk r C → IfOk r D
+if_all_ok (Ok x) A B C D f a b c = f x a b c
+if_all_ok (Err e) A B C D f a b c = tt
 
 -- the same where each is of a moment of its own
 module _ {K V : Type 0} (eq : K → K → Bool) (row : Row K V) (rows : List (Row K V)) (left : ℕ) (answer : Result ℕ (Refused K V)) where

@@ -3,4 +3,5 @@
 #![tactic(auto)]
 
 pub mod caches;
+pub mod deadlines;
 pub mod shared;
