@@ -1,5 +1,6 @@
 -- Entries copied out of a cache, and put back.
-use Rattle.std.specs.Prelude.{◌≡◌, ◌⊎◌, ℕ, suc, cond, Bool, true, false, List, [], ◌∷◌, ◌-◌, map, Result, Ok, Err}
+use Rattle.std.specs.Prelude.{◌≡◌, ◌⊎◌, ℕ, suc, ◌+◌, ◌-◌, ◌^◌, min, cond, Bool, true, false, List, [], ◌∷◌, map, reverse, Vec, Result, Ok, Err}
+use Rattle.std.specs.declared.alloc.Global.{Global}
 use Rattle.lru_frames.specs.declared.row.Row.{Row}
 use Rattle.lru_entries.specs.declared.entry.Entry.{Entry}
 use Rattle.lru_cache.specs.declared.cache.Cause.TheVariants.{TooHeavy}
@@ -45,3 +46,17 @@ module _ {K V : Type 0} (eq : K → K → Bool) where
   MayPutEntries (row ∷ rows) left answer =
       ((is_left : Bool) × (MayPutOrLeave row (Ok is_left) × MayPutEntries rows (cond is_left (suc left) left) answer))
       ⊎ ((refused : cached.Refused K V) × ((answer ≡ Err refused) × MayPutOrLeave row (Err refused)))
+
+  -- the entries of each shard are put, the last of a shard first, up to the first that is refused; those that are left out are counted on, as far as can be told
+  abbrev pub PutsShards : Cached K V → List (Vec (Row K V) Global) → ℕ → Result ℕ (cached.Refused K V) → Cached K V → Type 0
+  PutsShards old [] left answer new = (answer ≡ Ok left) × (new ≡ old)
+  PutsShards old (rows ∷ shards) left answer new =
+      ((count : ℕ) × ((mid : Cached K V) × (PutsEntries old (reverse rows.items) 0 (Ok count) mid × PutsShards mid shards (min (left + count) (2 ^ 64 - 1)) answer new)))
+      ⊎ ((refused : cached.Refused K V) × ((answer ≡ Err refused) × PutsEntries old (reverse rows.items) 0 (Err refused) new))
+
+  -- the same, each entry at a moment of its own
+  abbrev pub MayPutShards : List (Vec (Row K V) Global) → ℕ → Result ℕ (cached.Refused K V) → Type 0
+  MayPutShards [] left answer = answer ≡ Ok left
+  MayPutShards (rows ∷ shards) left answer =
+      ((count : ℕ) × (MayPutEntries (reverse rows.items) 0 (Ok count) × MayPutShards shards (min (left + count) (2 ^ 64 - 1)) answer))
+      ⊎ ((refused : cached.Refused K V) × ((answer ≡ Err refused) × MayPutEntries (reverse rows.items) 0 (Err refused)))

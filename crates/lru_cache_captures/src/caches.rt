@@ -2,7 +2,7 @@
 ghost use Rattle.std.specs.Prelude.{IfOk, map, reverse};
 ghost use Rattle.lru_cache.specs.Cache.{parts_of};
 ghost use Rattle.lru_frames.specs.Copies.{AreEach, IsEntryCopy};
-ghost use Rattle.lru_cache_captures.specs.Captures.{PutsEntries, PutsOrLeaves};
+ghost use Rattle.lru_cache_captures.specs.Captures.{PutsEntries, PutsOrLeaves, PutsShards};
 
 use lru_cache::cache::{Cache, Cause, Refused};
 use lru_frames::frame::Header;
@@ -91,6 +91,24 @@ pub fn restore_cache<K: Hash + Default + Drop, V: Drop, S: BuildHasher>(
         if is_out {
             left_out += 1;
         }
+    }
+    Ok(left_out)
+}
+
+/// Puts the entries of each shard into the cache, one shard after the other, as `restore_cache` does. It answers how many were
+/// left out, or the most that can be told where they are more.
+///
+/// A refusal is that of `restore_cache`: the entries of the shards before are there, and those of the shards behind are dropped.
+pub fn restore_shards<K: Hash + Default + Drop, V: Drop, S: BuildHasher>(
+    cache: &mut Cache<K, V, S>,
+    shards: Vec<Vec<Row<K, V>>>,
+) -> Result<usize, Refused<K, V>>
+    ensures { PutsShards K.eq cache.old shards.items 0 result cache.new }
+{
+    let mut left_out = 0usize;
+    let mut rest = shards.into_iter();
+    while let Some(rows) = rest.next() {
+        left_out = left_out.saturating_add(restore_cache(cache, rows)?);
     }
     Ok(left_out)
 }

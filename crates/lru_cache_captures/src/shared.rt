@@ -1,6 +1,6 @@
 //! The entries of a cache that threads share.
 ghost use Rattle.std.specs.Prelude.{◌<◌, IfOk, reverse};
-ghost use Rattle.lru_cache_captures.specs.Captures.{MayCopy, MayPutOrLeave, MayPutEntries};
+ghost use Rattle.lru_cache_captures.specs.Captures.{MayCopy, MayPutOrLeave, MayPutEntries, MayPutShards};
 
 use crate::caches::capture_cache;
 use lru_cache::cache::{Cause, Refused};
@@ -95,6 +95,25 @@ pub fn restore_shard<K: Hash + Default + Drop, V: Drop, const N: usize, S: Build
         if is_out {
             left_out += 1;
         }
+    }
+    Ok(left_out)
+}
+
+/// Puts the entries of each shard into the shards of their keys, one shard after the other, as `restore_shard` does. It answers
+/// how many were left out, or the most that can be told where they are more.
+///
+/// A refusal is that of `restore_shard`: the entries of the shards before are there, and those of the shards behind are dropped.
+pub fn restore_shards<K: Hash + Default + Drop, V: Drop, const N: usize, S: BuildHasher>(
+    rt: &impl Wait,
+    cache: &SharedCache<K, V, N, S>,
+    shards: Vec<Vec<Row<K, V>>>,
+) -> Result<usize, Refused<K, V>>
+    ensures { MayPutShards K.eq shards.items 0 result }
+{
+    let mut left_out = 0usize;
+    let mut rest = shards.into_iter();
+    while let Some(rows) = rest.next() {
+        left_out = left_out.saturating_add(restore_shard(rt, cache, rows)?);
     }
     Ok(left_out)
 }

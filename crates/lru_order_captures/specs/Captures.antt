@@ -1,5 +1,6 @@
 -- Rows copied out of the shards of an order, and put back.
-use Rattle.std.specs.Prelude.{◌≡◌, ◌⊎◌, ℕ, Bool, List, [], ◌∷◌, map, Result, Ok, Err}
+use Rattle.std.specs.Prelude.{◌≡◌, ◌⊎◌, ℕ, Bool, List, [], ◌∷◌, map, Result, Ok, Err, Vec}
+use Rattle.std.specs.declared.alloc.Global.{Global}
 use Rattle.lru_frames.specs.declared.row.Row.{Row}
 use Rattle.lru_frames.specs.Copies.{AreEach}
 use Rattle.lru_shard.specs.declared.unit.Refused.{Refused}
@@ -42,3 +43,15 @@ module _ {V : Type 0} where
   MayPutEach n [] answer = answer ≡ Ok tt
   MayPutEach n (row ∷ rows) answer = ((added : Bool) × (MayPutRow n row (Ok added) × MayPutEach n rows answer))
       ⊎ ((refused : Refused (ℕ × V)) × ((answer ≡ Err refused) × MayPutRow n row (Err refused)))
+
+  -- the rows of each shard put one after the other, up to the first that is refused
+  abbrev pub PutsShards : Core (ℕ × V) → List (Vec (Row ℕ V) Global) → Result (Unit {0}) (Refused (ℕ × V)) → Core (ℕ × V) → Type 0
+  PutsShards old [] answer new = (answer ≡ Ok tt) × (new ≡ old)
+  PutsShards old (rows ∷ shards) answer new = ((mid : Core (ℕ × V)) × (PutsEach old rows.items (Ok tt) mid × PutsShards mid shards answer new))
+      ⊎ ((refused : Refused (ℕ × V)) × ((answer ≡ Err refused) × PutsEach old rows.items (Err refused) new))
+
+  -- the same, each row at a moment of its own
+  abbrev pub MayPutShards : ℕ → List (Vec (Row ℕ V) Global) → Result (Unit {0}) (Refused (ℕ × V)) → Type 0
+  MayPutShards n [] answer = answer ≡ Ok tt
+  MayPutShards n (rows ∷ shards) answer = (MayPutEach n rows.items (Ok tt) × MayPutShards n shards answer)
+      ⊎ ((refused : Refused (ℕ × V)) × ((answer ≡ Err refused) × MayPutEach n rows.items (Err refused)))

@@ -1,7 +1,7 @@
 //! The rows of a core of one owner. Its data are pairs of a key, which is the row's, and a value.
 ghost use Rattle.std.specs.Prelude.{◌<◌, IfOk};
 ghost use Rattle.lru_cores.specs.Core.{list_at};
-ghost use Rattle.lru_order_captures.specs.Captures.{AreCopies, PutsEach};
+ghost use Rattle.lru_order_captures.specs.Captures.{AreCopies, PutsEach, PutsShards};
 
 use crate::rows::copies;
 use lru_cores::lru_core::LruCore;
@@ -63,6 +63,22 @@ pub fn restore_shard<V: Drop, const N: usize>(
     let mut rest = rows.into_iter();
     while let Some(row) = rest.next() {
         core.insert_tail(row.key, (row.key, row.data), row.weight)?;
+    }
+    Ok(())
+}
+
+/// Puts the rows of each shard last in the shards of their keys, one shard after the other, as `restore_shard` does.
+///
+/// A refusal is that of `restore_shard`: the rows of the shards before are there, and those of the shards behind are dropped.
+pub fn restore_shards<V: Drop, const N: usize>(
+    core: &mut LruCore<(u64, V), N>,
+    shards: Vec<Vec<Row<u64, V>>>,
+) -> Result<(), Refused<(u64, V)>>
+    ensures { PutsShards core.old shards.items result core.new }
+{
+    let mut rest = shards.into_iter();
+    while let Some(rows) = rest.next() {
+        restore_shard(core, rows)?;
     }
     Ok(())
 }

@@ -1,6 +1,6 @@
 //! The rows of an order that threads share. Its data are pairs of a key, which is the row's, and a value.
 ghost use Rattle.std.specs.Prelude.{◌<◌, IfOk};
-ghost use Rattle.lru_order_captures.specs.Captures.{MayCopy, MayPutEach};
+ghost use Rattle.lru_order_captures.specs.Captures.{MayCopy, MayPutEach, MayPutShards};
 
 use crate::rows::copies;
 use lru_frames::frame::Header;
@@ -86,6 +86,23 @@ pub fn restore_shard<V: Drop, const N: usize>(
     let mut rest = rows.into_iter();
     while let Some(row) = rest.next() {
         lru.insert_tail(rt, row.key, (row.key, row.data), row.weight)?;
+    }
+    Ok(())
+}
+
+/// Puts the rows of each shard last in the shards of their keys, one shard after the other, as `restore_shard` does.
+///
+/// A refusal is that of `restore_shard`: the rows of the shards before are there, and those of the shards behind are dropped.
+pub fn restore_shards<V: Drop, const N: usize>(
+    rt: &impl Wait,
+    lru: &Lru<(u64, V), N>,
+    shards: Vec<Vec<Row<u64, V>>>,
+) -> Result<(), Refused<(u64, V)>>
+    ensures { MayPutShards N shards.items result }
+{
+    let mut rest = shards.into_iter();
+    while let Some(rows) = rest.next() {
+        restore_shard(rt, lru, rows)?;
     }
     Ok(())
 }

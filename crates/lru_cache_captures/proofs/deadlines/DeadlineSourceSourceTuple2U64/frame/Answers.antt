@@ -1,4 +1,4 @@
-use Rattle.std.proofs.Common.{◌≡◌, List, sym, subst}
+use Rattle.std.proofs.Common.{sym, subst}
 use Rattle.std.specs.Prelude.{map}
 use Rattle.lru_cache.specs.Cache.{parts_of}
 use Rattle.lru_frames.specs.Copies.{AreEach}
