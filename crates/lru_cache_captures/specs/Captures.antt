@@ -13,6 +13,10 @@ use Rattle.lru_frames.specs.Copies.{AreEach, IsEntryCopy}
 abbrev pub MayCopy : {K V : Type 0} → (K → K → Type 0) → (V → V → Type 0) → List (Row K V) → Type 0
 MayCopy {K} {V} IsCloneKey IsCloneValue rows = (cache : Cached K V) × AreEach (IsEntryCopy IsCloneKey IsCloneValue) (map parts_of cache.entries) rows
 
+-- a row as the entry that is put for it
+abbrev pub entry_of : {K V : Type 0} → Row K V → Entry K V
+entry_of row = entry row.key row.data row.weight
+
 module _ {K V : Type 0} (eq : K → K → Bool) where
   -- an entry is put first, and the shortest end of the others goes that has to
   abbrev pub PutsEntry : Cached K V → Row K V → Cached K V → Type 0

@@ -4,4 +4,5 @@
 
 pub mod caches;
 pub mod deadlines;
+pub mod laws;
 pub mod shared;
