@@ -62,3 +62,8 @@ module _ {F T : Type 0} (book : Book F T) where
   reason_passed step (Err e) told old new is was r =
       let here : HasReason book.note old new told = subst (λ (s : Result _ FolderFault). IfErr s (HasReason book.note old new)) was r in
       subst (λ (f : FolderFault). HasReason book.note old new f) (sym is) here
+
+  pub reason_or : {A : Type 0} (P : FolderFault → Type 0) (result : Result A FolderFault) (old new : book.Noted) → IfErr result (HasReason book.note old new)
+      → IfErr result (λ told. HasReason book.note old new told ⊎ P told)
+  reason_or P (Ok x) old new r = tt
+  reason_or P (Err e) old new r = inl r

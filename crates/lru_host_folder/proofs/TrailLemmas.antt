@@ -1,12 +1,12 @@
 -- The events of steps that were done.
-use Rattle.std.proofs.Common.{◌≡◌, ℕ, zero, suc, inl, inr, true, false, Result, Ok, Err, List, [], ◌∷◌, ◌++◌, refl, sym, ◌∙◌, ap}
-use Rattle.std.specs.Prelude.{MatchResult, OnOk}
+use Rattle.std.proofs.Common.{◌≡◌, ◌+◌, ℕ, zero, suc, inl, inr, Bool, true, false, cond, take, drop, subst, arith, Result, Ok, Err, List, [], ◌∷◌, ◌++◌, refl, sym, ◌∙◌, ap}
+use Rattle.std.specs.Prelude.{MatchBool, MatchResult, OnOk}
 use Rattle.std.specs.IoError.{error_kind}
 use Rattle.std.specs.declared.io.Error.{Error}
 use Rattle.std.specs.declared.io.ErrorKind.TheVariants as kind
 use Rattle.lru_folder.specs.declared.fault.FolderFault.{FolderFault}
-use Rattle.lru_host_folder.specs.Calls.{Book, Event, Done, Failed, Fails, after, SeesFile, Opens, Locks, Matches, Removes, Closes, Creates}
-use Rattle.lru_host_folder.specs.Steps.{fault_of, interrupted, IsCleared, IsCreation}
+use Rattle.lru_host_folder.specs.Calls.{Book, Event, Done, Failed, Fails, after, SeesFile, Opens, Locks, Matches, Removes, Closes, Creates, MakesFolder, SeesFolder, SyncsFolder}
+use Rattle.lru_host_folder.specs.Steps.{ends_name, fault_of, interrupted, place_of, way_to, AreMade, IsCleared, IsCreation, IsMade}
 use Rattle.lru_host_folder.proofs.FailsLemmas.{after-append}
 
 -- these events lead there
@@ -45,3 +45,29 @@ pub interrupted_trail : {F T : Type 0} (book : Book F T) (n : ℕ) (old new : bo
 interrupted_trail book zero old new e = ([], e)
 interrupted_trail book (suc n) old new e =
     joined book old (interrupted book.note n old) new (interrupted_trail book n old (interrupted book.note n old) refl) (Failed kind.Interrupted ∷ [], e)
+
+made_trail : {F T : Type 0} (book : Book F T) (dir : List ℕ) (old new : book.Noted) → IsMade book dir old new → Trail book old new
+made_trail book dir old new (inl e) = (Done (MakesFolder dir) ∷ Done (SyncsFolder (place_of dir)) ∷ [], e)
+made_trail book dir old new (inr e) = (Failed kind.AlreadyExists ∷ Done (SeesFolder dir true) ∷ [], e)
+
+pub are_made_trail : {F T : Type 0} (book : Book F T) (dirs : List (List ℕ)) (old new : book.Noted) → AreMade book dirs old new → Trail book old new
+are_made_trail book [] old new e = ([], e)
+are_made_trail book (dir ∷ dirs) old new (mid, (made, rest)) = joined book old mid new (made_trail book dir old mid made) (are_made_trail book dirs mid new rest)
+
+AreMade-append : {F T : Type 0} (book : Book F T) (xs ys : List (List ℕ)) (old mid new : book.Noted) → AreMade book xs old mid → AreMade book ys mid new → AreMade book (xs ++ ys) old new
+AreMade-append book [] ys old mid new e made = subst (λ (m : book.Noted). AreMade book ys m new) e made
+AreMade-append book (x ∷ xs) ys old mid new (next, (one, rest)) made = (next, (one, AreMade-append book xs ys next mid new rest made))
+
+at_place : {F T : Type 0} (book : Book F T) (ends : Bool) (dir : List ℕ) (old new : book.Noted) → MatchBool ends (IsMade book dir old new) (new ≡ old)
+    → AreMade book (cond ends (dir ∷ []) []) old new
+at_place book true dir old new made = (new, (made, refl))
+at_place book false dir old new same = same
+
+-- the folders whose names end up to the next place
+pub made_further : {F T : Type 0} (book : Book F T) (dir : List ℕ) (at : ℕ) (old mid new : book.Noted) → AreMade book (way_to dir at) old mid
+    → MatchBool (ends_name (take (at + 1) dir) (drop (at + 1) dir)) (IsMade book (take (at + 1) dir) mid new) (new ≡ mid) → AreMade book (way_to dir (at + 1)) old new
+made_further book dir at old mid new made one =
+    let next : suc at ≡ at + 1 = omega arith in
+    let here = subst (λ (n : ℕ). MatchBool (ends_name (take n dir) (drop n dir)) (IsMade book (take n dir) mid new) (new ≡ mid)) (sym next) one in
+    subst (λ (n : ℕ). AreMade book (way_to dir n) old new) next
+    (AreMade-append book (way_to dir at) _ old mid new made (at_place book (ends_name (take (suc at) dir) (drop (suc at) dir)) (take (suc at) dir) mid new here))

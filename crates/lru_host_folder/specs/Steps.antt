@@ -1,6 +1,10 @@
 -- What a folder's calls make of the system's calls.
-use Rattle.std.specs.Prelude.{◌≡◌, ◌⊎◌, ◌==◌, ℕ, zero, suc, Bool, true, false, List, [], ◌∷◌, length, codes, if◌then◌else◌, Option, Some, None, Result, MatchResult}
-use Rattle.std.specs.List.{before_last, list_any}
+use Rattle.std.specs.Prelude.{◌≡◌, ◌⊎◌, ◌==◌, ◌||◌, ◌&&◌, ℕ, zero, suc, Bool, true, false, not, List, [], ◌∷◌, ◌++◌, length, take, drop, map, replicate, codes, nat_eq, string_bytes, String, if◌then◌else◌, Option, Some, None, Result, MatchResult, IsPermutation}
+use Rattle.std.specs.List.{ends_with, starts_with}
+use Rattle.std.specs.List.Sorted.{IsSortedByKey}
+use Rattle.std.specs.Ordering.{nat_cmp}
+use Rattle.std.specs.Cmp.Lexicographic.{slice_cmp}
+use Rattle.std.specs.declared.alloc.Global.{Global}
 use Rattle.std.specs.declared.io.ErrorKind.{ErrorKind}
 use Rattle.std.specs.declared.io.ErrorKind.TheVariants as kind
 use Rattle.lru_folder.specs.declared.fault.FolderFault.{FolderFault}
@@ -85,3 +89,23 @@ abbrev pub IsMade : {F T : Type 0} → (book : Book F T) → List ℕ → book.N
 IsMade book dir old new =
     (new ≡ after book.note old (Done (MakesFolder dir) ∷ Done (SyncsFolder (place_of dir)) ∷ []))
     ⊎ (new ≡ after book.note old (Failed kind.AlreadyExists ∷ Done (SeesFolder dir true) ∷ []))
+
+-- The folders of a list were made so, the first first.
+abbrev pub AreMade : {F T : Type 0} → (book : Book F T) → List (List ℕ) → book.Noted → book.Noted → Type 0
+AreMade book [] old new = new ≡ old
+AreMade book (dir ∷ dirs) old new = (mid : book.Noted) × (IsMade book dir old mid × AreMade book dirs mid new)
+
+-- whether a name ends here, in front of a slash or at the end of the text
+abbrev pub ends_name : List ℕ → List ℕ → Bool
+ends_name front rest = not (ends_with nat_eq front (codes "/")) && (length rest == 0 || starts_with nat_eq rest (codes "/"))
+
+-- the folders on the way to a folder, and itself: the fronts of its text where a name ends, up to this place
+abbrev pub way_to : List ℕ → ℕ → List (List ℕ)
+way_to dir zero = []
+way_to dir (suc n) = way_to dir n ++ (if ends_name (take (suc n) dir) (drop (suc n) dir) then take (suc n) dir ∷ [] else [])
+
+-- What is told of names that the system listed: they are sorted by their bytes, and those that are no UTF-8 come behind them.
+abbrev pub IsListing : List (String Global) → ℕ → List (Option (List ℕ)) → Type 0
+IsListing found unreadable listed =
+    (sorted : List (String Global)) × (IsPermutation found sorted × (IsSortedByKey string_bytes (slice_cmp nat_cmp) sorted
+    × (listed ≡ map Some (map string_bytes sorted) ++ replicate unreadable None)))

@@ -1,22 +1,23 @@
 // The folder of the operating system.
-ghost use Rattle.std.specs.Prelude.{◌≡◌, ℕ, List, [], ◌∷◌, true, false, length, map, Some, None, Ok, IfErr, IfOk, IsSomeAnd, MatchResult, OnErr, OnOk};
+ghost use Rattle.std.specs.Prelude.{◌≡◌, ◌⊎◌, ℕ, String, string_bytes, List, [], ◌∷◌, true, false, length, map, Some, None, Ok, IfErr, IfOk, IsSomeAnd, MatchResult, OnErr, OnOk};
+ghost use Rattle.std.specs.declared.alloc.Global.{Global};
+ghost use Rattle.lru_folder.specs.Listings.{name_of};
 ghost use Rattle.lru_folder.specs.Folder.{Closed, IsReading, IsWriting};
-ghost use Rattle.lru_host_folder.specs.Calls.{after, Closes, Done, Flushes, Locks, Measures, Opens, Reads, Removes, Renames, SeesFile, SeesFolder, Syncs, SyncsFolder, Writes};
+ghost use Rattle.lru_host_folder.specs.Calls.{after, Closes, Done, Flushes, Lists, Locks, Measures, Opens, Reads, Removes, Renames, SeesFile, SeesFolder, Syncs, SyncsFolder, Writes};
 ghost use Rattle.lru_host_folder.specs.HostInside.{mode_of};
-ghost use Rattle.lru_host_folder.specs.Steps.{interrupted, let_go, open_place, place_of, shut, system_name, HasReason, IsClaimedCreation, IsOneCall, IsRemoval};
+ghost use Rattle.lru_host_folder.specs.Steps.{interrupted, let_go, open_place, place_of, shut, system_name, way_to, AreMade, HasReason, IsClaimedCreation, IsListing, IsOneCall, IsRemoval};
 
 use crate::host_open::HostOpen;
 use crate::host_system::HostSystem;
 use crate::steps::{
-    answer, create_claimed, let_go, make_one, open_file, open_folder, read_once, remove_unclaimed,
-    rename_for_good, shut, system_name,
+    answer, create_claimed, let_go, listing, make_all, open_file, open_folder, read_once,
+    remove_unclaimed, rename_for_good, shut, system_name,
 };
 use crate::system::System;
 use lru_folder::fault::FolderFault;
 use lru_folder::folder::Folder;
 use lru_folder::listed::Listed;
 use lru_synced_folder::synced_folder::SyncedFolder;
-use std::alloc::{AllocError, Global};
 
 /// A folder of a system's files.
 ///
@@ -74,36 +75,6 @@ where
     }
 }
 
-/// These names, and behind them as many that cannot be read.
-fn listing(
-    alloc: Global,
-    names: Vec<String>,
-    unreadable: usize,
-) -> Result<Vec<Listed>, AllocError> {
-    let mut listed = Vec::new(alloc);
-    for name in names {
-        listed.push(Listed::Name(name))?;
-    }
-    for _ in 0..unreadable {
-        listed.push(Listed::Unreadable)?;
-    }
-    Ok(listed)
-}
-
-/// Makes a folder and its parents, from the first one on.
-fn make_all<S: System>(system: &mut S, dir: &str) -> Result<(), FolderFault> {
-    let mut path = String::new(system.alloc());
-    for part in dir.split('/') {
-        path.push_str(part)?;
-        if !part.is_empty() {
-            let made = make_one(system, &path);
-            answer(system, "create", dir, made)?;
-        }
-        path.push('/')?;
-    }
-    Ok(())
-}
-
 impl<S: System> Folder for SystemFolder<S> {
     ghost use Rattle.lru_folder.specs.Meaning.{without_meaning};
 
@@ -113,6 +84,9 @@ impl<S: System> Folder for SystemFolder<S> {
 
     fn make(&mut self, dir: &str) -> Result<(), FolderFault>
         ensures closed { mode_of self.new.file ≡ Closed }
+        ensures done { OnOk result (AreMade S.book (way_to dir.now (length dir.now)) (shut S.book self.old.file (S.book.notes self.old.system)) (S.book.notes self.new.system)) }
+        ensures reason { IfErr result (HasReason S.book.note (S.book.notes self.old.system) (S.book.notes self.new.system)) }
+        ensures claimed { self.new.claimed ≡ self.old.claimed }
     {
         shut(&mut self.system, &mut self.file);
         make_all(&mut self.system, dir)
@@ -225,6 +199,10 @@ impl<S: System> Folder for SystemFolder<S> {
 
     fn list(&mut self, dir: &str) -> Result<Vec<Listed>, FolderFault>
         ensures closed { mode_of self.new.file ≡ Closed }
+        ensures done { IfOk result (λ listed. (found : List (String Global)) × (unreadable : ℕ) × (IsListing found unreadable (map name_of listed.items)
+            × (S.book.notes self.new.system ≡ S.book.note (shut S.book self.old.file (S.book.notes self.old.system)) (Done (Lists dir.now (map string_bytes found) unreadable))))) }
+        ensures reason { IfErr result (λ told. HasReason S.book.note (S.book.notes self.old.system) (S.book.notes self.new.system) told ⊎ ((dir.now ≡ []) × (told ≡ FolderFault.NotFound))) }
+        ensures claimed { self.new.claimed ≡ self.old.claimed }
     {
         shut(&mut self.system, &mut self.file);
         if dir.is_empty() {

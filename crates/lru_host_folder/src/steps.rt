@@ -1,13 +1,16 @@
 //! What a folder's calls are made of: a few calls of the system each.
-ghost use Rattle.std.specs.Prelude.{◌≡◌, ℕ, None, [], ◌∷◌, true, IfErr, IfOk, MatchResult, OnOk, Ok, Err, take};
+ghost use Rattle.std.specs.Prelude.{◌≡◌, ◌≤◌, ◌++◌, ℕ, None, Some, [], ◌∷◌, true, drop, length, map, replicate, string_bytes, MatchBool, IfErr, IfOk, MatchResult, OnOk, Ok, Err, take};
 ghost use Rattle.std.specs.IoError.{error_kind};
+ghost use Rattle.lru_folder.specs.Listings.{name_of};
 ghost use Rattle.lru_folder.specs.declared.fault.FolderFault.{FolderFault};
 ghost use Rattle.lru_host_folder.specs.Calls.{after, Closes, Done, Fails, Locks, Matches, Measures, Opens, Reads, Removes, Renames, SeesFile, SeesFolder, SyncsFolder};
-ghost use Rattle.lru_host_folder.specs.Steps.{fault_of, let_go, shut, interrupted, place_of, system_name, HasReason, IsClaimedCreation, IsCleared, IsCreation, IsMade, IsRemoval};
+ghost use Rattle.lru_host_folder.specs.Steps.{fault_of, let_go, shut, interrupted, place_of, system_name, ends_name, way_to, AreMade, HasReason, IsClaimedCreation, IsCleared, IsCreation, IsMade, IsRemoval};
 
 use crate::host_open::HostOpen;
 use crate::system::System;
 use lru_folder::fault::FolderFault;
+use lru_folder::listed::Listed;
+use std::alloc::{AllocError, Global};
 use std::io;
 use std::io::ErrorKind;
 use std::mem;
@@ -268,4 +271,56 @@ pub(crate) fn make_one<S: System>(system: &mut S, dir: &str) -> io::Result<()>
         }
         Err(error) => Err(error),
     }
+}
+
+/// Whether the name of a folder ends between these texts.
+fn ends_name(front: &str, rest: &str) -> bool
+    ensures { result ≡ ends_name front.now rest.now }
+{
+    !front.ends_with("/") && (rest.is_empty() || rest.starts_with("/"))
+}
+
+/// Makes the folder whose name ends at this place, if one does.
+fn make_at<S: System>(system: &mut S, dir: &str, end: usize) -> Result<(), FolderFault>
+    requires { end ≤ length dir.now }
+    ensures done { OnOk result (MatchBool (ends_name (take end dir.now) (drop end dir.now))
+        (IsMade S.book (take end dir.now) (S.book.notes system.old) (S.book.notes system.new)) (S.book.notes system.new ≡ S.book.notes system.old)) }
+    ensures reason { IfErr result (HasReason S.book.note (S.book.notes system.old) (S.book.notes system.new)) }
+{
+    match dir.split_at_checked(end) {
+        Some((folder, rest)) if ends_name(folder, rest) => {
+            let made = make_one(system, folder);
+            answer(system, "create", dir, made)
+        }
+        _ => Ok(()),
+    }
+}
+
+/// Makes a folder and its parents, from the first one on.
+pub(crate) fn make_all<S: System>(system: &mut S, dir: &str) -> Result<(), FolderFault>
+    ensures done { OnOk result (AreMade S.book (way_to dir.now (length dir.now)) (S.book.notes system.old) (S.book.notes system.new)) }
+    ensures reason { IfErr result (HasReason S.book.note (S.book.notes system.old) (S.book.notes system.new)) }
+{
+    for at in 0..dir.len() {
+        make_at(system, dir, at + 1)?;
+    }
+    Ok(())
+}
+
+/// These names, and behind them as many that cannot be read.
+pub(crate) fn listing(
+    alloc: Global,
+    names: Vec<String>,
+    unreadable: usize,
+) -> Result<Vec<Listed>, AllocError>
+    ensures { IfOk result (λ listed. map name_of listed.items ≡ map Some (map string_bytes names.items) ++ replicate unreadable None) }
+{
+    let mut listed = Vec::new(alloc);
+    for name in names {
+        listed.push(Listed::Name(name))?;
+    }
+    'unread: for _ in 0..unreadable {
+        listed.push(Listed::Unreadable)?;
+    }
+    Ok(listed)
 }
