@@ -61,6 +61,13 @@ impl<S: System> SystemFolder<S> {
             claimed: None,
         }
     }
+
+    /// The system.
+    pub fn system(&self) -> &S
+        ensures { result.now ≡ self.now.system }
+    {
+        &self.system
+    }
 }
 
 impl<R> SystemFolder<HostSystem<R>>

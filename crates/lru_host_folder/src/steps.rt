@@ -11,9 +11,8 @@ use crate::system::System;
 use lru_folder::fault::FolderFault;
 use lru_folder::listed::Listed;
 use std::alloc::{AllocError, Global};
-use std::io;
 use std::io::ErrorKind;
-use std::mem;
+use std::{io, mem};
 
 /// An error of the system that is `Io` to a folder. What the system said is logged.
 pub(crate) fn refused<S: System>(
@@ -29,12 +28,7 @@ pub(crate) fn refused<S: System>(
 }
 
 /// What an error of the system is to a folder.
-pub(crate) fn fault<S: System>(
-    system: &S,
-    call: &str,
-    path: &str,
-    error: io::Error,
-) -> FolderFault
+pub(crate) fn fault<S: System>(system: &S, call: &str, path: &str, error: io::Error) -> FolderFault
     ensures { result ≡ fault_of (error_kind error) }
 {
     match error.kind() {
@@ -267,7 +261,11 @@ pub(crate) fn make_one<S: System>(system: &mut S, dir: &str) -> io::Result<()>
     match system.make_folder(dir) {
         Ok(()) => system.sync_folder(folder_of(dir)),
         Err(error) if error.kind() == ErrorKind::AlreadyExists => {
-            if system.is_folder(dir)? { Ok(()) } else { Err(error) }
+            if system.is_folder(dir)? {
+                Ok(())
+            } else {
+                Err(error)
+            }
         }
         Err(error) => Err(error),
     }

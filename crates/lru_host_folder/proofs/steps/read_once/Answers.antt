@@ -18,8 +18,11 @@ tries-preserved g c =
     let so_far = c.tries.invariant.reads in
     let again : error_kind c.in-Err.error ≡ Interrupted = search rules in
     record {
-      reads = (suc so_far.0, c.in-Err.ensures.noted ∙ ap (λ (k : ErrorKind). g.S.System.book.note (g.S.System.book.notes c.tries.system) (Failed k)) again
-          ∙ ap (λ m. g.S.System.book.note m (Failed Interrupted)) so_far.1);
+      reads = (
+        suc so_far.0,
+        c.in-Err.ensures.noted ∙ ap (λ (k : ErrorKind). g.S.System.book.note (g.S.System.book.notes c.tries.system) (Failed k)) again
+            ∙ ap (λ m. g.S.System.book.note m (Failed Interrupted)) so_far.1,
+      );
       place = c.read.ensures.place ∙ c.tries.invariant.place;
     }
 

@@ -14,5 +14,11 @@ returns-in-Err-is_file-clause-reason g c =
 
 pub returns-in-Err-sync_folder-clause-reason : goal.returns-in-Err-sync_folder-clause-reason
 returns-in-Err-sync_folder-clause-reason g c =
-    inr (error_kind c.in-Err-sync_folder.error, (before g.S.System.book.note _ _ _ _ (Done (Renames c.args.from.now c.args.to.now) ∷ []) c.in_default.ensures
-    (failed g.S.System.book.note _ _ _ c.in-Err-sync_folder.ensures), inr c.refused-in-Err-sync_folder.ensures))
+    inr (
+      error_kind c.in-Err-sync_folder.error,
+      (
+        before g.S.System.book.note _ _ _ _ (Done (Renames c.args.from.now c.args.to.now) ∷ []) c.in_default.ensures
+            (failed g.S.System.book.note _ _ _ c.in-Err-sync_folder.ensures),
+        inr c.refused-in-Err-sync_folder.ensures,
+      ),
+    )
