@@ -1,4 +1,8 @@
 //! The operating system that the program runs on.
+ghost use Rattle.std.specs.Prelude.{OnOk};
+ghost use Rattle.std.specs.Io.{ReadsAtMost};
+ghost use Rattle.std.specs.Io.KnownBytes.{Appends, Keeps, ReadConsumes};
+
 use crate::claim::Claim;
 use crate::system::System;
 use log::{Log, warn};
@@ -86,11 +90,16 @@ where
         Ok(is_same(&file.metadata()?, &fs::symlink_metadata(&self.rt, path)?))
     }
 
-    fn write(&mut self, file: &mut R::File, piece: &[u8]) -> io::Result<()> {
+    // Of a file whose bytes are known, all of the piece is put behind them.
+    fn write(&mut self, file: &mut R::File, piece: &[u8]) -> io::Result<()>
+        ensures bytes { OnOk result (Appends (R.File.contents file.old) (R.File.contents file.new) piece.now) }
+    {
         file.write_all(piece)
     }
 
-    fn flush(&mut self, file: &mut R::File) -> io::Result<()> {
+    fn flush(&mut self, file: &mut R::File) -> io::Result<()>
+        ensures bytes { Keeps (R.File.contents file.old) (R.File.contents file.new) }
+    {
         file.flush()
     }
 
@@ -98,7 +107,11 @@ where
         file.sync_all()
     }
 
-    fn read(&mut self, file: &mut R::File, piece: &mut [u8]) -> io::Result<usize> {
+    // Of a file whose bytes are known, the next of them are read.
+    fn read(&mut self, file: &mut R::File, piece: &mut [u8]) -> io::Result<usize>
+        ensures bound { ReadsAtMost result piece.new }
+        ensures bytes { ReadConsumes (R.File.remaining file.old) (R.File.remaining file.new) result piece.new }
+    {
         file.read(piece)
     }
 

@@ -48,8 +48,16 @@ fn answers_each(
     for failing in 0..100usize {
         let mut folder = SystemFolder::over(Script::new(alloc, failing, kind, leftover));
         let saved = save(&mut folder);
-        let loaded = if saved.is_ok() { load(&mut folder).map(|_| ()) } else { saved };
-        let answer = if folder.system().has_failed() { Err(told) } else { Ok(()) };
+        let loaded = if saved.is_ok() {
+            load(&mut folder).map(|_| ())
+        } else {
+            saved
+        };
+        let answer = if folder.system().has_failed() {
+            Err(told)
+        } else {
+            Ok(())
+        };
         if loaded != answer {
             return None;
         }
@@ -63,14 +71,23 @@ fn answers_each(
 #[test]
 fn each_call_that_fails_is_answered(rt: HostRuntime) -> Result<(), Fail> {
     let alloc = rt.alloc();
-    assert_eq!(rt; answers_each(alloc, ErrorKind::PermissionDenied, false, FolderFault::Io), Some(26));
-    assert_eq!(rt; answers_each(alloc, ErrorKind::StorageFull, false, FolderFault::Io), Some(26));
+    assert_eq!(rt;
+        answers_each(alloc, ErrorKind::PermissionDenied, false, FolderFault::Io),
+        Some(26)
+    );
+    assert_eq!(rt;
+        answers_each(alloc, ErrorKind::StorageFull, false, FolderFault::Io),
+        Some(26)
+    );
     Ok(())
 }
 
 #[test]
 fn each_call_that_fails_over_a_leftover_is_answered(rt: HostRuntime) -> Result<(), Fail> {
     let alloc = rt.alloc();
-    assert_eq!(rt; answers_each(alloc, ErrorKind::PermissionDenied, true, FolderFault::Io), Some(32));
+    assert_eq!(rt;
+        answers_each(alloc, ErrorKind::PermissionDenied, true, FolderFault::Io),
+        Some(32)
+    );
     Ok(())
 }

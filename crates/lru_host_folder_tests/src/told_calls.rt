@@ -59,6 +59,9 @@ fn a_read_that_is_interrupted_is_made_again(rt: HostRuntime) -> Result<(), Fail>
     let mut folder = SystemFolder::over(script);
     folder.open("f")?;
     assert_eq!(rt; folder.read(3)?.as_slice(), b"xxx".as_slice());
-    assert_eq!(rt; folder.system().told(), "is file f\nopen f\nlen\nread\nread\n");
+    assert_eq!(rt;
+        folder.system().told(),
+        "is file f\nopen f\nlen\nread\nread\n"
+    );
     Ok(())
 }
