@@ -1,15 +1,14 @@
 -- What a save of the next checkpoint leaves.
-use Rattle.std.specs.Prelude.{◌≡◌, ◌⊎◌, ◌<◌, ◌≤◌, ◌^◌, ◌↔◌, ℕ, List, Option, Some, None, is_some, Contains}
+use Rattle.std.specs.Prelude.{◌≡◌, ◌⊎◌, ◌<◌, ◌≤◌, ℕ, List, Option, Some, None, is_some, Contains}
 use Rattle.std.specs.FinMap.{get}
 use Rattle.lru_folder.specs.Files.{Files}
 use Rattle.lru_folder.specs.Folder.{LeavesOnly}
 use Rattle.lru_folder.specs.Losses.{LosesOnly}
 use Rattle.lru_folder.specs.Meaning.{Meaning}
-use Rattle.lru_frames.specs.declared.mark.Mark.{Mark}
 use Rattle.lru_frames.specs.declared.row.Row.{Row}
 use Rattle.lru_manifests.specs.declared.names.PartName.{PartName}
 use Rattle.lru_manifests.specs.Listing.{HasParts, IsAbove, IsLeftover}
-use Rattle.lru_manifests.specs.Names.{IsPart, generation_of, part_path, manifest_path, manifest_temp_path}
+use Rattle.lru_manifests.specs.Names.{IsPart, generation_of, part_path, manifest_temp_path}
 use Rattle.lru_synced_folder.specs.Names.{IsIn}
 use Rattle.lru_checkpoints.specs.declared.errors.CheckpointError.{CheckpointError}
 use Rattle.lru_checkpoints.specs.declared.errors.CheckpointError.TheVariants.{InUse, LastGeneration}
