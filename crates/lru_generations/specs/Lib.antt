@@ -2,3 +2,4 @@ pub mod Newest
 pub mod Faults
 pub mod Loaded
 pub mod Removing
+pub mod Told
