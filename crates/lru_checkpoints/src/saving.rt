@@ -127,6 +127,7 @@ pub fn save_manifest<F: Folder>(
         (manifest_path dir.now file_name.now manifest.now.generation) (manifest_bytes manifest.now.generation manifest.now.frames.items)
         (F.meaning.files folder.old) (F.meaning.loose folder.old) (F.meaning.files folder.old) (F.meaning.files folder.new)) }
     ensures fits { OnOk result (IsManifest manifest.now.generation manifest.now.frames.items) }
+    ensures told { IfErr result (λ error. IsUnnamed error → IsManifest manifest.now.generation manifest.now.frames.items) }
     ensures replaces { F.meaning.keeps folder.old → Replaces F.meaning (manifest_temp_path dir.now file_name.now manifest.now.generation)
         (manifest_path dir.now file_name.now manifest.now.generation) (manifest_bytes manifest.now.generation manifest.now.frames.items) folder.old folder.new }
     ensures firm { F.meaning.keeps folder.old → OnOk result ((q : List ℕ) → F.meaning.loose folder.new q

@@ -1,5 +1,4 @@
-pub mod Reasoned
 pub mod ForGood
-pub mod BeforeNames
 pub mod SavedNext
-pub mod Older
+pub mod Passing
+pub mod Refusals

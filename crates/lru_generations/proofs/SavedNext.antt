@@ -1,207 +1,397 @@
 -- What a save of the next checkpoint leaves.
-use Rattle.std.proofs.Common.{◌≡◌, ◌⊎◌, inl, inr, ⊎_elim, ℕ, suc, ◌<◌, ◌^◌, List, length, Option, Some, None, refl, sym, ◌∙◌, ap, subst, arith}
-use Rattle.lru_folder.specs.Files.{Files}
-use Rattle.lru_folder.specs.Losses.{IsFromStart}
+use Rattle.std.proofs.Common.{◌≡◌, ◌≢◌, ◌⊎◌, inl, inr, ⊎_elim, ℕ, suc, ◌<◌, ◌≤◌, ◌^◌, Bool, true, false, List, length, Option, Some, None, slice_get, refl, sym, ◌∙◌, ap, subst, arith}
+use Rattle.std.specs.Prelude.{is_some, Contains}
+use Rattle.std.specs.FinMap.{get}
+use Rattle.std.proofs.lemmas.Bool.{cases_lt}
+use Rattle.lru_folder.specs.Files.{Files, Same}
+use Rattle.lru_folder.specs.Folder.{LeavesOnly, Passes}
+use Rattle.lru_folder.specs.Losses.{IsFromStart, Loses, LosesOnly, looking}
 use Rattle.lru_folder.specs.Meaning.{Meaning}
+use Rattle.lru_folder.specs.Names.{has_slash}
 use Rattle.lru_folder.proofs.FilesLemmas.{alike}
-use Rattle.lru_folder.proofs.LossLemmas.{then_loses}
-use Rattle.lru_folder.proofs.Moments.{then_run}
-use Rattle.lru_manifests.specs.declared.manifest.Manifest.{Manifest}
-use Rattle.lru_manifests.specs.Manifests.{IsManifest}
-use Rattle.lru_manifests.specs.Names.{frame_path, manifest_path}
-use Rattle.lru_manifests.proofs.NameLaws.{one_frame_path, frame-apart-manifest, frame-apart-temp}
+use Rattle.lru_folder.proofs.LossLemmas.{then_loses, loses_on}
+use Rattle.lru_folder.proofs.Moments.{then_run, goes_on}
+use Rattle.lru_frames.specs.declared.row.Row.{Row}
+use Rattle.lru_synced_folder.specs.Names.{IsIn}
+use Rattle.lru_manifests.specs.declared.names.PartName.{PartName}
+use Rattle.lru_manifests.specs.declared.names.PartName.TheVariants.{Frame, Manifest, Temp}
+use Rattle.lru_manifests.specs.Listing.{HasParts, IsAbove, IsLeftover, IsTemp}
+use Rattle.lru_manifests.specs.Names.{IsPart, generation_of, part_path, part_text, frame_path, manifest_path}
+use Rattle.lru_manifests.proofs.NameLaws.{has_slash-part_text}
 use Rattle.lru_whole_files.specs.Touching.{IsSameBut, TouchesNothing, TouchesOnly}
-use Rattle.lru_whole_files.specs.Replacing.{IsOldOrReplaced, Replaces}
-use Rattle.lru_checkpoints.specs.Checkpoints.{Shards, manifest_of, IsPartOf, HasCheckpoint, HasFrames, IsOldOrNew, SavesCheckpoint}
-use Rattle.lru_checkpoints.proofs.Crashed.{one_manifest}
-use Rattle.lru_checkpoints.proofs.Saved.{get-below, leaves_more, loses_more}
-use Rattle.lru_generations.specs.Before.{before_path, IsBeforeFile, KeepsBefore, HasBefore, IsForGood, IsOldOrNext, IsSavedAfter, SavesAfter, SavesNext}
-use Rattle.lru_generations.proofs.BeforeNames.{before_apart, no_frame}
+use Rattle.lru_whole_files.proofs.Touched.{touches_more, touches_then}
+use Rattle.lru_checkpoints.specs.Checkpoints.{Shards, AreHandedOut, HasCheckpoint, HasNew, IsOldOrNew, IsPartOf, IsWhole, SavesCheckpoint}
+use Rattle.lru_checkpoints.proofs.Lists.{get-below, never}
+use Rattle.lru_checkpoints.proofs.Saved.{one_part, leaves_more, loses_more}
+use Rattle.lru_generations.specs.Newest.{IsNewest, IsWholeAt}
+use Rattle.lru_generations.specs.Saving.{AreNamed, IsForGood, IsLeft, IsNew, IsOld, IsOlder, IsSavedNext, IsSurveyed, IsUnused, SavesNext}
 
--- what is replaced is all that is touched
-module _ {F : Type 0} (meaning : Meaning F) (temp path bytes : List ℕ) (old new : F) where
-  abbrev Two : List ℕ → Type 0
-  Two q = (q ≡ temp) ⊎ (q ≡ path)
+-- an option that is none of its values is none
+none_or : {A : Type 0} (o : Option A) → ((x : A) → o ≡ Some x → ⊥) → o ≡ None
+none_or None isn = refl
+none_or (Some x) isn = absurd (isn x refl)
 
-  two_alone : (held : Files) (loose : List ℕ → Type 0) (was m : Files) → IsOldOrReplaced temp path bytes held loose was m → IsSameBut Two was m
-  two_alone held loose was m (inl same) = λ q other. same q (λ t. other (inl t))
-  two_alone held loose was m (inr r) = r.others
+nothing_there : {A : Type 0} (x : A) (b : Option A) → b ≡ None → b ≡ Some x → ⊥
+nothing_there x b none some = let f : ◌≡◌ {A = Option _} None (Some x) = sym none ∙ some in cc
 
-  pub replaces_touches : Replaces meaning temp path bytes old new → TouchesOnly meaning Two old new
-  replaces_touches h =
-      let held = meaning.files old in
-      let loose = meaning.loose old in
-      record {
-        any_moment = leaves_more meaning (IsOldOrReplaced temp path bytes held loose held) (IsSameBut Two held) (two_alone held loose held) old new h.any_moment;
-        any_loss = loses_more meaning (IsOldOrReplaced temp path bytes held loose) (IsSameBut Two) (two_alone held loose) old new h.any_loss;
-        loosens = λ q l. ⊎_elim (λ t. inl (inl t)) inr (h.loosens q l);
-      }
+-- what is told to be there is there
+some_of : {A : Type 0} (o : Option A) → is_some o ≡ true → (x : A) × (o ≡ Some x)
+some_of None h = absurd (never h)
+some_of (Some x) h = (x, refl)
 
-module _ {K V : Type 0} (key_bytes : K → List ℕ) (IsKey : K → Type 0) (data_bytes : V → List ℕ) (IsData : V → Type 0) (dir file_name : List ℕ) where
+-- of two numbers one is below the other, or they are one
+data Order (m n : ℕ) : Type 0 where
+  Below : m < n → Order m n
+  Alike : m ≡ n → Order m n
+  Above : n < m → Order m n
+
+order : (m n : ℕ) → Order m n
+order m n = elim (cases_lt m n) [
+  | inl lt ↦ Below lt
+  | inr le ↦ elim (cases_lt n m) [
+    | inl gt ↦ Above gt
+    | inr ge ↦ Alike (omega (arith, le, ge))
+  ]
+]
+
+-- an older part has a lower number than the one that is kept
+older_so : (newest : Option ℕ) (part : PartName) → IsOlder newest part → (g : ℕ) → ((n : ℕ) → newest ≡ Some n → n ≤ g) → generation_of part ≡ g → ⊥
+older_so None part older g high e = older
+older_so (Some n) part older g high e = let low = high n refl in omega (arith, low, older, e)
+
+-- what each loss leaves is told of the lost maps too
+module _ {F : Type 0} (meaning : Meaning F) (P : Files → Files → Type 0) (old new : F) where
+  abbrev Told : Files → Files → Type 0
+  Told was m = meaning.lost_since old (meaning.clock old) was × P was m
+
+  told_from : (m : Files) → IsFromStart meaning P old m → IsFromStart meaning Told old m
+  told_from m h = (h.0, (h.1.0, (h.1.0, h.1.1)))
+
+  pub with_lost : LosesOnly meaning P old new → LosesOnly meaning Told old new
+  with_lost h = record {
+    later = h.later;
+    each = λ m s. told_from m (h.each m s);
+    now = λ m s. told_from m (h.now m s);
+    before = λ t m le s. ⊎_elim inl (λ from. inr (told_from m from)) (h.before t m le s);
+  }
+
+module _ {K V : Type 0} (key_bytes : K → List ℕ) (IsKey : K → Type 0) (data_bytes : V → List ℕ) (IsData : V → Type 0) (dir file_name : List ℕ)
+    (HandsOut : ℕ → List (Row K V) → Type 0) (count : ℕ) (unslashed : has_slash file_name ≡ false) where
   abbrev Has : ℕ → Shards K V → Files → Type 0
   Has = HasCheckpoint key_bytes IsKey data_bytes IsData dir file_name
 
-  abbrev Before : List ℕ → Type 0
-  Before = IsBeforeFile dir file_name
+  abbrev New : ℕ → Files → Type 0
+  New = HasNew key_bytes IsKey data_bytes IsData dir file_name HandsOut count
 
-  module _ (newest : Option Manifest) (generation : ℕ) (shards : Shards K V) (small : length shards < 2 ^ 64) where
-    abbrev R : Files → Files → Type 0
-    R = IsSavedAfter key_bytes IsKey data_bytes IsData dir file_name newest generation shards
+  abbrev path_of : PartName → List ℕ
+  path_of part = part_path dir file_name part
 
-    abbrev New : Files → Files → Type 0
-    New = IsOldOrNew key_bytes IsKey data_bytes IsData dir file_name generation shards
+  -- the files of a generation that is read are the same
+  abbrev AreRead : ℕ → Files → Files → Type 0
+  AreRead g a b = (part : PartName) → IsPart part → ¬ IsTemp part → generation_of part ≡ g → get b (path_of part) ≡ get a (path_of part)
 
-    no_part : (q : List ℕ) → Before q → ¬ IsPartOf dir file_name (manifest_of generation shards) q
-    no_part = before_apart dir file_name (manifest_of generation shards) small
+  read_back : (g : ℕ) (a b : Files) → AreRead g a b → AreRead g b a
+  read_back g a b h part is isn e = sym (h part is isn e)
 
-    not_before : ¬ Before (manifest_path dir file_name)
-    not_before b = no_part (manifest_path dir file_name) b (inl refl)
+  -- a checkpoint moves with its files
+  moved : (g : ℕ) (shards : Shards K V) (a b : Files) → AreRead g a b → Has g shards a → Has g shards b
+  moved g shards a b same h = record {
+    marks = h.marks;
+    numbers = h.numbers;
+    few = h.few;
+    manifest = same (Manifest g) h.numbers.generation (λ t. t) refl ∙ h.manifest;
+    marked = h.marked;
+    fits = h.fits;
+    frames = λ shard rows at.
+        let inside : shard < length shards = get-below shards shard rows at in
+        same (Frame g shard) (h.numbers.generation, omega (arith, inside, h.marked.number, h.numbers.shards)) (λ t. t) refl ∙ h.frames shard rows at;
+  }
 
-    -- so long as the manifest before alone has changed
-    early : (was m : Files) → IsSameBut Before was m → R was m
-    early was m h = record { checkpoint = inl (h (manifest_path dir file_name) not_before); others = λ q part other. h q other }
-
-    -- once it stands
-    late : (was then m : Files) → IsSameBut Before was then → KeepsBefore dir file_name newest then → New then m → R was m
-    late was then m h keeps saved = record {
-      checkpoint = ⊎_elim
-          (λ same. inl (same ∙ h (manifest_path dir file_name) not_before))
-          (λ new. inr (new, λ manifest is. saved.others (before_path dir file_name) (no_part (before_path dir file_name) (inr refl)) ∙ keeps manifest is)) saved.checkpoint;
-      others = λ q part other. saved.others q part ∙ h q other;
-    }
-
-    module _ {F : Type 0} (meaning : Meaning F) (start mid : F) (first : TouchesOnly meaning Before start mid) where
-      from_early : (m : Files) → IsFromStart meaning (IsSameBut Before) start m → IsFromStart meaning R start m
-      from_early m h = (h.0, (h.1.0, early h.0 m h.1.1))
-
-      pub after_before : SavesAfter key_bytes IsKey data_bytes IsData dir file_name meaning newest generation shards start mid
-      after_before = record {
-        any_moment = leaves_more meaning (IsSameBut Before (meaning.files start)) (R (meaning.files start)) (early (meaning.files start)) start mid first.any_moment;
-        any_loss = loses_more meaning (IsSameBut Before) R early start mid first.any_loss;
+  -- the same files have the same
+  nothing_new : (found was m : Files) → IsSameBut (λ q. ⊥) was m → IsSavedNext key_bytes IsKey data_bytes IsData dir file_name HandsOut count found was m
+  nothing_new found was m same =
+      let stays : (g : ℕ) (shards : Shards K V) → Has g shards was → Has g shards m = λ g shards h. moved g shards was m (λ part is isn e. same (path_of part) (λ f. f)) h in
+      record {
+        stays = λ g shards h there. inl (stays g shards h);
+        newest = λ g shards h there top. stays g shards h;
+        comes = λ g shards h top. inl (moved g shards m was (λ part is isn e. sym (same (path_of part) (λ f. f))) h);
       }
 
-      module _ (new : F) (stands : KeepsBefore dir file_name newest (meaning.files mid)) (for_good : (m : Files) → meaning.lost_since mid (meaning.clock mid) m → KeepsBefore dir file_name newest m)
-          (second : SavesCheckpoint key_bytes IsKey data_bytes IsData dir file_name meaning generation shards mid new) where
-        from_late : (m : Files) → IsFromStart meaning New mid m → IsFromStart meaning R start m
-        from_late m h =
-            let was = first.any_loss.now h.0 h.1.0 in
-            (was.0, (was.1.0, late was.0 h.0 m was.1.1 (for_good h.0 h.1.0) h.1.1))
-
-        pub after_all : SavesAfter key_bytes IsKey data_bytes IsData dir file_name meaning newest generation shards start new
-        after_all = record {
-          any_moment = then_run meaning (IsSameBut Before (meaning.files start)) (New (meaning.files mid)) (R (meaning.files start)) start mid new
-              first.any_moment second.any_moment (early (meaning.files start)) (λ m s. late (meaning.files start) (meaning.files mid) m first.any_moment.now stands s);
-          any_loss = record {
-            later = omega (arith, first.any_loss.later, second.any_loss.later);
-            each = λ m s. ⊎_elim (λ b. from_early m (first.any_loss.each m b)) (from_late m) (second.any_loss.before (meaning.clock start) m first.any_loss.later s);
-            now = λ m s. from_late m (second.any_loss.now m s);
-            before = λ t m le s. ⊎_elim (λ b. ⊎_elim inl (λ h. inr (from_early m h)) (first.any_loss.before t m le b)) (λ h. inr (from_late m h))
-                (second.any_loss.before t m (omega (arith, le, first.any_loss.later)) s);
-          };
-        }
-
-  -- files that are the same
-  pub old_same : (generation : ℕ) (rows : Shards K V) (was m : Files) → IsSameBut (λ q. ⊥) was m → Has generation rows was → Has generation rows m
-  old_same generation rows was m same h = subst (λ (f : Files). Has generation rows f) (sym (alike m was (λ q. same q (λ x. x)))) h
-
-  module _ (generation : ℕ) (rows shards : Shards K V) (numbers : IsManifest (manifest_of (suc generation) shards)) where
-    -- the frames of the old checkpoint stay
-    module _ (newest : Option Manifest) (was m : Files) (saved : IsSavedAfter key_bytes IsKey data_bytes IsData dir file_name newest (suc generation) shards was m) (h : Has generation rows was) where
-      other_part : (shard : ℕ) → shard < length rows → ¬ IsPartOf dir file_name (manifest_of (suc generation) shards) (frame_path dir file_name generation shard)
-      other_part shard below (inl e) = frame-apart-manifest dir file_name generation shard (omega (arith, below, h.numbers.shards)) e
-      other_part shard below (inr (inl e)) = frame-apart-temp dir file_name generation shard (omega (arith, below, h.numbers.shards)) e
-      other_part shard below (inr (inr f)) =
-          let same = one_frame_path dir file_name generation (suc generation) shard f.0 h.numbers.generation numbers.generation (omega (arith, below, h.numbers.shards)) (omega (arith, f.1, numbers.shards)) f.2 in
-          absurd (omega (arith, same.0))
-
-      still : HasFrames key_bytes data_bytes dir file_name (manifest_of generation rows) rows m
-      still = λ shard y at.
-          let below : shard < length rows = get-below rows shard y at in
-          saved.others (frame_path dir file_name generation shard) (other_part shard below) (no_frame dir file_name generation shard (omega (arith, below, h.numbers.shards))) ∙ h.frames shard y at
-
-      pub saved_so : newest ≡ Some (manifest_of generation rows) → IsOldOrNext key_bytes IsKey data_bytes IsData dir file_name generation rows shards m
-      saved_so is = ⊎_elim
-          (λ same. inl (record { numbers = h.numbers; manifest = same ∙ h.manifest; fits = h.fits; frames = still }))
-          (λ new. inr (new.0, record { numbers = h.numbers; manifest = new.1 (manifest_of generation rows) is; fits = h.fits; frames = still }))
-          saved.checkpoint
-
-  -- where the next one is there, so is the old one, as the one before
-  module _ (generation : ℕ) (rows shards : Shards K V) where
-    pub old_before : (m : Files) → IsOldOrNext key_bytes IsKey data_bytes IsData dir file_name generation rows shards m → Has (suc generation) shards m
-        → HasBefore key_bytes IsKey data_bytes IsData dir file_name generation rows m
-    old_before m (inr both) new = both.1
-    old_before m (inl old) new =
-        let same = one_manifest (manifest_of generation rows) (manifest_of (suc generation) shards) old.numbers new.numbers (sym old.manifest ∙ new.manifest) in
-        absurd (omega (arith, ap (λ (n : Manifest). n.generation) same))
-
-  -- The newest checkpoint is looked for, and the next one is saved.
-  module _ (shards : Shards K V) {F : Type 0} (meaning : Meaning F) (start one : F) (looked : TouchesNothing meaning start one) where
+  -- what a save found
+  module _ (found : Files) (parts : List PartName) (newest : Option ℕ) (generation : ℕ) (low : generation < 2 ^ 64) (survey : IsSurveyed dir file_name found parts newest generation) where
     abbrev Next : Files → Files → Type 0
-    Next was m = (generation : ℕ) (rows : Shards K V) → Has generation rows was → Has generation rows (meaning.files start)
-        → IsOldOrNext key_bytes IsKey data_bytes IsData dir file_name generation rows shards m
+    Next = IsSavedNext key_bytes IsKey data_bytes IsData dir file_name HandsOut count found
 
-    abbrev NextNow : Files → Type 0
-    NextNow m = (generation : ℕ) (rows : Shards K V) → Has generation rows (meaning.files start) → IsOldOrNext key_bytes IsKey data_bytes IsData dir file_name generation rows shards m
+    abbrev Left : List ℕ → Type 0
+    Left = IsLeft dir file_name parts
 
-    still_old : (was m : Files) → IsSameBut (λ q. ⊥) was m → Next was m
-    still_old was m same generation rows h stands = inl (old_same generation rows was m same h)
+    abbrev Old : List ℕ → Type 0
+    Old = IsOld dir file_name newest
 
-    still_now : (m : Files) → IsSameBut (λ q. ⊥) (meaning.files start) m → NextNow m
-    still_now m same generation rows h = inl (old_same generation rows (meaning.files start) m same h)
+    abbrev OldOrNew : Files → Files → Type 0
+    OldOrNew = IsOldOrNew key_bytes IsKey data_bytes IsData dir file_name HandsOut count generation
 
-    pub looked_next : SavesNext key_bytes IsKey data_bytes IsData dir file_name meaning shards start one
-    looked_next = record {
-      any_moment = leaves_more meaning (IsSameBut (λ q. ⊥) (meaning.files start)) NextNow still_now start one looked.any_moment;
-      any_loss = loses_more meaning (IsSameBut (λ q. ⊥)) Next still_old start one looked.any_loss;
-    }
+    is_among : (part : PartName) → IsPart part → (bytes : List ℕ) → get found (path_of part) ≡ Some bytes → Contains parts part
+    is_among part is bytes there = (survey.listed.there part is).1 (bytes, there)
 
-    module _ (same : meaning.files one ≡ meaning.files start) (new : F) where
-      -- of what was saved after that manifest
-      module _ (newest : Option Manifest) (number : ℕ) (numbers : IsManifest (manifest_of number shards))
-          (saves : SavesAfter key_bytes IsKey data_bytes IsData dir file_name meaning newest number shards one new)
-          (known : (generation : ℕ) (rows : Shards K V) → Has generation rows (meaning.files start) → (newest ≡ Some (manifest_of generation rows)) × (number ≡ suc generation)) where
-        abbrev After : Files → Files → Type 0
-        After = IsSavedAfter key_bytes IsKey data_bytes IsData dir file_name newest number shards
+    -- isn file of the new generation is there
+    pub unused : IsUnused dir file_name found generation
+    unused part is high =
+        let isn : (bytes : List ℕ) → get found (path_of part) ≡ Some bytes → ⊥ = λ bytes there. let within = survey.above part (is_among part is bytes there) in omega (arith, within, high) in
+        none_or (get found (path_of part)) isn
 
-        so : (was m : Files) → After was m → Next was m
-        so was m saved generation rows h stands =
-            let is = known generation rows stands in
-            saved_so generation rows shards (subst (λ n. IsManifest (manifest_of n shards)) is.1 numbers) newest was m
-            (subst (λ n. IsSavedAfter key_bytes IsKey data_bytes IsData dir file_name newest n shards was m) is.1 saved) h is.0
+    named_manifest : (was : Files) → AreNamed dir found was → (g : ℕ) → g < 2 ^ 64 → (bytes : List ℕ) → get was (manifest_path dir file_name g) ≡ Some bytes → Contains parts (Manifest g)
+    named_manifest was names g small bytes there =
+        let path = manifest_path dir file_name g in
+        let inside : IsIn dir path = (part_text file_name (Manifest g), (has_slash-part_text file_name (Manifest g) small ∙ unslashed, refl)) in
+        let is = some_of (get found path) (sym (names path inside) ∙ ap is_some there) in
+        is_among (Manifest g) small is.0 is.1
 
-        pub saves_next : SavesNext key_bytes IsKey data_bytes IsData dir file_name meaning shards start new
-        saves_next = record {
-          any_moment = then_run meaning (IsSameBut (λ q. ⊥) (meaning.files start)) (After (meaning.files one)) NextNow start one new looked.any_moment saves.any_moment still_now
-              (λ m saved generation rows h. so (meaning.files one) m saved generation rows (subst (λ (f : Files). Has generation rows f) (sym same) h) h);
-          any_loss = then_loses meaning (IsSameBut (λ q. ⊥)) After Next start one new looked.any_loss saves.any_loss still_old
-              (λ was then m alike saved generation rows h stands. so then m saved generation rows (old_same generation rows was then alike h) stands);
-        }
+    -- so it has a lower number
+    lower : (was : Files) → AreNamed dir found was → (g : ℕ) (shards : Shards K V) → Has g shards was → g < generation
+    lower was names g shards h = survey.above (Manifest g) (named_manifest was names g h.numbers.generation _ h.manifest)
 
-      -- of a whole save
-      pub next_later : SavesNext key_bytes IsKey data_bytes IsData dir file_name meaning shards one new → SavesNext key_bytes IsKey data_bytes IsData dir file_name meaning shards start new
-      next_later saves = record {
-        any_moment = then_run meaning (IsSameBut (λ q. ⊥) (meaning.files start)) (λ m. (generation : ℕ) (rows : Shards K V) → Has generation rows (meaning.files one)
-            → IsOldOrNext key_bytes IsKey data_bytes IsData dir file_name generation rows shards m) NextNow start one new looked.any_moment saves.any_moment still_now
-            (λ m saved generation rows h. saved generation rows (subst (λ (f : Files). Has generation rows f) (sym same) h));
-        any_loss = then_loses meaning (IsSameBut (λ q. ⊥)) (λ was m. (generation : ℕ) (rows : Shards K V) → Has generation rows was → Has generation rows (meaning.files one)
-            → IsOldOrNext key_bytes IsKey data_bytes IsData dir file_name generation rows shards m) Next start one new looked.any_loss saves.any_loss still_old
-            (λ was then m alike saved generation rows h stands. saved generation rows (old_same generation rows was then alike h) (subst (λ (f : Files). Has generation rows f) (sym same) stands));
+    -- a part that is read of a generation whose manifest is there is none of those left
+    not_left : (g : ℕ) → Contains parts (Manifest g) → (part : PartName) → IsPart part → ¬ IsTemp part → generation_of part ≡ g → ¬ Left (path_of part)
+    not_left g there part is isn e h =
+        let same : part ≡ h.0 = one_part dir file_name part h.0 is (survey.listed.fits h.0 h.1.0.0) h.1.1 in
+        ⊎_elim
+        (λ temp. isn (subst IsTemp (sym same) temp))
+        (λ lost. lost (subst (λ (n : ℕ). Contains parts (Manifest n)) (sym e ∙ ap generation_of same) there)) h.1.0.1
+
+    -- nor is a manifest, or a file of the new generation
+    no_manifest_left : (g : ℕ) → g < 2 ^ 64 → ¬ Left (manifest_path dir file_name g)
+    no_manifest_left g small h =
+        let same : Manifest g ≡ h.0 = one_part dir file_name (Manifest g) h.0 small (survey.listed.fits h.0 h.1.0.0) h.1.1 in
+        ⊎_elim (λ temp. let t : IsTemp (Manifest g) = subst IsTemp (sym same) temp in t)
+        (λ lost. lost (subst (λ (p : PartName). Contains parts p) (sym same ∙ ap (λ (n : ℕ). Manifest n) (ap generation_of same)) h.1.0.0)) h.1.0.1
+
+    -- what stands beside the new generation
+    apart : (g : ℕ) → g ≢ generation → (part : PartName) → IsPart part → generation_of part ≡ g → ¬ IsPartOf dir file_name generation (path_of part)
+    apart g other part is e h =
+        let same : part ≡ h.0 = one_part dir file_name part h.0 is h.1.0 h.1.1.1 in
+        other (sym e ∙ ap generation_of same ∙ h.1.1.0)
+
+    -- leftovers are gone, and then the new checkpoint is saved
+    abbrev Saved : Files → Files → Type 0
+    Saved was m = (then : Files) × (IsSameBut Left was then × OldOrNew then m)
+
+    module _ (was m : Files) (names : AreNamed dir found was) (saved : Saved was m) where
+      abbrev middle : Files
+      middle = saved.0
+
+      kept : (g : ℕ) → Contains parts (Manifest g) → AreRead g was middle
+      kept g there part is isn e = saved.1.0 (path_of part) (not_left g there part is isn e)
+
+      beside : (g : ℕ) → g ≢ generation → AreRead g middle m
+      beside g other part is isn e = saved.1.1.others (path_of part) (apart g other part is e)
+
+      pub stays_so : (g : ℕ) (shards : Shards K V) → Has g shards was → Has g shards m
+      stays_so g shards h =
+          let there = named_manifest was names g h.numbers.generation _ h.manifest in
+          let other : g ≢ generation = λ e. absurd (omega (arith, lower was names g shards h, e)) in
+          moved g shards middle m (beside g other) (moved g shards was middle (kept g there) h)
+
+      back : (g : ℕ) (shards : Shards K V) → g ≢ generation → Has g shards m → Has g shards was ⊎ ((g ≡ generation) × New generation m)
+      back g shards other h =
+          let then = moved g shards m middle (read_back g middle m (beside g other)) h in
+          let stood : get was (manifest_path dir file_name g) ≡ Some _ = sym (saved.1.0 (manifest_path dir file_name g) (no_manifest_left g h.numbers.generation)) ∙ then.manifest in
+          let there = named_manifest was names g h.numbers.generation _ stood in
+          inl (moved g shards middle was (read_back g was middle (kept g there)) then)
+
+      pub comes_so : (g : ℕ) (shards : Shards K V) → Has g shards m → Has g shards was ⊎ ((g ≡ generation) × New generation m)
+      comes_so g shards h = elim (order g generation) [
+        | Alike e ↦ ⊎_elim
+            (λ is.
+            let path = manifest_path dir file_name generation in
+            let stood : get was path ≡ Some _ = sym (saved.1.0 path (no_manifest_left generation low)) ∙ sym is ∙ ap (λ (n : ℕ). get m (manifest_path dir file_name n)) (sym e) ∙ h.manifest in
+            let within = survey.above (Manifest generation) (named_manifest was names generation low _ stood) in
+            absurd (omega (arith, within)))
+            (λ new. inr (e, new)) saved.1.1.checkpoint
+        | Below lt ↦ back g shards (λ e. absurd (omega (arith, lt, e))) h
+        | Above gt ↦ back g shards (λ e. absurd (omega (arith, gt, e))) h
+      ]
+
+      pub next_saved_so : Next was m
+      next_saved_so = record {
+        stays = λ g shards h there. inl (stays_so g shards h);
+        newest = λ g shards h there top. stays_so g shards h;
+        comes = λ g shards h top. ⊎_elim inl (λ is. inr (subst (λ (n : ℕ). IsUnused dir file_name found n) (sym is.0) unused, subst (λ (n : ℕ). New n m) (sym is.0) is.1)) (comes_so g shards h);
       }
 
-  -- each loss leaves the old one as the one before, once each leaves the next one
-  pub at_end : {F : Type 0} (meaning : Meaning F) (generation number : ℕ) (rows shards : Shards K V) (start new : F) → number ≡ suc generation
-      → SavesNext key_bytes IsKey data_bytes IsData dir file_name meaning shards start new → Has generation rows (meaning.files start)
-      → IsForGood key_bytes IsKey data_bytes IsData dir file_name meaning generation rows start → IsForGood key_bytes IsKey data_bytes IsData dir file_name meaning number shards new
-      → (m : Files) → meaning.lost_since new (meaning.clock new) m → HasBefore key_bytes IsKey data_bytes IsData dir file_name generation rows m
-  at_end meaning generation number rows shards start new is saves h good next m s =
-      let from = saves.any_loss.now m s in
-      old_before generation rows shards m (from.1.1 generation rows (good from.0 from.1.0) h) (subst (λ n. Has n shards m) is (next m s))
+    -- the newest whole generation, and all above it, are none of those
+    not_old : (g : ℕ) → ((n : ℕ) → newest ≡ Some n → n ≤ g) → (part : PartName) → IsPart part → generation_of part ≡ g → ¬ Old (path_of part)
+    not_old g high part is e h =
+        let same : part ≡ h.0 = one_part dir file_name part h.0 is h.1.0.0 h.1.1 in
+        older_so newest h.0 h.1.0.1 g high (sym (ap generation_of same) ∙ e)
 
--- the number after the newest manifest's
-pub next_is : {K V : Type 0} (newest : Option Manifest) (generation number : ℕ) (rows : Shards K V) → newest ≡ Some (manifest_of generation rows)
-    → ((newest ≡ None) × (number ≡ 0)) ⊎ ((manifest : Manifest) × ((newest ≡ Some manifest) × (number ≡ suc manifest.generation))) → number ≡ suc generation
-next_is newest generation number rows is (inl none) = absurd (let e : ◌≡◌ {A = Option Manifest} None (Some (manifest_of generation rows)) = sym none.0 ∙ is in let f : ⊥ = cc in f)
-next_is newest generation number rows is (inr next) =
-    let e : ◌≡◌ {A = Option Manifest} (Some next.0) (Some (manifest_of generation rows)) = sym next.1.0 ∙ is in
-    let same : next.0 ≡ manifest_of generation rows = cc in
-    next.1.1 ∙ ap (λ (n : Manifest). suc n.generation) same
+    -- the kept one is below the new one
+    kept_below : (n : ℕ) → newest ≡ Some n → n ≤ generation
+    kept_below n is =
+        let whole : IsWholeAt dir file_name found n = (subst (λ (o : Option ℕ). IsNewest dir file_name found o) is survey.top).0 in
+        let within = survey.above (Manifest n) (is_among (Manifest n) whole.1.numbers.generation _ whole.1.manifest) in
+        omega (arith, within)
+
+    -- a generation that is the newest whole one is the one that is kept
+    is_kept : (g : ℕ) → IsNewest dir file_name found (Some g) → (n : ℕ) → newest ≡ Some n → n ≤ g
+    is_kept g top n is = elim (cases_lt g n) [
+      | inl lt ↦ absurd (top.1 n lt (subst (λ (o : Option ℕ). IsNewest dir file_name found o) is survey.top).0)
+      | inr le ↦ le
+    ]
+
+    standing : (then m : Files) → IsSameBut Old then m → (g : ℕ) → ((n : ℕ) → newest ≡ Some n → n ≤ g) → AreRead g then m
+    standing then m gone g high part is isn e = gone (path_of part) (not_old g high part is e)
+
+    -- and what is older than the one that is kept is gone, once the new one is there for good
+    module _ (shards : Shards K V) (handed : AreHandedOut HandsOut count shards) (was then m : Files) (names : AreNamed dir found was) (saved : Saved was then) (it : Has generation shards then) (gone : IsSameBut Old then m) where
+      here : Has generation shards m
+      here = moved generation shards then m (standing then m gone generation kept_below) it
+
+      new_here : IsNew key_bytes IsKey data_bytes IsData dir file_name HandsOut count found generation m
+      new_here = (unused, (shards, (handed, here)))
+
+      pub next_all_so : Next was m
+      next_all_so = record {
+        stays = λ g rows h there. inr (generation, new_here);
+        newest = λ g rows h there top. moved g rows then m (standing then m gone g (is_kept g top)) (stays_so was then names saved g rows h);
+        comes = λ g rows h top. elim (order g generation) [
+          | Below lt ↦ absurd (top generation shards lt here)
+          | Alike e ↦ inr (subst (λ (n : ℕ). IsNew key_bytes IsKey data_bytes IsData dir file_name HandsOut count found n m) (sym e) new_here)
+          | Above gt ↦
+              let high : (n : ℕ) → newest ≡ Some n → n ≤ g = λ n is. omega (arith, kept_below n is, gt) in
+              ⊎_elim inl (λ is. absurd (omega (arith, is.0, gt))) (comes_so was then names saved g rows (moved g rows m then (read_back g then m (standing then m gone g high)) h))
+        ];
+      }
+
+    -- the runs of a save, one after the other
+    module _ {F : Type 0} (meaning : Meaning F) (start one : F) (found_is : meaning.files start ≡ found) (looked : TouchesNothing meaning start one)
+        (named : (m : Files) → meaning.lost_since one (meaning.clock one) m → AreNamed dir found m) where
+      abbrev Saves : F → Type 0
+      Saves = SavesNext key_bytes IsKey data_bytes IsData dir file_name HandsOut count meaning start
+
+      names_here : AreNamed dir found found
+      names_here q inside = refl
+
+      same_files : (was m : Files) → IsSameBut (λ q. ⊥) was m → m ≡ was
+      same_files was m same = alike m was (λ q. same q (λ f. f))
+
+      -- what a loss leaves from the survey on is so from the start on
+      losses : (new : F) → LosesOnly meaning (λ was m. meaning.lost_since one (meaning.clock one) was × Next was m) one new → LosesOnly meaning Next start new
+      losses new h = then_loses meaning (IsSameBut (λ q. ⊥)) (λ was m. meaning.lost_since one (meaning.clock one) was × Next was m) Next start one new looked.any_loss h
+          (λ was m same. nothing_new found was m same)
+          (λ was then m same next. subst (λ (f : Files). Next f m) (same_files was then same) next.1)
+
+      from_found : (P : Files → Type 0) → P found → P (meaning.files start)
+      from_found P h = subst P (sym found_is) h
+
+      abbrev Moment : Files → Type 0
+      Moment m = IsSavedNext key_bytes IsKey data_bytes IsData dir file_name HandsOut count (meaning.files start) (meaning.files start) m
+
+      moment : (m : Files) → Next found m → Moment m
+      moment m h = subst (λ (f : Files). IsSavedNext key_bytes IsKey data_bytes IsData dir file_name HandsOut count f f m) (sym found_is) h
+
+      loss_so : (new : F) → LosesOnly meaning Next start new → LosesOnly meaning (IsSavedNext key_bytes IsKey data_bytes IsData dir file_name HandsOut count (meaning.files start)) start new
+      loss_so new h = subst (λ (f : Files). LosesOnly meaning (IsSavedNext key_bytes IsKey data_bytes IsData dir file_name HandsOut count f) start new) (sym found_is) h
+
+      first : LeavesOnly meaning Moment start one
+      first = leaves_more meaning (IsSameBut (λ q. ⊥) (meaning.files start)) Moment
+          (λ m same. nothing_new (meaning.files start) (meaning.files start) m same) start one looked.any_moment
+
+      -- leftovers are removed
+      module _ (two : F) (removed : TouchesOnly meaning Left one two) where
+        left_saved : (was m : Files) → IsSameBut Left was m → Saved was m
+        left_saved was m h = (m, (h, record { checkpoint = inl refl; others = λ q other. refl }))
+
+        one_found : meaning.files one ≡ found
+        one_found = same_files (meaning.files start) (meaning.files one) looked.any_moment.now ∙ found_is
+
+        left_moment : (m : Files) → IsSameBut Left (meaning.files one) m → Moment m
+        left_moment m h = moment m (next_saved_so found m names_here (left_saved found m (subst (λ (f : Files). IsSameBut Left f m) one_found h)))
+
+        two_moments : LeavesOnly meaning Moment start two
+        two_moments = then_run meaning Moment (IsSameBut Left (meaning.files one)) Moment start one two first removed.any_moment (λ m h. h) left_moment
+
+        two_losses : LosesOnly meaning Saved one two
+        two_losses = loses_more meaning (IsSameBut Left) Saved left_saved one two removed.any_loss
+
+        told_next : (new : F) → LosesOnly meaning Saved one new → LosesOnly meaning Next start new
+        told_next new h = losses new
+            (loses_more meaning (λ was m. meaning.lost_since one (meaning.clock one) was × Saved was m) (λ was m. meaning.lost_since one (meaning.clock one) was × Next was m)
+            (λ was m s. (s.0, next_saved_so was m (named was s.0) s.1)) one new (with_lost meaning Saved one new h))
+
+        pub next_left : Saves two
+        next_left = record { any_moment = two_moments; any_loss = loss_so two (told_next two two_losses) }
+
+        -- the new checkpoint is saved, or not
+        module _ (three : F) (saves : SavesCheckpoint key_bytes IsKey data_bytes IsData dir file_name HandsOut count meaning generation two three) where
+          then_saved : (was then m : Files) → IsSameBut Left was then → OldOrNew then m → Saved was m
+          then_saved was then m h n = (then, (h, n))
+
+          two_left : IsSameBut Left found (meaning.files two)
+          two_left = subst (λ (f : Files). IsSameBut Left f (meaning.files two)) one_found removed.any_moment.now
+
+          three_moments : LeavesOnly meaning Moment start three
+          three_moments = then_run meaning Moment (OldOrNew (meaning.files two)) Moment start two three two_moments saves.any_moment (λ m h. h)
+              (λ m h. moment m (next_saved_so found m names_here (then_saved found (meaning.files two) m two_left h)))
+
+          three_losses : LosesOnly meaning Saved one three
+          three_losses = then_loses meaning (IsSameBut Left) OldOrNew Saved one two three removed.any_loss saves.any_loss left_saved then_saved
+
+          pub next_saved : Saves three
+          next_saved = record { any_moment = three_moments; any_loss = loss_so three (told_next three three_losses) }
+
+          -- and what is older is removed
+          module _ (new : F) (shards : Shards K V) (handed : AreHandedOut HandsOut count shards) (there : Has generation shards (meaning.files three))
+              (good : (m : Files) → meaning.lost_since three (meaning.clock three) m → Has generation shards m) (last : TouchesOnly meaning Old three new) where
+            three_saved : Saved found (meaning.files three)
+            three_saved = then_saved found (meaning.files two) (meaning.files three) two_left saves.any_moment.now
+
+            all_moments : LeavesOnly meaning Moment start new
+            all_moments = then_run meaning Moment (IsSameBut Old (meaning.files three)) Moment start three new three_moments last.any_moment (λ m h. h)
+                (λ m h. moment m (next_all_so shards handed found (meaning.files three) m names_here three_saved there h))
+
+            abbrev At_end : Files → Files → Type 0
+            At_end was m = Saved was m ⊎ ((then : Files) × (Saved was then × (meaning.lost_since three (meaning.clock three) then × IsSameBut Old then m)))
+
+            all_losses : LosesOnly meaning At_end one new
+            all_losses = then_loses meaning Saved (λ was m. meaning.lost_since three (meaning.clock three) was × IsSameBut Old was m) At_end one three new three_losses
+                (with_lost meaning (IsSameBut Old) three new last.any_loss) (λ was m s. inl s) (λ was then m s old. inr (then, (s, (old.0, old.1))))
+
+            end_so : (was m : Files) → meaning.lost_since one (meaning.clock one) was × At_end was m → meaning.lost_since one (meaning.clock one) was × Next was m
+            end_so was m h = (
+              h.0,
+              ⊎_elim (λ s. next_saved_so was m (named was h.0) s)
+                  (λ s. next_all_so shards handed was s.0 m (named was h.0) s.1.0 (good s.0 s.1.1.0) s.1.1.1) h.1,
+            )
+
+            pub next_all : Saves new
+            next_all = record {
+              any_moment = all_moments;
+              any_loss = loss_so new (losses new (loses_more meaning (λ was m. meaning.lost_since one (meaning.clock one) was × At_end was m)
+                  (λ was m. meaning.lost_since one (meaning.clock one) was × Next was m) end_so one new (with_lost meaning At_end one new all_losses)));
+            }
+
+            -- each loss leaves the new one
+            pub still_good : IsForGood key_bytes IsKey data_bytes IsData dir file_name meaning generation shards new
+            still_good m lost =
+                let was = last.any_loss.now m lost in
+                moved generation shards was.0 m (standing was.0 m was.1.1 generation kept_below) (good was.0 was.1.0)
+
+  -- where nothing is touched
+  pub next_nothing : {F : Type 0} (meaning : Meaning F) (start new : F) → TouchesNothing meaning start new → SavesNext key_bytes IsKey data_bytes IsData dir file_name HandsOut count meaning start new
+  next_nothing meaning start new looked = record {
+    any_moment = leaves_more meaning (IsSameBut (λ q. ⊥) (meaning.files start)) (IsSavedNext key_bytes IsKey data_bytes IsData dir file_name HandsOut count (meaning.files start) (meaning.files start))
+        (λ m same. nothing_new (meaning.files start) (meaning.files start) m same) start new looked.any_moment;
+    any_loss = loses_more meaning (IsSameBut (λ q. ⊥)) (IsSavedNext key_bytes IsKey data_bytes IsData dir file_name HandsOut count (meaning.files start))
+        (λ was m same. nothing_new (meaning.files start) was m same) start new looked.any_loss;
+  }
+
+  -- a call more that only looks
+  pub next_looked : {F : Type 0} (meaning : Meaning F) (start mid new : F) → SavesNext key_bytes IsKey data_bytes IsData dir file_name HandsOut count meaning start mid → Passes meaning Same mid new
+      → Loses meaning looking mid new → SavesNext key_bytes IsKey data_bytes IsData dir file_name HandsOut count meaning start new
+  next_looked meaning start mid new so_far time loss =
+      let R = IsSavedNext key_bytes IsKey data_bytes IsData dir file_name HandsOut count (meaning.files start) in
+      record {
+        any_moment = goes_on meaning (R (meaning.files start)) Same start mid new so_far.any_moment time (λ m is. subst (R (meaning.files start)) (sym is) so_far.any_moment.now);
+        any_loss = loses_on meaning R looking start mid new time.later so_far.any_loss loss (λ m none. absurd none);
+      }

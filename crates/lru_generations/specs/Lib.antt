@@ -1,2 +1,5 @@
-pub mod Before
-pub mod Reasons
+pub mod Newest
+pub mod Faults
+pub mod Loaded
+pub mod Removing
+pub mod Saving

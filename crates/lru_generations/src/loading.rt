@@ -1,42 +1,117 @@
-//! The checkpoint before the newest one, loaded.
-ghost use Rattle.std.specs.Prelude.{◌≡◌, ◌↔◌, ℕ, IfErr, IfOk, MatchResult, OnOk};
+//! The newest checkpoint loaded.
+ghost use Rattle.std.specs.Prelude.{◌≡◌, ◌↔◌, ◌⊎◌, ◌<◌, ℕ, List, false, AllPairs, IfErr, IfOk, OnOk};
+ghost use Rattle.lru_folder.specs.Names.{has_slash};
 ghost use Rattle.lru_whole_files.specs.Touching.{TouchesNothing};
-ghost use Rattle.lru_checkpoints.specs.Checkpoints.{Shards};
-ghost use Rattle.lru_checkpoints.specs.Loads.{AreSameShards, IsFault};
-ghost use Rattle.lru_generations.specs.Before.{HasBefore};
-ghost use Rattle.lru_generations.specs.Reasons.{IsRefusedBefore};
+ghost use Rattle.lru_checkpoints.specs.Checkpoints.{Shards, HasCheckpoint};
+ghost use Rattle.lru_checkpoints.specs.Loads.{IsFault, IsRefused, IsRefusedFrame};
+ghost use Rattle.lru_generations.specs.Faults.{IsFailed, IsUnlisted};
+ghost use Rattle.lru_generations.specs.Loaded.{IsLoaded, IsReadable, IsSameCheckpoint, number_of};
+ghost use Rattle.lru_generations.specs.Newest.{AreGenerations, ArePassed, HasAllManifests};
 
-use crate::before::before_name;
-use lru_checkpoints::errors::{CheckpointError, CheckpointFile};
-use lru_checkpoints::loading::{Checkpoint, load_frames, load_manifest};
+use crate::listing::parts_of;
+use crate::newest::{Passed, pass_over};
+use lru_checkpoints::errors::CheckpointError;
+use lru_checkpoints::loading::load_generation;
 use lru_folder::folder::Folder;
+use lru_frames::row::Row;
 use lru_frames::stored::Stored;
+use lru_manifests::listing::generations_of;
 use std::alloc::Global;
 
-/// Loads the checkpoint before the newest one: the rows of each of its shards, read from whole files of its generation, or an
-/// error and no rows. At every moment all files are as they were.
-///
-/// It is for a newest checkpoint that `load_checkpoint` finds damaged, which `CheckpointError::is_fault` tells from memory or a
-/// device that failed. The errors are those of `load_checkpoint`.
-pub fn load_before<F: Folder, K: Stored, V: Stored>(
+/// A checkpoint that was loaded.
+#[derive(Debug, Drop)]
+pub struct Checkpoint<K, V> {
+    /// Its number.
+    pub generation: u64,
+    /// The rows of each shard, from shard 0 on.
+    pub shards: Vec<Vec<Row<K, V>>>,
+}
+
+/// What a load found.
+#[derive(Debug, Drop)]
+pub struct Loaded<K, V> {
+    /// The newest checkpoint that can be read, where there is one.
+    pub newest: Option<Checkpoint<K, V>>,
+    /// The generations above it that have a manifest, the highest first.
+    pub passed: Vec<Passed>,
+}
+
+// Loads the first of these generations that can be read.
+fn load_newest<F: Folder, K: Stored, V: Stored>(
     alloc: Global,
     folder: &mut F,
     dir: &str,
     file_name: &str,
-) -> Result<Checkpoint<K, V>, CheckpointError>
-    // What is loaded stands there whole.
-    ensures found { F.meaning.keeps folder.old → IfOk result (λ checkpoint. HasBefore K.bytes_of K.is_value V.bytes_of V.is_value
-        dir.now file_name.now checkpoint.generation checkpoint.shards.items (F.meaning.files folder.old)) }
+    generations: &[u64],
+) -> Result<Loaded<K, V>, CheckpointError>
+    requires falling { AllPairs (λ first later. later < first) generations.now }
+    ensures loaded { F.meaning.keeps folder.old → HasAllManifests dir.now file_name.now (F.meaning.files folder.old) generations.now
+        → IfOk result (λ loaded. IsLoaded K.bytes_of K.is_value V.bytes_of V.is_value dir.now file_name.now (F.meaning.files folder.old) loaded.newest) }
+    ensures written { F.meaning.keeps folder.old → HasAllManifests dir.now file_name.now (F.meaning.files folder.old) generations.now
+        → (generation : ℕ) (shards : Shards K V)
+        → HasCheckpoint K.bytes_of K.is_value V.bytes_of V.is_value dir.now file_name.now generation shards (F.meaning.files folder.old)
+        → ((higher : ℕ) → generation < higher → ¬ IsReadable K.bytes_of K.is_value V.bytes_of V.is_value dir.now file_name.now (F.meaning.files folder.old) higher)
+        → IfOk result (λ loaded. IsSameCheckpoint K.is_same V.is_same generation shards loaded.newest) }
+    ensures passed { F.meaning.keeps folder.old → IfOk result (λ loaded. ArePassed
+        (λ generation error. IsRefused F.meaning (IsRefusedFrame F.meaning K.bytes_of K.is_value V.bytes_of V.is_value dir.now file_name.now)
+        dir.now file_name.now generation folder.old folder.new error)
+        generations.now (number_of loaded.newest) loaded.passed.items) }
+    ensures error { IfErr result IsFault }
+    ensures reason { F.meaning.keeps folder.old → IfErr result (IsFailed F.meaning folder.old folder.new) }
+    ensures touches { F.meaning.keeps folder.old → TouchesNothing F.meaning folder.old folder.new }
+    ensures files { F.meaning.keeps folder.old → F.meaning.files folder.new ≡ F.meaning.files folder.old }
+    ensures faults { F.meaning.keeps folder.old → OnOk result (F.meaning.faults folder.new ≡ F.meaning.faults folder.old) }
+    ensures places { F.meaning.keeps folder.old → F.meaning.folders folder.new ≡ F.meaning.folders folder.old }
+    ensures kept { F.meaning.keeps folder.old ↔ F.meaning.keeps folder.new }
+{
+    let mut passed = Vec::new(alloc);
+    for generation in generations {
+        let generation = *generation;
+        match load_generation(alloc, folder, dir, file_name, generation) {
+            Ok(shards) => {
+                let newest = Some(Checkpoint { generation, shards });
+                return Ok(Loaded { newest, passed });
+            }
+            Err(error) => pass_over(&mut passed, generation, error)?,
+        }
+    }
+    let newest = None;
+    Ok(Loaded { newest, passed })
+}
 
-    // What stands there whole is loaded, unless memory or the device fails.
+/// Loads the newest checkpoint: the whole one of the highest generation that can be read as such rows, or none where none can.
+/// A generation above it, which is not whole or not of such rows, is passed over. At every moment all files are as they were.
+///
+/// `Memory`: no memory was found. `Folder`: the folder was not listed or a file was not read, for which the device or memory is
+/// the reason, or the folder is not there. The other errors are never told.
+pub fn load<F: Folder, K: Stored, V: Stored>(
+    alloc: Global,
+    folder: &mut F,
+    dir: &str,
+    file_name: &str,
+) -> Result<Loaded<K, V>, CheckpointError>
+    requires { has_slash file_name.now ≡ false }
+
+    // Whatever the files are, what is loaded stands there whole, and nothing above it does; or nothing stands there whole.
+    ensures loaded { F.meaning.keeps folder.old → IfOk result (λ loaded.
+        IsLoaded K.bytes_of K.is_value V.bytes_of V.is_value dir.now file_name.now (F.meaning.files folder.old) loaded.newest) }
+
+    // The newest checkpoint that stands there whole is loaded.
     ensures written { F.meaning.keeps folder.old → (generation : ℕ) (shards : Shards K V)
-        → HasBefore K.bytes_of K.is_value V.bytes_of V.is_value dir.now file_name.now generation shards (F.meaning.files folder.old)
-        → MatchResult result
-        (λ checkpoint. (checkpoint.generation ≡ generation) × AreSameShards K.is_same V.is_same checkpoint.shards.items shards) IsFault }
+        → HasCheckpoint K.bytes_of K.is_value V.bytes_of V.is_value dir.now file_name.now generation shards (F.meaning.files folder.old)
+        → ((higher : ℕ) → generation < higher → ¬ IsReadable K.bytes_of K.is_value V.bytes_of V.is_value dir.now file_name.now (F.meaning.files folder.old) higher)
+        → IfOk result (λ loaded. IsSameCheckpoint K.is_same V.is_same generation shards loaded.newest) }
 
-    // An error tells which file was refused, and why.
-    ensures refused { F.meaning.keeps folder.old → IfErr result (IsRefusedBefore F.meaning K.bytes_of K.is_value V.bytes_of V.is_value
-        dir.now file_name.now folder.old folder.new) }
+    // Of the generations that have a manifest, those above it are passed over.
+    ensures passed { F.meaning.keeps folder.old → IfOk result (λ loaded. (generations : List ℕ)
+        × (AreGenerations dir.now file_name.now (F.meaning.files folder.old) generations
+        × ArePassed (λ generation error. IsRefused F.meaning (IsRefusedFrame F.meaning K.bytes_of K.is_value V.bytes_of V.is_value dir.now file_name.now)
+        dir.now file_name.now generation folder.old folder.new error)
+        generations (number_of loaded.newest) loaded.passed.items)) }
+
+    ensures error { IfErr result IsFault }
+    ensures reason { F.meaning.keeps folder.old → IfErr result (λ error. IsUnlisted F.meaning dir.now folder.old folder.new error
+        ⊎ IsFailed F.meaning folder.old folder.new error) }
 
     ensures touches { F.meaning.keeps folder.old → TouchesNothing F.meaning folder.old folder.new }
     ensures files { F.meaning.keeps folder.old → F.meaning.files folder.new ≡ F.meaning.files folder.old }
@@ -44,23 +119,7 @@ pub fn load_before<F: Folder, K: Stored, V: Stored>(
     ensures places { F.meaning.keeps folder.old → F.meaning.folders folder.new ≡ F.meaning.folders folder.old }
     ensures kept { F.meaning.keeps folder.old ↔ F.meaning.keeps folder.new }
 {
-    let Ok(name) = before_name(alloc, file_name) else {
-        return Err(CheckpointError::Memory);
-    };
-    let manifest = match load_manifest(alloc, folder, dir, &name) {
-        Err(error) => return Err(error),
-        Ok(None) => {
-            let file = CheckpointFile::Manifest;
-            return Err(CheckpointError::Missing { file });
-        }
-        Ok(Some(manifest)) => manifest,
-    };
-    let shards = match load_frames(alloc, folder, dir, file_name, &manifest) {
-        Err(error) => return Err(error),
-        Ok(shards) => shards,
-    };
-    Ok(Checkpoint {
-        generation: manifest.generation,
-        shards,
-    })
+    let parts = parts_of(alloc, folder, dir, file_name)?;
+    let generations = generations_of(alloc, &parts)?;
+    load_newest(alloc, folder, dir, file_name, &generations)
 }

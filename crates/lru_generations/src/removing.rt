@@ -1,76 +1,107 @@
-//! Frames of an older generation removed.
-ghost use Rattle.std.specs.Prelude.{◌≡◌, ◌↔◌, ◌<◌, ℕ, List, None, IfErr, OnOk};
+// Files of a checkpoint removed.
+ghost use Rattle.std.specs.Prelude.{◌≡◌, ◌↔◌, ℕ, List, None, Contains, IfErr, IfOk, OnOk, string_bytes};
 ghost use Rattle.std.specs.FinMap.{get};
-ghost use Rattle.lru_manifests.specs.Names.{frame_path};
+ghost use Rattle.lru_manifests.specs.declared.names.PartName.{PartName};
+ghost use Rattle.lru_manifests.specs.Names.{part_path};
 ghost use Rattle.lru_whole_files.specs.Touching.{TouchesOnly};
-ghost use Rattle.lru_checkpoints.specs.Checkpoints.{IsFrame};
-ghost use Rattle.lru_generations.specs.Reasons.{IsUnremoved};
+ghost use Rattle.lru_checkpoints.specs.Loads.{IsFault};
+ghost use Rattle.lru_generations.specs.Faults.{IsFailed};
+ghost use Rattle.lru_generations.specs.Removing.{IsPathOf, NamesOnly, file_of};
 
 use lru_checkpoints::errors::{CheckpointError, CheckpointFile};
 use lru_folder::folder::Folder;
-use lru_manifests::manifest::Manifest;
-use lru_manifests::names::frame_path;
+use lru_manifests::names::{PartName, frame_path, manifest_path, manifest_temp_path};
 use lru_whole_files::removing::remove_file;
-use std::alloc::Global;
+use std::alloc::{AllocError, Global};
 
-// Removes the frame of a shard, where it is there.
-fn remove_frame<F: Folder>(
+// The path of a part's file.
+fn part_path(
+    alloc: Global,
+    dir: &str,
+    file_name: &str,
+    part: PartName,
+) -> Result<String, AllocError>
+    ensures { IfOk result (λ path. string_bytes path ≡ part_path dir.now file_name.now part) }
+{
+    match part {
+        PartName::Frame { generation, shard } => {
+            frame_path(alloc, dir, file_name, generation, shard)
+        }
+        PartName::Manifest { generation } => manifest_path(alloc, dir, file_name, generation),
+        PartName::Temp { generation } => manifest_temp_path(alloc, dir, file_name, generation),
+    }
+}
+
+// The file that an error tells of.
+fn file_of(part: PartName) -> CheckpointFile
+    ensures { result ≡ file_of part }
+{
+    match part {
+        PartName::Frame { shard, .. } => CheckpointFile::Shard(shard),
+        PartName::Manifest { .. } => CheckpointFile::Manifest,
+        PartName::Temp { .. } => CheckpointFile::Manifest,
+    }
+}
+
+// Removes the file of a part, where it is there.
+pub(crate) fn remove_part<F: Folder>(
     alloc: Global,
     folder: &mut F,
     dir: &str,
     file_name: &str,
-    manifest: &Manifest,
-    shard: u64,
+    part: PartName,
 ) -> Result<(), CheckpointError>
-    ensures gone { F.meaning.keeps folder.old → OnOk result (get (F.meaning.files folder.new) (frame_path dir.now file_name.now manifest.now.generation shard) ≡ None) }
-    ensures touches { F.meaning.keeps folder.old → TouchesOnly F.meaning (λ q. q ≡ frame_path dir.now file_name.now manifest.now.generation shard) folder.old folder.new }
+    ensures gone { F.meaning.keeps folder.old → OnOk result (get (F.meaning.files folder.new) (part_path dir.now file_name.now part) ≡ None) }
+    ensures touches { F.meaning.keeps folder.old → TouchesOnly F.meaning (λ q. q ≡ part_path dir.now file_name.now part) folder.old folder.new }
     ensures firm { F.meaning.keeps folder.old → (q : List ℕ) → F.meaning.loose folder.new q → F.meaning.loose folder.old q }
-    ensures reason { F.meaning.keeps folder.old → IfErr result (IsUnremoved F.meaning folder.old folder.new) }
+    ensures error { IfErr result IsFault }
+    ensures named { (parts : List PartName) → Contains parts part → IfErr result (NamesOnly parts) }
+    ensures reason { F.meaning.keeps folder.old → IfErr result (IsFailed F.meaning folder.old folder.new) }
     ensures faults { F.meaning.keeps folder.old → OnOk result (F.meaning.faults folder.new ≡ F.meaning.faults folder.old) }
     ensures places { F.meaning.keeps folder.old → F.meaning.folders folder.new ≡ F.meaning.folders folder.old }
     ensures kept { F.meaning.keeps folder.old ↔ F.meaning.keeps folder.new }
 {
-    let Ok(path) = frame_path(alloc, dir, file_name, manifest.generation, shard) else {
+    let Ok(path) = part_path(alloc, dir, file_name, part) else {
         return Err(CheckpointError::Memory);
     };
     match remove_file(folder, &path) {
         Ok(_) => Ok(()),
         Err(fault) => {
-            let file = CheckpointFile::Shard(shard);
+            let file = file_of(part);
             Err(CheckpointError::Folder { file, fault })
         }
     }
 }
 
-/// Removes the frame of each shard of the checkpoint that this manifest tells of. At every moment no path but those of these
-/// frames changes, so each checkpoint of another generation stays as it is. A frame that is not there is passed over: a
-/// second call goes on where one failed.
-///
-/// `Memory`: no memory was found for a name. `Folder`: the frame of the shard that is named was not removed, for which the
-/// device or memory is the reason. The frames of the shards before it are gone. The other errors are never told.
-pub fn remove_generation<F: Folder>(
+// Removes the file of each of these parts, where it is there, one after the other. At every moment no other path changes.
+//
+// `Memory`: no memory was found for a path. `Folder`: the file that is named was not removed, for which the device or memory is
+// the reason; those of the parts before it are gone. The other errors are never told.
+pub(crate) fn remove_parts<F: Folder>(
     alloc: Global,
     folder: &mut F,
     dir: &str,
     file_name: &str,
-    manifest: &Manifest,
+    parts: &[PartName],
 ) -> Result<(), CheckpointError>
-    ensures gone { F.meaning.keeps folder.old → OnOk result ((shard : ℕ) → shard < manifest.now.shards
-        → get (F.meaning.files folder.new) (frame_path dir.now file_name.now manifest.now.generation shard) ≡ None) }
-    ensures touches { F.meaning.keeps folder.old → TouchesOnly F.meaning (IsFrame dir.now file_name.now manifest.now) folder.old folder.new }
+    ensures gone { F.meaning.keeps folder.old → OnOk result ((part : PartName) → Contains parts.now part
+        → get (F.meaning.files folder.new) (part_path dir.now file_name.now part) ≡ None) }
+    ensures touches { F.meaning.keeps folder.old → TouchesOnly F.meaning (IsPathOf dir.now file_name.now parts.now) folder.old folder.new }
 
     // No path becomes loose.
     ensures firm { F.meaning.keeps folder.old → (q : List ℕ) → F.meaning.loose folder.new q → F.meaning.loose folder.old q }
 
-    // An error names the call that failed, and it has its reason.
-    ensures reason { F.meaning.keeps folder.old → IfErr result (IsUnremoved F.meaning folder.old folder.new) }
+    // An error names the file that was not removed, and it has its reason.
+    ensures error { IfErr result IsFault }
+    ensures named { IfErr result (NamesOnly parts.now) }
+    ensures reason { F.meaning.keeps folder.old → IfErr result (IsFailed F.meaning folder.old folder.new) }
 
     ensures faults { F.meaning.keeps folder.old → OnOk result (F.meaning.faults folder.new ≡ F.meaning.faults folder.old) }
     ensures places { F.meaning.keeps folder.old → F.meaning.folders folder.new ≡ F.meaning.folders folder.old }
     ensures kept { F.meaning.keeps folder.old ↔ F.meaning.keeps folder.new }
 {
-    for shard in 0..manifest.shards {
-        remove_frame(alloc, folder, dir, file_name, manifest, shard)?;
+    for part in parts {
+        remove_part(alloc, folder, dir, file_name, *part)?;
     }
     Ok(())
 }

@@ -1,0 +1,74 @@
+// What a save finds in its folder.
+ghost use Rattle.std.specs.Prelude.{◌≡◌, ◌↔◌, ◌<◌, ◌^◌, ℕ, List, false, IfErr, IfOk, OnOk};
+ghost use Rattle.lru_folder.specs.Files.{Files};
+ghost use Rattle.lru_folder.specs.Names.{has_slash};
+ghost use Rattle.lru_whole_files.specs.Touching.{TouchesNothing};
+ghost use Rattle.lru_generations.specs.Saving.{AreNamed, IsSurveyed, IsUnsaved};
+
+use crate::listing::parts_of;
+use crate::newest::{Newest, newest_whole};
+use crate::syncing::{claim, sync_names};
+use lru_checkpoints::errors::CheckpointError;
+use lru_manifests::listing::{generation_above, generations_of};
+use lru_manifests::names::PartName;
+use lru_synced_folder::synced_folder::SyncedFolder;
+use std::alloc::Global;
+
+// What a save finds.
+#[derive(Debug, Drop)]
+pub(crate) struct Surveyed {
+    // The parts that have a file.
+    pub(crate) parts: Vec<PartName>,
+    // The newest generation that is whole, and those above it that are not.
+    pub(crate) newest: Newest,
+    // The least number above all.
+    pub(crate) generation: u64,
+}
+
+// Claims the folder, looks at what is in it, and syncs its names, so that no loss of power brings back a name that is not there.
+//
+// `InUse`: another save has it. `LastGeneration`: the greatest number is in use. The other errors are faults.
+pub(crate) fn survey<F: SyncedFolder>(
+    alloc: Global,
+    folder: &mut F,
+    dir: &str,
+    file_name: &str,
+) -> Result<Surveyed, CheckpointError>
+    requires { has_slash file_name.now ≡ false }
+    ensures found { F.meaning.keeps folder.old → IfOk result (λ seen. IsSurveyed dir.now file_name.now (F.meaning.files folder.old)
+        seen.parts.items seen.newest.generation seen.generation) }
+    ensures fits { IfOk result (λ seen. seen.generation < 2 ^ 64) }
+    ensures named { F.meaning.keeps folder.old → OnOk result ((m : Files) → F.meaning.lost_since folder.new (F.meaning.clock folder.new) m
+        → AreNamed dir.now (F.meaning.files folder.old) m) }
+    ensures error { F.meaning.keeps folder.old → IfErr result IsUnsaved }
+    ensures touches { F.meaning.keeps folder.old → TouchesNothing F.meaning folder.old folder.new }
+    ensures files { F.meaning.keeps folder.old → F.meaning.files folder.new ≡ F.meaning.files folder.old }
+    ensures places { F.meaning.keeps folder.old → F.meaning.folders folder.new ≡ F.meaning.folders folder.old }
+    ensures kept { F.meaning.keeps folder.old ↔ F.meaning.keeps folder.new }
+{
+    if let Err(error) = claim(folder, dir) {
+        return Err(error);
+    }
+    let parts = match parts_of(alloc, folder, dir, file_name) {
+        Err(error) => return Err(error),
+        Ok(parts) => parts,
+    };
+    let Some(generation) = generation_above(&parts) else {
+        return Err(CheckpointError::LastGeneration);
+    };
+    let Ok(generations) = generations_of(alloc, &parts) else {
+        return Err(CheckpointError::Memory);
+    };
+    let newest = match newest_whole(alloc, folder, dir, file_name, &generations) {
+        Err(error) => return Err(error),
+        Ok(newest) => newest,
+    };
+    match sync_names(folder, dir) {
+        Err(error) => Err(error),
+        Ok(()) => Ok(Surveyed {
+            parts,
+            newest,
+            generation,
+        }),
+    }
+}
