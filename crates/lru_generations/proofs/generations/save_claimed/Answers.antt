@@ -54,11 +54,11 @@ returns-clause-saves g c k =
     let survey = c.in-Ok.ensures.found k in
     let removed = subst (λ (xs : List PartName). TouchesOnly m (IsLeft c.args.dir.now c.args.file_name.now xs) one two) c.deref.ensures.value (c.remove_leftovers.ensures.touches k-1) in
     let three = c.save_for_good.new.folder in
-    let new = c.remove_older.new.folder in
+    let new = c.remove_older-removed.new.folder in
     let k-3 = c.save_for_good.ensures.kept.0 k-2 in
     let saved = c.in_default-save_for_good.ensures.saved k-2 in
     let fits : (part : PartName) → Contains c.deref-2.result.now part → IsPart part = λ part among. survey.listed.fits part (subst (λ (xs : List PartName). Contains xs part) c.deref-2.ensures.value among) in
-    let last = c.remove_older.ensures.touches k-3 fits in
+    let last = c.remove_older-removed.ensures.touches k-3 fits in
     next_all g.K.Stored.bytes_of g.K.Stored.is_value g.V.Stored.bytes_of g.V.Stored.is_value c.args.dir.now c.args.file_name.now (g.S.Source.hands_out c.args.source.now) (g.S.Source.count c.args.source.now) c.requires.name (m.files start) parts seen.newest.generation seen.generation c.in-Ok.ensures.fits survey m start one refl (c.survey.ensures.touches k) (c.in-Ok.ensures.named k) two removed three (c.save_for_good.ensures.saves k-2) new saved.0 saved.1.0 saved.1.1.0 saved.1.1.1 last
 
 pub returns-clause-for_good : goal.returns-clause-for_good
@@ -74,11 +74,11 @@ returns-clause-for_good g c k =
     let survey = c.in-Ok.ensures.found k in
     let removed = subst (λ (xs : List PartName). TouchesOnly m (IsLeft c.args.dir.now c.args.file_name.now xs) one two) c.deref.ensures.value (c.remove_leftovers.ensures.touches k-1) in
     let three = c.save_for_good.new.folder in
-    let new = c.remove_older.new.folder in
+    let new = c.remove_older-removed.new.folder in
     let k-3 = c.save_for_good.ensures.kept.0 k-2 in
     let saved = c.in_default-save_for_good.ensures.saved k-2 in
     let fits : (part : PartName) → Contains c.deref-2.result.now part → IsPart part = λ part among. survey.listed.fits part (subst (λ (xs : List PartName). Contains xs part) c.deref-2.ensures.value among) in
-    let last = c.remove_older.ensures.touches k-3 fits in
+    let last = c.remove_older-removed.ensures.touches k-3 fits in
     (saved.0, (saved.1.0, still_good g.K.Stored.bytes_of g.K.Stored.is_value g.V.Stored.bytes_of g.V.Stored.is_value c.args.dir.now c.args.file_name.now (g.S.Source.hands_out c.args.source.now) (g.S.Source.count c.args.source.now) c.requires.name (m.files start) parts seen.newest.generation seen.generation c.in-Ok.ensures.fits survey m start one refl (c.survey.ensures.touches k) (c.in-Ok.ensures.named k) two removed three (c.save_for_good.ensures.saves k-2) new saved.0 saved.1.0 saved.1.1.0 saved.1.1.1 last))
 
 pub returns-clause-next : goal.returns-clause-next
@@ -108,6 +108,6 @@ returns-clause-gone g c k =
     let survey = c.in-Ok.ensures.found k in
     let removed = subst (λ (xs : List PartName). TouchesOnly m (IsLeft c.args.dir.now c.args.file_name.now xs) one two) c.deref.ensures.value (c.remove_leftovers.ensures.touches k-1) in
     let k-3 = c.save_for_good.ensures.kept.0 k-2 in
-    on_ok c.remove_older.result _ _
+    on_ok c.remove_older-removed.result _ _
     (λ all part bytes is older there. all part (subst (λ (xs : List PartName). Contains xs part) (sym c.deref-2.ensures.value) ((survey.listed.there part is).1 (bytes, there))) older)
-    (c.remove_older.ensures.gone k-3)
+    (c.remove_older-removed.ensures.gone k-3)
