@@ -31,6 +31,7 @@ pub fn capture_cache<K: Hash + Clone + Drop, V: Clone + Drop, S: BuildHasher>(
 }
 
 /// A cache of which a checkpoint is saved: the one shard of it. Its entries are copied when they are asked for.
+#[derive(Drop)]
 pub struct CacheSource<'a, K: Hash, V> {
     /// The cache.
     pub cache: &'a Cache<K, V>,

@@ -35,6 +35,7 @@ pub fn capture_deadlines<K: Hash + Clone + Drop, V: Clone + Drop, S: BuildHasher
 }
 
 /// A cache with deadlines of which a checkpoint is saved: the one shard of it. Its entries are copied when they are asked for.
+#[derive(Drop)]
 pub struct DeadlineSource<'a, K: Hash, V> {
     /// The cache.
     pub cache: &'a DeadlineCache<K, V>,

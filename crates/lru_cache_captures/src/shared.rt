@@ -32,6 +32,7 @@ pub fn capture_shard<K: Hash + Clone + Drop, V: Clone + Drop, const N: usize, S:
 
 /// A shared cache of which a checkpoint is saved: its shards, from shard 0 on. Each is copied when it is asked for, at a moment
 /// of its own, and its lock is free again before the copies are encoded and saved.
+#[derive(Drop)]
 pub struct SharedSource<'a, R, K: Hash, V, const N: usize> {
     /// What waits for the locks.
     pub rt: &'a R,

@@ -1,5 +1,5 @@
 -- Rows copied out of the shards of an order, and put back.
-use Rattle.std.specs.Prelude.{◌≡◌, ◌⊎◌, ℕ, Bool, List, [], ◌∷◌, map, Result, Ok, Err, Vec}
+use Rattle.std.specs.Prelude.{◌≡◌, ◌⊎◌, ℕ, suc, Bool, List, [], ◌∷◌, map, Result, Ok, Err, Vec}
 use Rattle.std.specs.declared.alloc.Global.{Global}
 use Rattle.lru_frames.specs.declared.row.Row.{Row}
 use Rattle.lru_frames.specs.Copies.{AreEach}
@@ -7,8 +7,12 @@ use Rattle.lru_shard.specs.declared.unit.Refused.{Refused}
 use Rattle.lru_shard.specs.Row as order
 use Rattle.lru_rules.specs.Shards.{AreAtHome}
 use Rattle.lru_locks.specs.LruCalls.{MayInsertTail}
-use Rattle.lru_cores.specs.Core.{Core}
+use Rattle.lru_cores.specs.Core.{Core, list_at}
 use Rattle.lru_cores.specs.CoreCalls.{CoreInsertsTail}
+
+-- a row as the one that is put for it
+abbrev pub order_row : {V : Type 0} → Row ℕ V → order.Row (ℕ × V)
+order_row row = record { key = row.key; value = (row.key, row.data); weight = row.weight }
 
 module _ {V : Type 0} where
   module _ (IsClone : V → V → Type 0) where
@@ -55,3 +59,8 @@ module _ {V : Type 0} where
   MayPutShards n [] answer = answer ≡ Ok tt
   MayPutShards n (rows ∷ shards) answer = (MayPutEach n rows.items (Ok tt) × MayPutShards n shards answer)
       ⊎ ((refused : Refused (ℕ × V)) × ((answer ≡ Err refused) × MayPutEach n rows.items (Err refused)))
+
+  -- the shards from this one on have the rows that were put for these, and no others
+  abbrev pub ArePlaced : ℕ → List (Vec (Row ℕ V) Global) → Core (ℕ × V) → Type 0
+  ArePlaced shard [] core = Unit {0}
+  ArePlaced shard (rows ∷ shards) core = (list_at core shard ≡ map order_row rows.items) × ArePlaced (suc shard) shards core

@@ -27,6 +27,7 @@ pub fn capture_shard<V: Clone + Drop, const N: usize>(
 }
 
 /// A core of which a checkpoint is saved: its shards, from shard 0 on. Each is copied when it is asked for.
+#[derive(Drop)]
 pub struct CoreSource<'a, V, const N: usize> {
     /// The core.
     pub core: &'a LruCore<(u64, V), N>,

@@ -3,6 +3,7 @@
 #![tactic(auto)]
 
 pub mod cores;
+pub mod laws;
 pub mod locks;
 mod rows;
 pub mod snapshots;

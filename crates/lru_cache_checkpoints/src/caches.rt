@@ -1,0 +1,92 @@
+//! A cache of one owner saved and loaded.
+ghost use Rattle.std.specs.Prelude.{◌≡◌, ◌↔◌, ℕ, List, false, IfErr, IfOk, OnOk};
+ghost use Rattle.lru_folder.specs.Names.{has_slash};
+ghost use Rattle.lru_whole_files.specs.Touching.{TouchesNothing};
+ghost use Rattle.lru_checkpoints.specs.Checkpoints.{Shards, AreHandedOut};
+ghost use Rattle.lru_checkpoints.specs.Loads.{IsFault};
+ghost use Rattle.lru_generations.specs.Newest.{IsNewest};
+ghost use Rattle.lru_generations.specs.Saving.{IsForGood, IsUnsaved, IsUnused, SavesNext};
+ghost use Rattle.lru_cache_checkpoints.specs.Restores.{IsCopyOf, Restores};
+
+use crate::restored::{RestoreError, Restored};
+use lru_cache::cache::Cache;
+use lru_cache_captures::caches::{CacheSource, restore_shards};
+use lru_checkpoints::errors::CheckpointError;
+use lru_folder::folder::Folder;
+use lru_frames::stored::Stored;
+use lru_generations::generations::{Saved, save};
+use lru_generations::loading::{Checkpoint, Loaded, load};
+use lru_synced_folder::synced_folder::SyncedFolder;
+use std::alloc::Global;
+use std::hash::Hash;
+
+/// Saves the entries of a cache as the next checkpoint, of one shard, as `save` of `lru_generations` does.
+pub fn save_cache<F: SyncedFolder, K: Hash + Clone + Stored, V: Clone + Stored>(
+    alloc: Global,
+    folder: &mut F,
+    dir: &str,
+    file_name: &str,
+    cache: &Cache<K, V>,
+) -> Result<Saved, CheckpointError>
+    requires { has_slash file_name.now ≡ false }
+
+    // What stood whole stands, until the new one stands whole; and nothing else comes to stand.
+    ensures saves { F.meaning.keeps folder.old → SavesNext K.bytes_of K.is_value V.bytes_of V.is_value
+        dir.now file_name.now (λ shard. IsCopyOf K.is_clone V.is_clone cache.now) 1 F.meaning folder.old folder.new }
+
+    // After an Ok each loss leaves the new one, in a generation of which there was no file.
+    ensures next { F.meaning.keeps folder.old → IfOk result (λ saved. IsUnused dir.now file_name.now (F.meaning.files folder.old) saved.generation) }
+    ensures for_good { F.meaning.keeps folder.old → IfOk result (λ saved. (shards : Shards K V) × (AreHandedOut (λ shard. IsCopyOf K.is_clone V.is_clone cache.now) 1 shards
+        × IsForGood K.bytes_of K.is_value V.bytes_of V.is_value dir.now file_name.now F.meaning saved.generation shards folder.new)) }
+    ensures newest { F.meaning.keeps folder.old → IfOk result (λ saved. IsNewest dir.now file_name.now (F.meaning.files folder.old) saved.kept) }
+
+    // Where neither memory nor the device failed, nothing was done.
+    ensures error { F.meaning.keeps folder.old → IfErr result IsUnsaved }
+    ensures untouched { F.meaning.keeps folder.old → IfErr result (λ error. ¬ IsFault error → F.meaning.files folder.new ≡ F.meaning.files folder.old) }
+
+    ensures places { F.meaning.keeps folder.old → F.meaning.folders folder.new ≡ F.meaning.folders folder.old }
+    ensures kept { F.meaning.keeps folder.old ↔ F.meaning.keeps folder.new }
+{
+    save(alloc, folder, dir, file_name, &CacheSource { cache })
+}
+
+/// Loads the newest checkpoint into a cache: its entries are put, those of each shard the last first, so that what was saved of a
+/// cache stands in an empty one as it stood. Where there is no checkpoint, nothing is put.
+pub fn load_cache<F: Folder, K: Hash + Default + Stored, V: Stored>(
+    alloc: Global,
+    folder: &mut F,
+    dir: &str,
+    file_name: &str,
+    cache: &mut Cache<K, V>,
+) -> Result<Restored, RestoreError<K, V>>
+    requires { has_slash file_name.now ≡ false }
+    ensures restores { F.meaning.keeps folder.old → Restores K.bytes_of K.is_value K.is_same V.bytes_of V.is_value V.is_same
+        dir.now file_name.now (F.meaning.files folder.old) K.eq cache.old result cache.new }
+
+    ensures touches { F.meaning.keeps folder.old → TouchesNothing F.meaning folder.old folder.new }
+    ensures files { F.meaning.keeps folder.old → F.meaning.files folder.new ≡ F.meaning.files folder.old }
+    ensures places { F.meaning.keeps folder.old → F.meaning.folders folder.new ≡ F.meaning.folders folder.old }
+    ensures kept { F.meaning.keeps folder.old ↔ F.meaning.keeps folder.new }
+{
+    let loaded = match load(alloc, folder, dir, file_name) {
+        Err(error) => return Err(RestoreError::Unloaded(error)),
+        Ok(loaded) => loaded,
+    };
+    let Loaded { newest, passed } = loaded;
+    let Some(checkpoint) = newest else {
+        return Ok(Restored {
+            generation: None,
+            left_out: 0,
+            passed,
+        });
+    };
+    let Checkpoint { generation, shards } = checkpoint;
+    match restore_shards(cache, shards) {
+        Err(refused) => Err(RestoreError::Refused(refused)),
+        Ok(left_out) => Ok(Restored {
+            generation: Some(generation),
+            left_out,
+            passed,
+        }),
+    }
+}

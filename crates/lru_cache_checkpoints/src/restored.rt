@@ -1,0 +1,26 @@
+//! What a load put back, or why it did not.
+
+use lru_cache::cache::Refused;
+use lru_checkpoints::errors::CheckpointError;
+use lru_generations::newest::Passed;
+
+/// What a load put back.
+#[derive(Debug, Drop)]
+pub struct Restored {
+    /// The number of the checkpoint that was loaded, where there is one.
+    pub generation: Option<u64>,
+    /// How many of its entries were left out, since each is too heavy by itself.
+    pub left_out: usize,
+    /// The generations above it that have a manifest and were passed over, the highest first.
+    pub passed: Vec<Passed>,
+}
+
+/// Why a checkpoint was not put back.
+#[derive(Debug, Drop)]
+pub enum RestoreError<K, V> {
+    /// None was loaded, and the cache is as it was.
+    Unloaded(CheckpointError),
+    /// An entry was refused for want of memory, or of a place. Key and value are handed back; those that were put before it are
+    /// there, and the others are dropped.
+    Refused(Refused<K, V>),
+}

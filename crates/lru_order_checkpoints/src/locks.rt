@@ -1,0 +1,96 @@
+//! An order that threads share, saved and loaded.
+ghost use Rattle.std.specs.Prelude.{◌≡◌, ◌↔◌, ◌≤◌, ℕ, List, false, IfErr, IfOk, OnOk};
+ghost use Rattle.lru_folder.specs.Names.{has_slash};
+ghost use Rattle.lru_frames.specs.Words.{word};
+ghost use Rattle.lru_whole_files.specs.Touching.{TouchesNothing};
+ghost use Rattle.lru_order_captures.specs.Captures.{MayCopy};
+ghost use Rattle.lru_checkpoints.specs.Checkpoints.{Shards, AreHandedOut, most_shards};
+ghost use Rattle.lru_checkpoints.specs.Loads.{IsFault};
+ghost use Rattle.lru_generations.specs.Newest.{IsNewest};
+ghost use Rattle.lru_generations.specs.Saving.{IsForGood, IsUnsaved, IsUnused, SavesNext};
+ghost use Rattle.lru_order_checkpoints.specs.Restores.{IsSameWord, IsWord, MayRestore};
+
+use crate::restored::{RestoreError, Restored};
+use lru_checkpoints::errors::CheckpointError;
+use lru_folder::folder::Folder;
+use lru_frames::stored::Stored;
+use lru_generations::generations::{Saved, save};
+use lru_generations::loading::{Checkpoint, Loaded, load};
+use lru_locks::lru::Lru;
+use lru_order_captures::locks::{LruSource, restore_shards};
+use lru_synced_folder::synced_folder::SyncedFolder;
+use std::alloc::Global;
+use std::sync::Wait;
+
+/// Saves the rows of an order behind locks as the next checkpoint, of N shards, as `save` of `lru_generations` does. A shard is copied
+/// under its lock when its turn comes, and the lock is free again before its copies are encoded and written.
+pub fn save_lru<F: SyncedFolder, V: Clone + Stored, const N: usize>(
+    rt: &impl Wait,
+    alloc: Global,
+    folder: &mut F,
+    dir: &str,
+    file_name: &str,
+    lru: &Lru<(u64, V), N>,
+) -> Result<Saved, CheckpointError>
+    requires few { N ≤ most_shards }
+    requires name { has_slash file_name.now ≡ false }
+
+    // What stood whole stands, until the new one stands whole; and nothing else comes to stand.
+    ensures saves { F.meaning.keeps folder.old → SavesNext word IsWord V.bytes_of V.is_value
+        dir.now file_name.now (λ shard. MayCopy N shard V.is_clone) N F.meaning folder.old folder.new }
+
+    // After an Ok each loss leaves the new one, in a generation of which there was no file.
+    ensures next { F.meaning.keeps folder.old → IfOk result (λ saved. IsUnused dir.now file_name.now (F.meaning.files folder.old) saved.generation) }
+    ensures for_good { F.meaning.keeps folder.old → IfOk result (λ saved. (shards : Shards ℕ V) × (AreHandedOut (λ shard. MayCopy N shard V.is_clone) N shards
+        × IsForGood word IsWord V.bytes_of V.is_value dir.now file_name.now F.meaning saved.generation shards folder.new)) }
+    ensures newest { F.meaning.keeps folder.old → IfOk result (λ saved. IsNewest dir.now file_name.now (F.meaning.files folder.old) saved.kept) }
+
+    // Where neither memory nor the device failed, nothing was done.
+    ensures error { F.meaning.keeps folder.old → IfErr result IsUnsaved }
+    ensures untouched { F.meaning.keeps folder.old → IfErr result (λ error. ¬ IsFault error → F.meaning.files folder.new ≡ F.meaning.files folder.old) }
+
+    ensures places { F.meaning.keeps folder.old → F.meaning.folders folder.new ≡ F.meaning.folders folder.old }
+    ensures kept { F.meaning.keeps folder.old ↔ F.meaning.keeps folder.new }
+{
+    save(alloc, folder, dir, file_name, &LruSource { rt, lru })
+}
+
+/// Loads the newest checkpoint into an order behind locks: its rows are put last in the shards of their keys. Where there is no
+/// checkpoint, nothing is put.
+pub fn load_lru<F: Folder, V: Stored, const N: usize>(
+    rt: &impl Wait,
+    alloc: Global,
+    folder: &mut F,
+    dir: &str,
+    file_name: &str,
+    lru: &Lru<(u64, V), N>,
+) -> Result<Restored, RestoreError<V>>
+    requires { has_slash file_name.now ≡ false }
+    ensures restores { F.meaning.keeps folder.old → MayRestore word IsWord IsSameWord V.bytes_of V.is_value V.is_same
+        dir.now file_name.now (F.meaning.files folder.old) N result }
+
+    ensures touches { F.meaning.keeps folder.old → TouchesNothing F.meaning folder.old folder.new }
+    ensures files { F.meaning.keeps folder.old → F.meaning.files folder.new ≡ F.meaning.files folder.old }
+    ensures places { F.meaning.keeps folder.old → F.meaning.folders folder.new ≡ F.meaning.folders folder.old }
+    ensures kept { F.meaning.keeps folder.old ↔ F.meaning.keeps folder.new }
+{
+    let loaded = match load(alloc, folder, dir, file_name) {
+        Err(error) => return Err(RestoreError::Unloaded(error)),
+        Ok(loaded) => loaded,
+    };
+    let Loaded { newest, passed } = loaded;
+    let Some(checkpoint) = newest else {
+        return Ok(Restored {
+            generation: None,
+            passed,
+        });
+    };
+    let Checkpoint { generation, shards } = checkpoint;
+    match restore_shards(rt, lru, shards) {
+        Err(refused) => Err(RestoreError::Refused(refused)),
+        Ok(()) => Ok(Restored {
+            generation: Some(generation),
+            passed,
+        }),
+    }
+}

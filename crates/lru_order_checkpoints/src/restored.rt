@@ -1,0 +1,24 @@
+//! What a load put back, or why it did not.
+
+use lru_checkpoints::errors::CheckpointError;
+use lru_generations::newest::Passed;
+use lru_shard::unit::Refused;
+
+/// What a load put back.
+#[derive(Debug, Drop)]
+pub struct Restored {
+    /// The number of the checkpoint that was loaded, where there is one.
+    pub generation: Option<u64>,
+    /// The generations above it that have a manifest and were passed over, the highest first.
+    pub passed: Vec<Passed>,
+}
+
+/// Why a checkpoint was not put back.
+#[derive(Debug, Drop)]
+pub enum RestoreError<V> {
+    /// None was loaded, and the order is as it was.
+    Unloaded(CheckpointError),
+    /// A row was refused, as `insert_tail` refuses. It is handed back; those that were put before it are there, and the others
+    /// are dropped.
+    Refused(Refused<(u64, V)>),
+}
