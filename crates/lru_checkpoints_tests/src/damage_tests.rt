@@ -1,5 +1,7 @@
 //! Checkpoints whose files are changed, cut short, missing, or of another checkpoint: the older one is loaded in their place.
-use crate::fixture::{are_passed, empty, found_in, load_newest, names_in, save_as, save_next, two, with_other};
+use crate::fixture::{
+    are_passed, empty, found_in, load_newest, names_in, save_as, save_next, two, with_other,
+};
 use lru_checkpoints::errors::{CheckpointError, CheckpointFile};
 use lru_frames::errors::Part;
 use lru_memory_folder::memory_folder::MemoryFolder;
@@ -26,7 +28,9 @@ fn why_passed(
     let loaded = load_newest(alloc, &mut other)?;
     let after = names_in(alloc, &other)?;
     match loaded.passed.as_slice() {
-        [it] if found_in(&loaded) == Some((0, 10)) && it.generation == 1 && before == after => Ok(Some(it.error)),
+        [it] if found_in(&loaded) == Some((0, 10)) && it.generation == 1 && before == after => Ok(
+            Some(it.error),
+        ),
         _ => Ok(None),
     }
 }
@@ -140,7 +144,12 @@ fn files_of_other_checkpoints(rt: HostRuntime) -> Result<(), Fail> {
 fn no_mixture(rt: HostRuntime) -> Result<(), Fail> {
     let alloc = rt.alloc();
     let folder = two_of_each(alloc)?;
-    let mixed = with_other(alloc, &folder, "d/c.1.manifest", folder.get("d/e.1.manifest"))?;
+    let mixed = with_other(
+        alloc,
+        &folder,
+        "d/c.1.manifest",
+        folder.get("d/e.1.manifest"),
+    )?;
     let error = why_passed(alloc, &mixed, "d/c.1.0", folder.get("d/e.1.0"))?;
     let file = CheckpointFile::Shard(1);
     assert_eq!(rt; error, Some(CheckpointError::Other { file }));

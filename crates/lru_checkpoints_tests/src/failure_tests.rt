@@ -32,8 +32,9 @@ fn takes_away(alloc: Global, call: u64) -> Result<bool, CheckpointError> {
     folder.mend();
     let names = names_in(alloc, &folder)?;
     match saved {
-        Err(error) => Ok(names.as_str() == TWO
-            || may_be_named(error) && folder.get("d/c.2.0").is_some()),
+        Err(error) => Ok(
+            names.as_str() == TWO || may_be_named(error) && folder.get("d/c.2.0").is_some(),
+        ),
         Ok(saved) => Ok(saved.removed.is_err() || names.as_str() == LAST_TWO),
     }
 }

@@ -90,13 +90,8 @@ pub(crate) fn load_newest(
 fn number_in(shards: &Shards) -> Option<u64> {
     let number = shards.first()?.first()?.data;
     let is_whole = (shards.len() == 2)
-        && shards
-            .iter()
-            .zip(0u64..)
-            .all(|(rows, key)| (rows.len() == 1)
-                && rows
-                    .iter()
-                    .all(|row| (row.key == key) & (row.data == number) & (row.weight == 1)));
+        && shards.iter().zip(0u64..).all(|(rows, key)| (rows.len() == 1)
+            && rows.iter().all(|row| (row.key == key) & (row.data == number) & (row.weight == 1)));
     if is_whole { Some(number) } else { None }
 }
 
@@ -117,10 +112,9 @@ pub(crate) fn what_loads(
 // Whether these generations were passed over, for these reasons.
 pub(crate) fn are_passed(passed: &[Passed], wanted: &[(u64, CheckpointError)]) -> bool {
     (passed.len() == wanted.len())
-        && passed
-            .iter()
-            .zip(wanted.iter())
-            .all(|(it, (generation, error))| (it.generation == *generation) & (it.error == *error))
+        && passed.iter().zip(wanted.iter()).all(|(it, (generation, error))| (it.generation
+            == *generation)
+            & (it.error == *error))
 }
 
 // The files of a folder in a new one, but for one path, which has these bytes or is not there.

@@ -1,5 +1,8 @@
 //! Which checkpoints a save keeps and removes, also where the newest one is damaged, and how its generation is numbered.
-use crate::fixture::{are_passed, empty, found_in, load_as, load_newest, names_in, save_as, save_next, two, what_loads};
+use crate::fixture::{
+    are_passed, empty, found_in, load_as, load_newest, names_in, save_as, save_next, two,
+    what_loads,
+};
 use lru_checkpoints::errors::{CheckpointError, CheckpointFile};
 use lru_frames::errors::Part;
 use lru_generations::newest::Passed;
@@ -48,10 +51,12 @@ fn keeps_first(
     let saved = save_next(alloc, folder, 12)?;
     let names = names_in(alloc, folder)?;
     let is_told = (saved.generation == 2) & (saved.kept == Some(0)) & saved.removed.is_ok();
-    Ok(is_told
-        && are_passed(&saved.passed, &[(1, damage(file))])
-        && names.as_str()
-            == "c.0.0 c.0.1 c.0.manifest c.1.0 c.1.1 c.1.manifest c.2.0 c.2.1 c.2.manifest ")
+    Ok(
+        is_told
+            && are_passed(&saved.passed, &[(1, damage(file))])
+            && names.as_str()
+                == "c.0.0 c.0.1 c.0.manifest c.1.0 c.1.1 c.1.manifest c.2.0 c.2.1 c.2.manifest ",
+    )
 }
 
 // Whether the third checkpoint is loaded, and where it is damaged too the first, with both others told.
@@ -64,9 +69,11 @@ fn loads_first(
     let mut folder = folder.with("d/c.2.0", DAMAGE)?;
     let loaded = load_newest(alloc, &mut folder)?;
     let wanted = [(2, damage(CheckpointFile::Shard(0))), (1, damage(file))];
-    Ok(third == Some((2, 12))
-        && found_in(&loaded) == Some((0, 10))
-        && are_passed(&loaded.passed, &wanted))
+    Ok(
+        third == Some((2, 12))
+            && found_in(&loaded) == Some((0, 10))
+            && are_passed(&loaded.passed, &wanted),
+    )
 }
 
 // Whether all that is so where this file of the second checkpoint is damaged.

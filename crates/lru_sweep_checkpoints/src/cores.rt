@@ -37,11 +37,7 @@ fn filled(alloc: Global) -> Result<Option<Texts>, AllocError> {
     Ok(Some(core))
 }
 
-fn captured(
-    alloc: Global,
-    core: &Texts,
-    shard: usize,
-) -> Result<Vec<Row<u64, String>>, AllocError>
+fn captured(alloc: Global, core: &Texts, shard: usize) -> Result<Vec<Row<u64, String>>, AllocError>
     requires { shard < 2 }
 {
     match capture_shard(alloc, core, shard) {

@@ -34,7 +34,11 @@ pub fn folder(alloc: Global) -> Option<MemoryFolder> {
 }
 
 /// Saves what the source hands out; whether that was done.
-pub fn is_saved<S: Source<u64, String>>(alloc: Global, folder: &mut MemoryFolder, source: &S) -> bool
+pub fn is_saved<S: Source<u64, String>>(
+    alloc: Global,
+    folder: &mut MemoryFolder,
+    source: &S,
+) -> bool
     requires { S.count source.now ≤ most_shards }
 {
     save(alloc, folder, "d", "c", source).is_ok() || save(alloc, folder, "d", "c", source).is_ok()
