@@ -1,3 +1,3 @@
+mod Lines
 mod Told
-mod Verdicts
 mod Words

@@ -6,7 +6,7 @@ ghost use Rattle.lru_operations.specs.Requests.{asked, request_of, IsPossible};
 ghost use Rattle.lru_operations.specs.Texts.{outcome_text, status_of};
 ghost use Rattle.lru_operations.specs.Outcomes.{ComesOf, LeavesFiles, LeavesWhole, Tells};
 
-use crate::checking::{check, show};
+use crate::checking::{check, show, show_before};
 use crate::outcome::Outcome;
 use crate::requests::{Request, request_from};
 use crate::saving::save_input;
@@ -36,6 +36,7 @@ fn outcome_of<F: SyncedFolder, R: Input>(
         Request::Misused(misuse) => Outcome::Misused(misuse),
         Request::Save { dir, file_name } => save_input(alloc, folder, dir, file_name, reader),
         Request::Show { dir, file_name } => show(alloc, folder, dir, file_name),
+        Request::ShowBefore { dir, file_name } => show_before(alloc, folder, dir, file_name),
         Request::Check { dir, file_name } => check(alloc, folder, dir, file_name),
     }
 }
@@ -59,7 +60,7 @@ pub fn run<F: SyncedFolder, R: Input, W: Output>(
     // A request that saves nothing leaves the files.
     ensures files { LeavesFiles F.meaning (request_of (map string_bytes words.now)) folder.old folder.new }
 
-    // A stop, and a loss of power, at any moment of a save leaves the old checkpoint or the next one, whole.
+    // A stop, and a loss of power, at any moment of a save leaves the newest whole checkpoint, and beside it that of the rows or none.
     ensures whole { LeavesWhole F.meaning (R.remaining reader.old) (request_of (map string_bytes words.now)) folder.old folder.new }
 
     ensures failed { OnErr result (W.has_failed writer.new) }
