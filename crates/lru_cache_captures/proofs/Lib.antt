@@ -1,1 +1,2 @@
 mod Restored
+pub mod ComesBack

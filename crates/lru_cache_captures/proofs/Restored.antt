@@ -1,11 +1,13 @@
 -- An entry was put or left out, and then others were.
-use Rattle.std.proofs.Common.{◌≡◌, ℕ, ◌+◌, inl, List, ◌∷◌, Ok, subst, arith, suc, true, false, sym}
-use Rattle.std.specs.Prelude.{Bool, Result}
+use Rattle.std.proofs.Common.{◌≡◌, ℕ, ◌+◌, inl, List, ◌∷◌, Ok, Err, subst, arith, suc, true, false, sym}
+use Rattle.std.specs.Prelude.{Bool, Option, Result, IfOk}
 use Rattle.std.proofs.lemmas.Bool.{false≢true}
 use Rattle.lru_frames.specs.declared.row.Row.{Row}
+use Rattle.lru_entries.specs.declared.entry.Entry.{Entry}
 use Rattle.lru_cache.specs.declared.cache.Refused.{Refused}
 use Rattle.lru_cache.specs.Cache.{Cached}
-use Rattle.lru_cache_captures.specs.Captures.{PutsEntries, PutsOrLeaves}
+use Rattle.lru_shared.specs.Calls.{MayPut}
+use Rattle.lru_cache_captures.specs.Captures.{PutsEntries, PutsOrLeaves, MayPutOrLeave, MayPutEntries}
 
 module _ {K V : Type 0} (eq : K → K → Bool) (old mid : Cached K V) (row : Row K V) (rows : List (Row K V)) (left : ℕ) (answer : Result ℕ (Refused K V)) (new : Cached K V) where
   pub left_more : (is_left : Bool) → is_left ≡ true → PutsOrLeaves eq old row (Ok is_left) mid → PutsEntries eq mid rows (left + 1) answer new → PutsEntries eq old (row ∷ rows) left answer new
@@ -15,3 +17,23 @@ module _ {K V : Type 0} (eq : K → K → Bool) (old mid : Cached K V) (row : Ro
   pub put_more : (is_left : Bool) → is_left ≡ false → PutsOrLeaves eq old row (Ok is_left) mid → PutsEntries eq mid rows left answer new → PutsEntries eq old (row ∷ rows) left answer new
   put_more true is put rest = absurd (false≢true (sym is))
   put_more false is put rest = inl (false, (mid, (put, rest)))
+
+-- what was put is put so
+pub may_put : {K V F : Type 0} (eq : K → K → Bool) (row : Row K V) (Step : F → Entry K V → F → Type 0) (visit : F) (was : Option (Entry K V))
+    → MayPut eq Step visit row.key row.data row.weight (Ok was) → MayPutOrLeave eq row (Ok false)
+may_put eq row Step visit was p = (p.0, (p.1.0, (p.1.1.1.1.0, (p.1.1.1.1.1.0, (p.1.1.1.1.1.1.0, p.1.1.1.1.1.1.1.1)))))
+
+-- what follows from three facts on what was made
+pub if_all_ok : {X E : Type 0} (r : Result X E) (A B C D : X → Type 0) → ((x : X) → A x → B x → C x → D x) → IfOk r A → IfOk r B → IfOk r C → IfOk r D
+if_all_ok (Ok x) A B C D f a b c = f x a b c
+if_all_ok (Err e) A B C D f a b c = tt
+
+-- the same where each is of a moment of its own
+module _ {K V : Type 0} (eq : K → K → Bool) (row : Row K V) (rows : List (Row K V)) (left : ℕ) (answer : Result ℕ (Refused K V)) where
+  pub may_leave_more : (is_left : Bool) → is_left ≡ true → MayPutOrLeave eq row (Ok is_left) → MayPutEntries eq rows (left + 1) answer → MayPutEntries eq (row ∷ rows) left answer
+  may_leave_more true is put rest = let more : left + 1 ≡ suc left = omega arith in inl (true, (put, subst (λ n. MayPutEntries eq rows n answer) more rest))
+  may_leave_more false is put rest = absurd (false≢true is)
+
+  pub may_put_more : (is_left : Bool) → is_left ≡ false → MayPutOrLeave eq row (Ok is_left) → MayPutEntries eq rows left answer → MayPutEntries eq (row ∷ rows) left answer
+  may_put_more true is put rest = absurd (false≢true (sym is))
+  may_put_more false is put rest = inl (false, (put, rest))

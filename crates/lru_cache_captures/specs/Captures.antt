@@ -1,11 +1,21 @@
 -- Entries copied out of a cache, and put back.
-use Rattle.std.specs.Prelude.{◌≡◌, ◌⊎◌, ℕ, suc, cond, Bool, true, false, List, [], ◌∷◌, ◌-◌, Result, Ok, Err}
+use Rattle.std.specs.Prelude.{◌≡◌, ◌⊎◌, ℕ, suc, ◌+◌, ◌-◌, ◌^◌, min, cond, Bool, true, false, List, [], ◌∷◌, map, reverse, Vec, Result, Ok, Err}
+use Rattle.std.specs.declared.alloc.Global.{Global}
 use Rattle.lru_frames.specs.declared.row.Row.{Row}
 use Rattle.lru_entries.specs.declared.entry.Entry.{Entry}
 use Rattle.lru_cache.specs.declared.cache.Cause.TheVariants.{TooHeavy}
 use Rattle.lru_cache.specs.declared.cache.Refused as cached
-use Rattle.lru_cache.specs.Cache.{Cached, with_entries, without, Leaves, MayRefuse}
+use Rattle.lru_cache.specs.Cache.{Cached, with_entries, without, parts_of, Leaves, MayRefuse}
 use Rattle.lru_entries.specs.Entries.{entry}
+use Rattle.lru_frames.specs.Copies.{AreEach, IsEntryCopy}
+
+-- rows may be the copies of a cache: there are entries of which they are
+abbrev pub MayCopy : {K V : Type 0} → (K → K → Type 0) → (V → V → Type 0) → List (Row K V) → Type 0
+MayCopy {K} {V} IsCloneKey IsCloneValue rows = (cache : Cached K V) × AreEach (IsEntryCopy IsCloneKey IsCloneValue) (map parts_of cache.entries) rows
+
+-- a row as the entry that is put for it
+abbrev pub entry_of : {K V : Type 0} → Row K V → Entry K V
+entry_of row = entry row.key row.data row.weight
 
 module _ {K V : Type 0} (eq : K → K → Bool) where
   -- an entry is put first, and the shortest end of the others goes that has to
@@ -29,3 +39,28 @@ module _ {K V : Type 0} (eq : K → K → Bool) where
   PutsEntries old (row ∷ rows) left answer new =
       ((is_left : Bool) × ((mid : Cached K V) × (PutsOrLeaves old row (Ok is_left) mid × PutsEntries mid rows (cond is_left (suc left) left) answer new)))
       ⊎ ((refused : cached.Refused K V) × ((answer ≡ Err refused) × PutsOrLeaves old row (Err refused) new))
+
+  -- an entry may have been put or left out or refused so: there are entries of which it is told
+  abbrev pub MayPutOrLeave : Row K V → Result Bool (cached.Refused K V) → Type 0
+  MayPutOrLeave row answer = (old : Cached K V) × ((new : Cached K V) × PutsOrLeaves old row answer new)
+
+  -- the same of entries one after the other, up to the first that is refused, each at a moment of its own
+  abbrev pub MayPutEntries : List (Row K V) → ℕ → Result ℕ (cached.Refused K V) → Type 0
+  MayPutEntries [] left answer = answer ≡ Ok left
+  MayPutEntries (row ∷ rows) left answer =
+      ((is_left : Bool) × (MayPutOrLeave row (Ok is_left) × MayPutEntries rows (cond is_left (suc left) left) answer))
+      ⊎ ((refused : cached.Refused K V) × ((answer ≡ Err refused) × MayPutOrLeave row (Err refused)))
+
+  -- the entries of each shard are put, the last of a shard first, up to the first that is refused; those that are left out are counted on, as far as can be told
+  abbrev pub PutsShards : Cached K V → List (Vec (Row K V) Global) → ℕ → Result ℕ (cached.Refused K V) → Cached K V → Type 0
+  PutsShards old [] left answer new = (answer ≡ Ok left) × (new ≡ old)
+  PutsShards old (rows ∷ shards) left answer new =
+      ((count : ℕ) × ((mid : Cached K V) × (PutsEntries old (reverse rows.items) 0 (Ok count) mid × PutsShards mid shards (min (left + count) (2 ^ 64 - 1)) answer new)))
+      ⊎ ((refused : cached.Refused K V) × ((answer ≡ Err refused) × PutsEntries old (reverse rows.items) 0 (Err refused) new))
+
+  -- the same, each entry at a moment of its own
+  abbrev pub MayPutShards : List (Vec (Row K V) Global) → ℕ → Result ℕ (cached.Refused K V) → Type 0
+  MayPutShards [] left answer = answer ≡ Ok left
+  MayPutShards (rows ∷ shards) left answer =
+      ((count : ℕ) × (MayPutEntries (reverse rows.items) 0 (Ok count) × MayPutShards shards (min (left + count) (2 ^ 64 - 1)) answer))
+      ⊎ ((refused : cached.Refused K V) × ((answer ≡ Err refused) × MayPutEntries (reverse rows.items) 0 (Err refused)))

@@ -1,16 +1,20 @@
 //! The entries of a cache of one owner.
 ghost use Rattle.std.specs.Prelude.{IfOk, map, reverse};
 ghost use Rattle.lru_cache.specs.Cache.{parts_of};
-ghost use Rattle.lru_copies.specs.Copies.{AreEach, IsEntryCopy};
-ghost use Rattle.lru_cache_captures.specs.Captures.{PutsEntries, PutsOrLeaves};
+ghost use Rattle.lru_frames.specs.Copies.{AreEach, IsEntryCopy};
+ghost use Rattle.lru_cache_captures.specs.Captures.{PutsEntries, PutsOrLeaves, PutsShards};
 
 use lru_cache::cache::{Cache, Cause, Refused};
+use lru_frames::frame::Header;
+use lru_frames::mark::Mark;
+use lru_frames::marked::encode_marked;
 use lru_frames::row::Row;
+use lru_frames::source::Source;
+use lru_frames::stored::Stored;
 use std::alloc::{AllocError, Global};
 use std::hash::{BuildHasher, Hash};
 
-/// Copies of the entries, most recent first, with clones of their keys and values: the one shard that a checkpoint is saved
-/// of.
+/// Copies of the entries, most recent first, with clones of their keys and values.
 pub fn capture_cache<K: Hash + Clone + Drop, V: Clone + Drop, S: BuildHasher>(
     alloc: Global,
     cache: &Cache<K, V, S>,
@@ -24,6 +28,31 @@ pub fn capture_cache<K: Hash + Clone + Drop, V: Clone + Drop, S: BuildHasher>(
         rows.push(Row { key, data, weight })?;
     }
     Ok(rows)
+}
+
+/// A cache of which a checkpoint is saved: the one shard of it. Its entries are copied when they are asked for.
+pub struct CacheSource<'a, K: Hash, V> {
+    /// The cache.
+    pub cache: &'a Cache<K, V>,
+}
+
+impl<'a, K: Hash + Clone + Stored, V: Clone + Stored> Source<K, V> for CacheSource<'a, K, V> {
+    ghost use Rattle.std.specs.Prelude.{map};
+    ghost use Rattle.lru_cache.specs.Cache.{parts_of};
+    ghost use Rattle.lru_frames.specs.Copies.{AreEach, IsEntryCopy};
+
+    ghost count = { λ source. 1 };
+
+    ghost hands_out = { λ source shard rows. AreEach (IsEntryCopy K.is_clone V.is_clone) (map parts_of source.cache.now.entries) rows };
+
+    fn shards(&self) -> usize {
+        1
+    }
+
+    fn frame(&self, alloc: Global, header: Header) -> Result<(Vec<u8>, Mark), AllocError> {
+        let rows = capture_cache(alloc, self.cache)?;
+        encode_marked(alloc, header, &rows)
+    }
 }
 
 // Puts an entry, unless it is too heavy by itself; whether it is.
@@ -62,6 +91,24 @@ pub fn restore_cache<K: Hash + Default + Drop, V: Drop, S: BuildHasher>(
         if is_out {
             left_out += 1;
         }
+    }
+    Ok(left_out)
+}
+
+/// Puts the entries of each shard into the cache, one shard after the other, as `restore_cache` does. It answers how many were
+/// left out, or the most that can be told where they are more.
+///
+/// A refusal is that of `restore_cache`: the entries of the shards before are there, and those of the shards behind are dropped.
+pub fn restore_shards<K: Hash + Default + Drop, V: Drop, S: BuildHasher>(
+    cache: &mut Cache<K, V, S>,
+    shards: Vec<Vec<Row<K, V>>>,
+) -> Result<usize, Refused<K, V>>
+    ensures { PutsShards K.eq cache.old shards.items 0 result cache.new }
+{
+    let mut left_out = 0usize;
+    let mut rest = shards.into_iter();
+    while let Some(rows) = rest.next() {
+        left_out = left_out.saturating_add(restore_cache(cache, rows)?);
     }
     Ok(left_out)
 }

@@ -45,6 +45,7 @@ fn load_frame<F: Folder, K: Stored, V: Stored>(
     ensures touches { F.meaning.keeps folder.old → TouchesNothing F.meaning folder.old folder.new }
     ensures files { F.meaning.keeps folder.old → F.meaning.files folder.new ≡ F.meaning.files folder.old }
     ensures faults { F.meaning.keeps folder.old → OnOk result (F.meaning.faults folder.new ≡ F.meaning.faults folder.old) }
+    ensures quiet { F.meaning.keeps folder.old → IfErr result (λ error. ¬ IsFault error → F.meaning.faults folder.new ≡ F.meaning.faults folder.old) }
     ensures places { F.meaning.keeps folder.old → F.meaning.folders folder.new ≡ F.meaning.folders folder.old }
     ensures kept { F.meaning.keeps folder.old ↔ F.meaning.keeps folder.new }
 {
@@ -94,6 +95,7 @@ fn load_frames<F: Folder, K: Stored, V: Stored>(
     ensures touches { F.meaning.keeps folder.old → TouchesNothing F.meaning folder.old folder.new }
     ensures files { F.meaning.keeps folder.old → F.meaning.files folder.new ≡ F.meaning.files folder.old }
     ensures faults { F.meaning.keeps folder.old → OnOk result (F.meaning.faults folder.new ≡ F.meaning.faults folder.old) }
+    ensures quiet { F.meaning.keeps folder.old → IfErr result (λ error. ¬ IsFault error → F.meaning.faults folder.new ≡ F.meaning.faults folder.old) }
     ensures places { F.meaning.keeps folder.old → F.meaning.folders folder.new ≡ F.meaning.folders folder.old }
     ensures kept { F.meaning.keeps folder.old ↔ F.meaning.keeps folder.new }
 {
@@ -142,6 +144,7 @@ pub fn load_generation<F: Folder, K: Stored, V: Stored>(
     ensures touches { F.meaning.keeps folder.old → TouchesNothing F.meaning folder.old folder.new }
     ensures files { F.meaning.keeps folder.old → F.meaning.files folder.new ≡ F.meaning.files folder.old }
     ensures faults { F.meaning.keeps folder.old → OnOk result (F.meaning.faults folder.new ≡ F.meaning.faults folder.old) }
+    ensures quiet { F.meaning.keeps folder.old → IfErr result (λ error. ¬ IsFault error → F.meaning.faults folder.new ≡ F.meaning.faults folder.old) }
     ensures places { F.meaning.keeps folder.old → F.meaning.folders folder.new ≡ F.meaning.folders folder.old }
     ensures kept { F.meaning.keeps folder.old ↔ F.meaning.keeps folder.new }
 {

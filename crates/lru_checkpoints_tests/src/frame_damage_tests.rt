@@ -129,21 +129,26 @@ fn other_types(rt: HostRuntime) -> Result<(), Fail> {
     Ok(())
 }
 
-// The check of the bytes, as it is defined: one byte after the other.
+// The check of the bytes, as it is defined: bit by bit.
 fn check_of(bytes: &[u8]) -> u64 {
-    bytes
-        .iter()
-        .fold(1_442_695_040_888_963_407, |check: u64, byte| {
-            check
-                .wrapping_mul(6_364_136_223_846_793_005)
-                .wrapping_add(u64::from(*byte))
-        })
+    let mut check = u64::MAX;
+    for byte in bytes {
+        check ^= u64::from(*byte);
+        for _ in 0..8 {
+            let low = check & 1;
+            check >>= 1;
+            if low == 1 {
+                check ^= 0xC96C_5795_D787_0F42;
+            }
+        }
+    }
+    !check
 }
 
 // A frame whose check is right, with these numbers after its version.
-fn sealed(alloc: Global, numbers: &[u64]) -> Result<Vec<u8>, AllocError> {
+fn sealed(alloc: Global, version: u64, numbers: &[u64]) -> Result<Vec<u8>, AllocError> {
     let mut bytes = Vec::from_slice(alloc, b"LRUFRAME")?;
-    bytes.extend_from_slice(&1u64.to_le_bytes())?;
+    bytes.extend_from_slice(&version.to_le_bytes())?;
     for number in numbers {
         bytes.extend_from_slice(&number.to_le_bytes())?;
     }
@@ -170,8 +175,15 @@ static SEALED: [(&[u64], Option<Part>); 6] = [
 #[test]
 fn what_a_right_check_does_not_mend(rt: HostRuntime) -> Result<(), Fail> {
     for (numbers, wanted) in &SEALED {
-        let bytes = sealed(rt.alloc(), numbers)?;
+        let bytes = sealed(rt.alloc(), 2, numbers)?;
         assert_eq!(rt; damage(rt.alloc(), &bytes), *wanted, "{numbers:?}");
     }
+    Ok(())
+}
+
+#[test]
+fn another_version(rt: HostRuntime) -> Result<(), Fail> {
+    let bytes = sealed(rt.alloc(), 1, &[88, 1, 0, 0, 1, 5, 9, 3])?;
+    assert_eq!(rt; damage(rt.alloc(), &bytes), Some(Part::Version));
     Ok(())
 }

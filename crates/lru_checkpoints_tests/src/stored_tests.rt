@@ -1,6 +1,7 @@
 //! Values stored and loaded again, each kind through the trait.
 use lru_frames::stored::{Stored, StoredError};
 use std::alloc::{AllocError, Global};
+use std::sync::Arc;
 use std::test::Fail;
 
 // The bytes of a value, and then two more.
@@ -29,6 +30,43 @@ fn numbers(rt: HostRuntime) -> Result<(), Fail> {
     let bytes = [1, 2, 3, 4, 5, 6, 7, 8, b'a', b'b'];
     let is_stored = is_stored_as(rt.alloc(), &value, &bytes)?;
     assert!(rt; is_stored & comes_back(rt.alloc(), &value)?);
+    Ok(())
+}
+
+#[test]
+fn smaller_numbers(rt: HostRuntime) -> Result<(), Fail> {
+    let bytes = [200, 0, 0, 0, 0, 0, 0, 0, b'a', b'b'];
+    assert!(rt; is_stored_as(rt.alloc(), &200u8, &bytes)? & comes_back(rt.alloc(), &200u8)?);
+    assert!(rt; is_stored_as(rt.alloc(), &200u16, &bytes)? & comes_back(rt.alloc(), &200u16)?);
+    assert!(rt; is_stored_as(rt.alloc(), &200u32, &bytes)? & comes_back(rt.alloc(), &200u32)?);
+    assert!(rt; is_stored_as(rt.alloc(), &200usize, &bytes)? & comes_back(rt.alloc(), &200usize)?);
+    Ok(())
+}
+
+#[test]
+fn truths(rt: HostRuntime) -> Result<(), Fail> {
+    let bytes = [1, 0, 0, 0, 0, 0, 0, 0, b'a', b'b'];
+    let is_stored = is_stored_as(rt.alloc(), &true, &bytes)?;
+    assert!(rt; is_stored & comes_back(rt.alloc(), &true)? & comes_back(rt.alloc(), &false)?);
+    Ok(())
+}
+
+#[test]
+fn what_may_be_there(rt: HostRuntime) -> Result<(), Fail> {
+    let none: Option<u64> = None;
+    let bytes = [0, 0, 0, 0, 0, 0, 0, 0, b'a', b'b'];
+    let is_stored = is_stored_as(rt.alloc(), &none, &bytes)?;
+    assert!(rt; is_stored & comes_back(rt.alloc(), &none)? & comes_back(rt.alloc(), &Some(7u64))?);
+    Ok(())
+}
+
+#[test]
+fn what_is_shared(rt: HostRuntime) -> Result<(), Fail> {
+    let shared = Arc::new(rt.alloc(), 9u64)?;
+    let bytes = [9, 0, 0, 0, 0, 0, 0, 0, b'a', b'b'];
+    let is_stored = is_stored_as(rt.alloc(), &shared, &bytes)?;
+    let (read, _) = Arc::<u64>::load(rt.alloc(), &bytes)?;
+    assert!(rt; is_stored & (*read == 9));
     Ok(())
 }
 
@@ -69,19 +107,22 @@ fn is_damaged<T: Stored + Drop>(alloc: Global, bytes: &[u8]) -> bool {
     T::load(alloc, bytes).err() == Some(StoredError::Damaged)
 }
 
-// Whether each of these is damage: a number too short, bytes longer than there are, bytes as long as any, no text, and half of
-// a pair.
-fn are_damaged(alloc: Global) -> [bool; 5] {
+// Whether each of these is damage: a number too short, bytes longer than there are, bytes as long as any, no text, half of a
+// pair, a number too great, and a number that is no truth, nor tells whether there is something.
+fn are_damaged(alloc: Global) -> [bool; 8] {
     [
         is_damaged::<u64>(alloc, &[1; 7]),
         is_damaged::<Vec<u8>>(alloc, &[9, 0, 0, 0, 0, 0, 0, 0, b'a']),
         is_damaged::<Vec<u8>>(alloc, &[255; 16]),
         is_damaged::<String>(alloc, &[1, 0, 0, 0, 0, 0, 0, 0, 0xFF]),
         is_damaged::<(u64, u64)>(alloc, &[1; 15]),
+        is_damaged::<u8>(alloc, &[0, 1, 0, 0, 0, 0, 0, 0]),
+        is_damaged::<bool>(alloc, &[2, 0, 0, 0, 0, 0, 0, 0]),
+        is_damaged::<Option<u64>>(alloc, &[2; 16]),
     ]
 }
 
 #[test]
 fn what_is_no_value(rt: HostRuntime) {
-    assert_eq!(rt; are_damaged(rt.alloc()), [true; 5]);
+    assert_eq!(rt; are_damaged(rt.alloc()), [true; 8]);
 }

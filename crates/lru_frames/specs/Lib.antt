@@ -3,7 +3,10 @@ pub mod WordLaws
 pub mod Envelope
 pub mod Errors
 pub mod StoredErrors
+pub mod Holders
+pub mod HolderLaws
 pub mod Rows
+pub mod Copies
 pub mod RowLaws
 pub mod Frame
 pub mod Causes

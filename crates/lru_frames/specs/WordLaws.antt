@@ -1,10 +1,10 @@
 -- Numbers and counted bytes tell where they end.
-use Rattle.std.specs.Prelude.{◌≡◌, ℕ, ◌<◌, ◌^◌, List, [], ◌++◌, length, take, drop}
+use Rattle.std.specs.Prelude.{◌≡◌, ℕ, ◌<◌, ◌^◌, Bool, true, false, List, [], ◌++◌, length, take, drop}
 use Rattle.std.specs.Int.{w64, from_le_bytes}
 use Rattle.std.proofs.Common.{refl, sym, ap, ◌∙◌, append_assoc, arith}
 use Rattle.std.proofs.lemmas.List.{take_at, drop_at, length-append}
 use Rattle.std.proofs.lemmas.Nat.{from_le_bytes-to_le_bytes_8}
-use Rattle.lru_frames.specs.Words.{word, counted}
+use Rattle.lru_frames.specs.Words.{word, counted, truth}
 
 -- two lists whose first parts are of one length
 pub same_parts : (a b x y : List ℕ) → length a ≡ length b → a ++ x ≡ b ++ y → (a ≡ b) × (x ≡ y)
@@ -26,6 +26,37 @@ pub one_word : (m n : ℕ) (x y : List ℕ) → m < 2 ^ 64 → n < 2 ^ 64 → wo
 one_word m n x y p q h =
     let parts = same_parts (word m) (word n) x y (length-word m ∙ sym (length-word n)) h in
     (one_number m n p q parts.0, parts.1)
+
+-- and so do numbers of fewer bits
+pub one_byte : (m n : ℕ) (x y : List ℕ) → m < 2 ^ 8 → n < 2 ^ 8 → word m ++ x ≡ word n ++ y → (m ≡ n) × (x ≡ y)
+one_byte m n x y p q h = one_word m n x y (omega arith) (omega arith) h
+
+pub one_quarter : (m n : ℕ) (x y : List ℕ) → m < 2 ^ 16 → n < 2 ^ 16 → word m ++ x ≡ word n ++ y → (m ≡ n) × (x ≡ y)
+one_quarter m n x y p q h = one_word m n x y (omega arith) (omega arith) h
+
+pub one_half : (m n : ℕ) (x y : List ℕ) → m < 2 ^ 32 → n < 2 ^ 32 → word m ++ x ≡ word n ++ y → (m ≡ n) × (x ≡ y)
+one_half m n x y p q h = one_word m n x y (omega arith) (omega arith) h
+
+pub truth_small : (b : Bool) → truth b < 2 ^ 64
+truth_small true = omega arith
+truth_small false = omega arith
+
+pub truth_least : (b : Bool) → truth b < 2
+truth_least true = omega arith
+truth_least false = omega arith
+
+same_truth : (a b : Bool) → truth a ≡ truth b → a ≡ b
+same_truth true true h = refl
+same_truth false false h = refl
+same_truth true false h = absurd (omega arith)
+same_truth false true h = absurd (omega arith)
+
+pub one_truth : (a b : Bool) (x y : List ℕ) → Unit {0} → Unit {0} → word (truth a) ++ x ≡ word (truth b) ++ y → (a ≡ b) × (x ≡ y)
+one_truth a b x y p q h = let parts = one_word (truth a) (truth b) x y (truth_small a) (truth_small b) h in (same_truth a b parts.0, parts.1)
+
+-- a number that begins the bytes is the one that stands there
+pub read_word : (bytes x y : List ℕ) (m n : ℕ) → m < 2 ^ 64 → n < 2 ^ 64 → bytes ≡ word m ++ x → bytes ≡ word n ++ y → (m ≡ n) × (x ≡ y)
+read_word bytes x y m n p q h k = one_word m n x y p q (sym h ∙ k)
 
 -- counted bytes tell where they end
 pub one_counted : (a b : List ℕ) (x y : List ℕ) → length a < 2 ^ 64 → length b < 2 ^ 64 → counted a ++ x ≡ counted b ++ y → (a ≡ b) × (x ≡ y)

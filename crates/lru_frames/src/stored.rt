@@ -2,6 +2,8 @@
 ghost use Rattle.std.specs.Prelude.{◌≡◌, ◌<◌, ◌^◌, ◌++◌, ℕ, List, length, OnOk, IfOk, Err};
 ghost use Rattle.lru_frames.specs.declared.stored.StoredError.TheVariants.{Damaged, Memory};
 
+mod holders;
+mod numbers;
 mod values;
 
 use std::alloc::{AllocError, AllocFailed, Global};

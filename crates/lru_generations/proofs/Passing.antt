@@ -1,13 +1,17 @@
 -- Generations that are tried one after the other, the highest first.
-use Rattle.std.proofs.Common.{◌≡◌, ◌⊎◌, inl, inr, ⊎_elim, ℕ, suc, ◌+◌, ◌<◌, ◌≤◌, List, [], ◌∷◌, ◌++◌, length, take, drop, get_or, Some, None, sym, ◌∙◌, ap, subst, arith}
+use Rattle.std.proofs.Common.{◌≡◌, inl, inr, ⊎_elim, ℕ, suc, ◌+◌, ◌<◌, ◌≤◌, List, [], ◌∷◌, ◌++◌, length, take, drop, get_or, Some, None, Result, Ok, Err, sym, ◌∙◌, ap, subst, arith}
 use Rattle.std.proofs.Math.Seq.{drop-cons}
 use Rattle.std.proofs.lemmas.Bool.{cases_lt}
 use Rattle.std.proofs.lemmas.List.{get_or_default, map-append, take-append-drop, take_all, take_more}
 use Rattle.std.proofs.lemmas.List.Elements.{Contains-push_cases}
-use Rattle.std.specs.Prelude.{AllPairs, Contains, map}
+use Rattle.std.specs.Prelude.{◌↔◌, AllPairs, Contains, IfOk, map}
+use Rattle.lru_folder.specs.Files.{Files}
+use Rattle.lru_manifests.specs.declared.names.PartName.{PartName}
+use Rattle.lru_manifests.specs.declared.names.PartName.TheVariants.{Manifest}
+use Rattle.lru_manifests.specs.Listing.{HasParts}
 use Rattle.lru_checkpoints.specs.declared.errors.CheckpointError.{CheckpointError}
 use Rattle.lru_generations.specs.declared.newest.Passed.{Passed}
-use Rattle.lru_generations.specs.Newest.{IsFront}
+use Rattle.lru_generations.specs.Newest.{AreGenerations, IsFront}
 
 -- none of the first so many holds
 abbrev pub NoneOf : (ℕ → Type 0) → List ℕ → ℕ → Type 0
@@ -62,3 +66,19 @@ front_all numbers i front le is = is ∙ take_all i numbers le
 -- what holds of each that was passed over holds with one more
 pub each_more : (P : Passed → Type 0) (passed : List Passed) (last : Passed) → ((one : Passed) → Contains passed one → P one) → P last → (one : Passed) → Contains (passed ++ last ∷ []) one → P one
 each_more P passed last each here one h = ⊎_elim (each one) (λ same. subst P same here) (Contains-push_cases passed last one h)
+
+-- the generations that have a manifest among the parts of a folder
+pub generations_so : (dir file_name : List ℕ) (files : Files) (parts : List PartName) (generations : List ℕ) → HasParts dir file_name files parts
+    → ((generation : ℕ) → Contains generations generation ↔ Contains parts (Manifest generation)) → AllPairs (λ first later. later < first) generations → AreGenerations dir file_name files generations
+generations_so dir file_name files parts generations has found falling = record {
+  found = λ generation. (
+    λ h. let part = (found generation).0 h in let small = has.fits (Manifest generation) part in (small, (has.there (Manifest generation) small).0 part),
+    λ h. (found generation).1 ((has.there (Manifest generation) h.0).1 h.1),
+  );
+  falling = falling;
+}
+
+-- what follows of each success
+pub if_ok : {T E : Type 0} (r : Result T E) (P Q : T → Type 0) → ((t : T) → P t → Q t) → IfOk r P → IfOk r Q
+if_ok (Ok t) P Q then p = then t p
+if_ok (Err e) P Q then p = p

@@ -1,5 +1,5 @@
 -- Why a generation was refused, told from another moment.
-use Rattle.std.proofs.Common.{◌≡◌, ◌⊎◌, inl, inr, ⊎_elim, ℕ, List, Option, Some, None, sym, ◌∙◌, ap, subst}
+use Rattle.std.proofs.Common.{◌≡◌, inl, inr, ℕ, List, Option, Some, None, sym, ◌∙◌, ap, subst}
 use Rattle.std.specs.FinMap.{get}
 use Rattle.lru_folder.specs.Files.{Files}
 use Rattle.lru_folder.specs.Meaning.{Meaning}
@@ -85,39 +85,3 @@ module _ {F : Type 0} (meaning : Meaning F) (dir file_name : List ℕ) where
     failed_from (Other at) h = h
     failed_from LastGeneration h = h
     failed_from InUse h = h
-
-    manifest_failed : (generation : ℕ) (error : CheckpointError) → IsFault error → IsRefusedManifest meaning dir file_name generation mid new error → IsFailed meaning start new error
-    manifest_failed generation Memory fault h = h ∙ faults
-    manifest_failed generation (Folder at cause) fault h = call_failed cause h.1
-    manifest_failed generation (Missing at) fault h = fault
-    manifest_failed generation (Damaged at part) fault h = fault
-    manifest_failed generation (Other at) fault h = fault
-    manifest_failed generation LastGeneration fault h = fault
-    manifest_failed generation InUse fault h = fault
-
-    shard_failed : (IsDamage : Part → List ℕ → Type 0) (IsOther : List ℕ → Type 0) (generation shard : ℕ) (error : CheckpointError) → IsFault error
-        → IsRefusedShard meaning IsDamage IsOther dir file_name generation shard mid new error → IsFailed meaning start new error
-    shard_failed IsDamage IsOther generation shard Memory fault h = h ∙ faults
-    shard_failed IsDamage IsOther generation shard (Folder at cause) fault h = call_failed cause h.1
-    shard_failed IsDamage IsOther generation shard (Missing at) fault h = fault
-    shard_failed IsDamage IsOther generation shard (Damaged at part) fault h = fault
-    shard_failed IsDamage IsOther generation shard (Other at) fault h = fault
-    shard_failed IsDamage IsOther generation shard LastGeneration fault h = fault
-    shard_failed IsDamage IsOther generation shard InUse fault h = fault
-
-    pub check_failed : (generation : ℕ) (error : CheckpointError) → IsFault error → IsRefused meaning (IsRefusedByCheck meaning dir file_name) dir file_name generation mid new error → IsFailed meaning start new error
-    check_failed generation error fault (inl m) = manifest_failed generation error fault m
-    check_failed generation error fault (inr s) = shard_failed IsWrongFrame _ generation s.1.1.1.0 error fault s.1.1.1.1.1.1
-
-    module _ {K V : Type 0} (key_bytes : K → List ℕ) (IsKey : K → Type 0) (data_bytes : V → List ℕ) (IsData : V → Type 0) where
-      pub frame_failed : (generation : ℕ) (error : CheckpointError) → IsFault error
-          → IsRefused meaning (IsRefusedFrame meaning key_bytes IsKey data_bytes IsData dir file_name) dir file_name generation mid new error → IsFailed meaning start new error
-      frame_failed generation error fault (inl m) = manifest_failed generation error fault m
-      frame_failed generation error fault (inr s) =
-          shard_failed (λ part bytes. IsWrong key_bytes IsKey data_bytes IsData (frame.Damaged part) bytes) _ generation s.1.1.1.0 error fault s.1.1.1.1.1.1
-
-    -- where a generation is not passed over
-    pub stopped : (e error : CheckpointError) → (IsFault error → IsFailed meaning start new error) → (¬ IsFault error → meaning.faults new ≡ meaning.faults mid)
-        → ((e ≡ error) × IsFault error) ⊎ ((e ≡ Memory) × (¬ IsFault error)) → IsFailed meaning start new e
-    stopped e error failed quiet (inl told) = subst (λ (x : CheckpointError). IsFailed meaning start new x) (sym told.0) (failed told.1)
-    stopped e error failed quiet (inr none) = subst (λ (x : CheckpointError). IsFailed meaning start new x) (sym none.0) (quiet none.1 ∙ faults)

@@ -12,6 +12,7 @@ use Rattle.lru_folder.proofs.FilesLemmas.{alike}
 use Rattle.lru_folder.proofs.LossLemmas.{then_loses, loses_on}
 use Rattle.lru_folder.proofs.Moments.{then_run, goes_on}
 use Rattle.lru_frames.specs.declared.row.Row.{Row}
+use Rattle.lru_synced_folder.specs.Names.{IsIn}
 use Rattle.lru_manifests.specs.declared.names.PartName.{PartName}
 use Rattle.lru_manifests.specs.declared.names.PartName.TheVariants.{Frame, Manifest, Temp}
 use Rattle.lru_manifests.specs.Listing.{HasParts, IsAbove, IsLeftover, IsTemp}
@@ -27,8 +28,8 @@ use Rattle.lru_generations.specs.Saving.{AreNamed, IsForGood, IsLeft, IsNew, IsO
 
 -- an option that is none of its values is none
 none_or : {A : Type 0} (o : Option A) → ((x : A) → o ≡ Some x → ⊥) → o ≡ None
-none_or None no = refl
-none_or (Some x) no = absurd (no x refl)
+none_or None isn = refl
+none_or (Some x) isn = absurd (isn x refl)
 
 nothing_there : {A : Type 0} (x : A) (b : Option A) → b ≡ None → b ≡ Some x → ⊥
 nothing_there x b none some = let f : ◌≡◌ {A = Option _} None (Some x) = sym none ∙ some in cc
@@ -40,16 +41,16 @@ some_of (Some x) h = (x, refl)
 
 -- of two numbers one is below the other, or they are one
 data Order (m n : ℕ) : Type 0 where
-  below : m < n → Order m n
-  same : m ≡ n → Order m n
-  above : n < m → Order m n
+  Below : m < n → Order m n
+  Alike : m ≡ n → Order m n
+  Above : n < m → Order m n
 
 order : (m n : ℕ) → Order m n
 order m n = elim (cases_lt m n) [
-  | inl lt ↦ below lt
+  | inl lt ↦ Below lt
   | inr le ↦ elim (cases_lt n m) [
-    | inl gt ↦ above gt
-    | inr ge ↦ same (omega (arith, le, ge))
+    | inl gt ↦ Above gt
+    | inr ge ↦ Alike (omega (arith, le, ge))
   ]
 ]
 
@@ -90,7 +91,7 @@ module _ {K V : Type 0} (key_bytes : K → List ℕ) (IsKey : K → Type 0) (dat
   AreRead g a b = (part : PartName) → IsPart part → ¬ IsTemp part → generation_of part ≡ g → get b (path_of part) ≡ get a (path_of part)
 
   read_back : (g : ℕ) (a b : Files) → AreRead g a b → AreRead g b a
-  read_back g a b h part is no e = sym (h part is no e)
+  read_back g a b h part is isn e = sym (h part is isn e)
 
   -- a checkpoint moves with its files
   moved : (g : ℕ) (shards : Shards K V) (a b : Files) → AreRead g a b → Has g shards a → Has g shards b
@@ -109,11 +110,11 @@ module _ {K V : Type 0} (key_bytes : K → List ℕ) (IsKey : K → Type 0) (dat
   -- the same files have the same
   nothing_new : (found was m : Files) → IsSameBut (λ q. ⊥) was m → IsSavedNext key_bytes IsKey data_bytes IsData dir file_name HandsOut count found was m
   nothing_new found was m same =
-      let stays : (g : ℕ) (shards : Shards K V) → Has g shards was → Has g shards m = λ g shards h. moved g shards was m (λ part is no e. same (path_of part) (λ f. f)) h in
+      let stays : (g : ℕ) (shards : Shards K V) → Has g shards was → Has g shards m = λ g shards h. moved g shards was m (λ part is isn e. same (path_of part) (λ f. f)) h in
       record {
         stays = λ g shards h there. inl (stays g shards h);
         newest = λ g shards h there top. stays g shards h;
-        comes = λ g shards h top. inl (moved g shards m was (λ part is no e. sym (same (path_of part) (λ f. f))) h);
+        comes = λ g shards h top. inl (moved g shards m was (λ part is isn e. sym (same (path_of part) (λ f. f))) h);
       }
 
   -- what a save found
@@ -133,16 +134,16 @@ module _ {K V : Type 0} (key_bytes : K → List ℕ) (IsKey : K → Type 0) (dat
     is_among : (part : PartName) → IsPart part → (bytes : List ℕ) → get found (path_of part) ≡ Some bytes → Contains parts part
     is_among part is bytes there = (survey.listed.there part is).1 (bytes, there)
 
-    -- no file of the new generation is there
+    -- isn file of the new generation is there
     pub unused : IsUnused dir file_name found generation
-    unused part is high = none_or (get found (path_of part)) (λ bytes there.
-    let within = survey.above part (is_among part is bytes there) in
-    omega (arith, within, high))
+    unused part is high =
+        let isn : (bytes : List ℕ) → get found (path_of part) ≡ Some bytes → ⊥ = λ bytes there. let within = survey.above part (is_among part is bytes there) in omega (arith, within, high) in
+        none_or (get found (path_of part)) isn
 
     named_manifest : (was : Files) → AreNamed dir found was → (g : ℕ) → g < 2 ^ 64 → (bytes : List ℕ) → get was (manifest_path dir file_name g) ≡ Some bytes → Contains parts (Manifest g)
     named_manifest was names g small bytes there =
         let path = manifest_path dir file_name g in
-        let inside = (part_text file_name (Manifest g), (has_slash-part_text file_name (Manifest g) small ∙ unslashed, refl)) in
+        let inside : IsIn dir path = (part_text file_name (Manifest g), (has_slash-part_text file_name (Manifest g) small ∙ unslashed, refl)) in
         let is = some_of (get found path) (sym (names path inside) ∙ ap is_some there) in
         is_among (Manifest g) small is.0 is.1
 
@@ -152,10 +153,10 @@ module _ {K V : Type 0} (key_bytes : K → List ℕ) (IsKey : K → Type 0) (dat
 
     -- a part that is read of a generation whose manifest is there is none of those left
     not_left : (g : ℕ) → Contains parts (Manifest g) → (part : PartName) → IsPart part → ¬ IsTemp part → generation_of part ≡ g → ¬ Left (path_of part)
-    not_left g there part is no e h =
+    not_left g there part is isn e h =
         let same : part ≡ h.0 = one_part dir file_name part h.0 is (survey.listed.fits h.0 h.1.0.0) h.1.1 in
         ⊎_elim
-        (λ temp. no (subst IsTemp (sym same) temp))
+        (λ temp. isn (subst IsTemp (sym same) temp))
         (λ lost. lost (subst (λ (n : ℕ). Contains parts (Manifest n)) (sym e ∙ ap generation_of same) there)) h.1.0.1
 
     -- nor is a manifest, or a file of the new generation
@@ -180,10 +181,10 @@ module _ {K V : Type 0} (key_bytes : K → List ℕ) (IsKey : K → Type 0) (dat
       middle = saved.0
 
       kept : (g : ℕ) → Contains parts (Manifest g) → AreRead g was middle
-      kept g there part is no e = saved.1.0 (path_of part) (not_left g there part is no e)
+      kept g there part is isn e = saved.1.0 (path_of part) (not_left g there part is isn e)
 
       beside : (g : ℕ) → g ≢ generation → AreRead g middle m
-      beside g other part is no e = saved.1.1.others (path_of part) (apart g other part is e)
+      beside g other part is isn e = saved.1.1.others (path_of part) (apart g other part is e)
 
       pub stays_so : (g : ℕ) (shards : Shards K V) → Has g shards was → Has g shards m
       stays_so g shards h =
@@ -200,15 +201,15 @@ module _ {K V : Type 0} (key_bytes : K → List ℕ) (IsKey : K → Type 0) (dat
 
       pub comes_so : (g : ℕ) (shards : Shards K V) → Has g shards m → Has g shards was ⊎ ((g ≡ generation) × New generation m)
       comes_so g shards h = elim (order g generation) [
-        | same e ↦ ⊎_elim
+        | Alike e ↦ ⊎_elim
             (λ is.
             let path = manifest_path dir file_name generation in
             let stood : get was path ≡ Some _ = sym (saved.1.0 path (no_manifest_left generation low)) ∙ sym is ∙ ap (λ (n : ℕ). get m (manifest_path dir file_name n)) (sym e) ∙ h.manifest in
             let within = survey.above (Manifest generation) (named_manifest was names generation low _ stood) in
             absurd (omega (arith, within)))
             (λ new. inr (e, new)) saved.1.1.checkpoint
-        | below lt ↦ back g shards (λ e. absurd (omega (arith, lt, e))) h
-        | above gt ↦ back g shards (λ e. absurd (omega (arith, gt, e))) h
+        | Below lt ↦ back g shards (λ e. absurd (omega (arith, lt, e))) h
+        | Above gt ↦ back g shards (λ e. absurd (omega (arith, gt, e))) h
       ]
 
       pub next_saved_so : Next was m
@@ -239,7 +240,7 @@ module _ {K V : Type 0} (key_bytes : K → List ℕ) (IsKey : K → Type 0) (dat
     ]
 
     standing : (then m : Files) → IsSameBut Old then m → (g : ℕ) → ((n : ℕ) → newest ≡ Some n → n ≤ g) → AreRead g then m
-    standing then m gone g high part is no e = gone (path_of part) (not_old g high part is e)
+    standing then m gone g high part is isn e = gone (path_of part) (not_old g high part is e)
 
     -- and what is older than the one that is kept is gone, once the new one is there for good
     module _ (shards : Shards K V) (handed : AreHandedOut HandsOut count shards) (was then m : Files) (names : AreNamed dir found was) (saved : Saved was then) (it : Has generation shards then) (gone : IsSameBut Old then m) where
@@ -254,9 +255,9 @@ module _ {K V : Type 0} (key_bytes : K → List ℕ) (IsKey : K → Type 0) (dat
         stays = λ g rows h there. inr (generation, new_here);
         newest = λ g rows h there top. moved g rows then m (standing then m gone g (is_kept g top)) (stays_so was then names saved g rows h);
         comes = λ g rows h top. elim (order g generation) [
-          | below lt ↦ absurd (top generation shards lt here)
-          | same e ↦ inr (subst (λ (n : ℕ). IsNew key_bytes IsKey data_bytes IsData dir file_name HandsOut count found n m) (sym e) new_here)
-          | above gt ↦
+          | Below lt ↦ absurd (top generation shards lt here)
+          | Alike e ↦ inr (subst (λ (n : ℕ). IsNew key_bytes IsKey data_bytes IsData dir file_name HandsOut count found n m) (sym e) new_here)
+          | Above gt ↦
               let high : (n : ℕ) → newest ≡ Some n → n ≤ g = λ n is. omega (arith, kept_below n is, gt) in
               ⊎_elim inl (λ is. absurd (omega (arith, is.0, gt))) (comes_so was then names saved g rows (moved g rows m then (read_back g then m (standing then m gone g high)) h))
         ];

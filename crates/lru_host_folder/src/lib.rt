@@ -4,3 +4,6 @@
 pub mod claim;
 pub mod host_folder;
 mod host_open;
+pub mod host_system;
+mod steps;
+pub mod system;

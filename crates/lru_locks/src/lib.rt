@@ -2,5 +2,6 @@
 #![tactic(auto)]
 
 mod locked;
+pub mod look;
 pub mod lru;
 mod shed;

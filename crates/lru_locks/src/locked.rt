@@ -3,6 +3,7 @@ ghost use Rattle.std.specs.Prelude.{◌≡◌, ℕ, ◌%◌, ◌<◌, ◌≤◌,
 ghost use Rattle.lru_rules.specs.Limits.{cap_of};
 ghost use Rattle.lru_rules.specs.Shards.{AreAtHome, IsOwn};
 
+use crate::look::Look;
 use crate::shed::{Room, shed};
 use lru_batches::{Admission, admit_each};
 use lru_rules::totals::Totals;
@@ -51,6 +52,12 @@ impl<T, const N: usize> Locked<T, N> {
         // Read for the proof alone, which learns from it what the type says of itself (here and below).
         let _weight = unit.used_weight();
         unit
+    }
+
+    pub(crate) fn look_at<A, L: Look<T, A>>(&self, look: L) -> A
+        ensures { L.tells look self.now.unit result }
+    {
+        look.look_at(&self.unit)
     }
 
     pub(crate) fn totals(&self) -> Totals

@@ -5,6 +5,7 @@ ghost use Rattle.lru_rules.specs.Limits.{cap_of};
 ghost use Rattle.lru_rules.specs.Shards.{IsOwn, AreOwn};
 
 use crate::locked::Locked;
+use crate::look::Look;
 use crate::shed::Room;
 use crossbeam_utils::CachePadded;
 use lru_batches::Admission;
@@ -153,6 +154,8 @@ pub struct Lru<T, const N: usize> {
 }
 
 impl<T, const N: usize> Lru<T, N> {
+    ghost use Rattle.lru_locks.specs.LruCalls.{MaySee};
+
     /// An empty `Lru` with a limit on its weight. Each shard has room for `capacity` rows, and may weigh
     /// `usize::MAX / N`.
     pub fn with_capacity(
@@ -255,6 +258,15 @@ impl<T, const N: usize> Lru<T, N> {
         requires visit { F.IsAlwaysCallable visit }
     {
         self.units[shard].lock.lock(rt).visit(visit);
+    }
+
+    /// Looks at the rows of a shard under its lock, and answers what the look does. No row is used by that, and the look must
+    /// make no call that waits for the same shard.
+    pub fn look_at<A, L: Look<T, A>>(&self, rt: &impl Wait, shard: usize, look: L) -> A
+        requires { shard < N }
+        ensures { MaySee N shard (L.tells look) result }
+    {
+        self.unit_at(rt, shard).look_at(look)
     }
 
     /// Whether a key has a row.
@@ -394,7 +406,7 @@ impl<T, const N: usize> Lru<T, N> {
 
 impl<T: Drop, const N: usize> Lru<T, N> {
     ghost use Rattle.lru_batches.specs.Batches.{AreAnswered};
-    ghost use Rattle.lru_locks.specs.LruCalls.{HandsBack, MayAnswer, IsAskedOf};
+    ghost use Rattle.lru_locks.specs.LruCalls.{HandsBack, MayAnswer, MayInsertTail, IsAskedOf};
     ghost use Rattle.lru_locks.specs.Sheds.{VisitsLight};
 
     /// As `LruCore::admit`: puts a row first in the shard of its key, and answers that shard.
@@ -452,7 +464,8 @@ impl<T: Drop, const N: usize> Lru<T, N> {
         data: T,
         weight: usize,
     ) -> Result<bool, Refused<T>>
-        ensures { IfErr result (λ refused. refused.held ≡ «data») }
+        ensures held { IfErr result (λ refused. refused.held ≡ «data») }
+        ensures row { MayInsertTail N key «data» weight result }
     {
         let shard = self.shard_of(key);
         let mut unit = self.unit_at(rt, shard);

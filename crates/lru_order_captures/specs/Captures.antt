@@ -2,9 +2,11 @@
 use Rattle.std.specs.Prelude.{◌≡◌, ◌⊎◌, ℕ, Bool, List, [], ◌∷◌, map, Result, Ok, Err, Vec}
 use Rattle.std.specs.declared.alloc.Global.{Global}
 use Rattle.lru_frames.specs.declared.row.Row.{Row}
-use Rattle.lru_copies.specs.Copies.{AreEach}
+use Rattle.lru_frames.specs.Copies.{AreEach}
 use Rattle.lru_shard.specs.declared.unit.Refused.{Refused}
 use Rattle.lru_shard.specs.Row as order
+use Rattle.lru_rules.specs.Shards.{AreAtHome}
+use Rattle.lru_locks.specs.LruCalls.{MayInsertTail}
 use Rattle.lru_cores.specs.Core.{Core}
 use Rattle.lru_cores.specs.CoreCalls.{CoreInsertsTail}
 
@@ -15,12 +17,12 @@ module _ {V : Type 0} where
     IsCopy pair row = (row.key ≡ pair.0.0) × (IsClone pair.0.1 row.data × (row.weight ≡ pair.1))
 
     -- copies of the rows of one shard
-    abbrev pub AreCopies : List (order.Row (ℕ × V)) → Vec (Row ℕ V) Global → Type 0
-    AreCopies list rows = AreEach IsCopy (map order.pair_of list) rows.items
+    abbrev pub AreCopies : List (order.Row (ℕ × V)) → List (Row ℕ V) → Type 0
+    AreCopies list rows = AreEach IsCopy (map order.pair_of list) rows
 
-    -- and of those of each shard
-    abbrev pub IsCaptureOf : Core (ℕ × V) → List (Vec (Row ℕ V) Global) → Type 0
-    IsCaptureOf core shards = AreEach AreCopies core.lists shards
+  -- rows may be the copies of a shard of n that has this number: there is one of whose rows they are, and their keys are its own
+  abbrev pub MayCopy : ℕ → ℕ → (V → V → Type 0) → List (Row ℕ V) → Type 0
+  MayCopy n number IsClone rows = (list : List (order.Row (ℕ × V))) × (AreAtHome n number list × AreCopies IsClone list rows)
 
   -- a row put last in the shard of its key
   abbrev pub PutsRow : Core (ℕ × V) → Row ℕ V → Result Bool (Refused (ℕ × V)) → Core (ℕ × V) → Type 0
@@ -31,3 +33,25 @@ module _ {V : Type 0} where
   PutsEach old [] answer new = (answer ≡ Ok tt) × (new ≡ old)
   PutsEach old (row ∷ rows) answer new = ((mid : Core (ℕ × V)) × ((added : Bool) × (PutsRow old row (Ok added) mid × PutsEach mid rows answer new)))
       ⊎ ((refused : Refused (ℕ × V)) × ((answer ≡ Err refused) × PutsRow old row (Err refused) new))
+
+  -- a row may have been put last in a shard of n, or refused, so: there is one of which it is told
+  abbrev pub MayPutRow : ℕ → Row ℕ V → Result Bool (Refused (ℕ × V)) → Type 0
+  MayPutRow n row answer = MayInsertTail n row.key (row.key, row.data) row.weight answer
+
+  -- the same of rows one after the other, up to the first that is refused, each at a moment of its own
+  abbrev pub MayPutEach : ℕ → List (Row ℕ V) → Result (Unit {0}) (Refused (ℕ × V)) → Type 0
+  MayPutEach n [] answer = answer ≡ Ok tt
+  MayPutEach n (row ∷ rows) answer = ((added : Bool) × (MayPutRow n row (Ok added) × MayPutEach n rows answer))
+      ⊎ ((refused : Refused (ℕ × V)) × ((answer ≡ Err refused) × MayPutRow n row (Err refused)))
+
+  -- the rows of each shard put one after the other, up to the first that is refused
+  abbrev pub PutsShards : Core (ℕ × V) → List (Vec (Row ℕ V) Global) → Result (Unit {0}) (Refused (ℕ × V)) → Core (ℕ × V) → Type 0
+  PutsShards old [] answer new = (answer ≡ Ok tt) × (new ≡ old)
+  PutsShards old (rows ∷ shards) answer new = ((mid : Core (ℕ × V)) × (PutsEach old rows.items (Ok tt) mid × PutsShards mid shards answer new))
+      ⊎ ((refused : Refused (ℕ × V)) × ((answer ≡ Err refused) × PutsEach old rows.items (Err refused) new))
+
+  -- the same, each row at a moment of its own
+  abbrev pub MayPutShards : ℕ → List (Vec (Row ℕ V) Global) → Result (Unit {0}) (Refused (ℕ × V)) → Type 0
+  MayPutShards n [] answer = answer ≡ Ok tt
+  MayPutShards n (rows ∷ shards) answer = (MayPutEach n rows.items (Ok tt) × MayPutShards n shards answer)
+      ⊎ ((refused : Refused (ℕ × V)) × ((answer ≡ Err refused) × MayPutEach n rows.items (Err refused)))

@@ -1,11 +1,16 @@
 //! The rows of a core of one owner. Its data are pairs of a key, which is the row's, and a value.
-ghost use Rattle.std.specs.Prelude.{◌≡◌, ◌<◌, length, IfOk};
-ghost use Rattle.lru_cores.specs.Core.{list_at, IsCore};
-ghost use Rattle.lru_order_captures.specs.Captures.{AreCopies, IsCaptureOf, PutsEach};
+ghost use Rattle.std.specs.Prelude.{◌<◌, IfOk};
+ghost use Rattle.lru_cores.specs.Core.{list_at};
+ghost use Rattle.lru_order_captures.specs.Captures.{AreCopies, PutsEach, PutsShards};
 
-use crate::rows::copied;
+use crate::rows::copies;
 use lru_cores::lru_core::LruCore;
+use lru_frames::frame::Header;
+use lru_frames::mark::Mark;
+use lru_frames::marked::encode_marked;
 use lru_frames::row::Row;
+use lru_frames::source::Source;
+use lru_frames::stored::Stored;
 use lru_shard::unit::Refused;
 use std::alloc::{AllocError, Global};
 
@@ -16,30 +21,33 @@ pub fn capture_shard<V: Clone + Drop, const N: usize>(
     shard: usize,
 ) -> Result<Vec<Row<u64, V>>, AllocError>
     requires { shard < N }
-    ensures { IfOk result (λ rows. AreCopies V.is_clone (list_at core.now shard) rows) }
+    ensures { IfOk result (λ rows. AreCopies V.is_clone (list_at core.now shard) rows.items) }
 {
-    let mut rows = Vec::with_capacity(alloc, core.shard_len(shard))?;
-    let mut rest = core.iter_shard(shard);
-    while let Some((pair, weight)) = rest.next() {
-        rows.push(copied(pair, weight)?)?;
-    }
-    Ok(rows)
+    copies(alloc, core.shard_len(shard), core.iter_shard(shard))
 }
 
-/// Copies of the rows of each shard, from shard 0 on: the shards that a checkpoint is saved of.
-pub fn capture_core<V: Clone + Drop, const N: usize>(
-    alloc: Global,
-    core: &LruCore<(u64, V), N>,
-) -> Result<Vec<Vec<Row<u64, V>>>, AllocError>
-    ensures shards { IfOk result (λ shards. IsCaptureOf V.is_clone core.now shards.items) }
-    ensures count { IfOk result (λ shards. length shards.items ≡ N) }
-    ensures valid { IsCore N core.now }
-{
-    let mut shards = Vec::with_capacity(alloc, core.shards())?;
-    for shard in 0..N {
-        shards.push(capture_shard(alloc, core, shard)?)?;
+/// A core of which a checkpoint is saved: its shards, from shard 0 on. Each is copied when it is asked for.
+pub struct CoreSource<'a, V, const N: usize> {
+    /// The core.
+    pub core: &'a LruCore<(u64, V), N>,
+}
+
+impl<'a, V: Clone + Stored, const N: usize> Source<u64, V> for CoreSource<'a, V, N> {
+    ghost use Rattle.lru_cores.specs.Core.{list_at};
+    ghost use Rattle.lru_order_captures.specs.Captures.{AreCopies};
+
+    ghost count = { λ source. N };
+
+    ghost hands_out = { λ source shard rows. AreCopies V.is_clone (list_at source.core.now shard) rows };
+
+    fn shards(&self) -> usize {
+        self.core.shards()
     }
-    Ok(shards)
+
+    fn frame(&self, alloc: Global, header: Header) -> Result<(Vec<u8>, Mark), AllocError> {
+        let rows = capture_shard(alloc, self.core, header.shard as usize)?;
+        encode_marked(alloc, header, &rows)
+    }
 }
 
 /// Puts rows last in the shards of their keys, one after the other, with pairs of key and value as their data; a key that has
@@ -55,6 +63,22 @@ pub fn restore_shard<V: Drop, const N: usize>(
     let mut rest = rows.into_iter();
     while let Some(row) = rest.next() {
         core.insert_tail(row.key, (row.key, row.data), row.weight)?;
+    }
+    Ok(())
+}
+
+/// Puts the rows of each shard last in the shards of their keys, one shard after the other, as `restore_shard` does.
+///
+/// A refusal is that of `restore_shard`: the rows of the shards before are there, and those of the shards behind are dropped.
+pub fn restore_shards<V: Drop, const N: usize>(
+    core: &mut LruCore<(u64, V), N>,
+    shards: Vec<Vec<Row<u64, V>>>,
+) -> Result<(), Refused<(u64, V)>>
+    ensures { PutsShards core.old shards.items result core.new }
+{
+    let mut rest = shards.into_iter();
+    while let Some(rows) = rest.next() {
+        restore_shard(core, rows)?;
     }
     Ok(())
 }

@@ -1,5 +1,5 @@
-//! Rows copied out of orders for a checkpoint, and put back: a shard is copied under its lock, and saved when the lock is free
-//! again.
+//! Rows copied out of orders for a checkpoint, one shard at a time, and put back. What is done under a lock is done by the
+//! functions over the rows of one owner.
 #![tactic(auto)]
 
 pub mod cores;

@@ -1,17 +1,17 @@
 //! A cache that threads share.
 ghost use Rattle.std.specs.Prelude.{◌≡◌, ◌<◌, ◌%◌, vec_len, true, IfOk, IfErr, IfSome, IsTrue};
 ghost use Rattle.lru_index.specs.Hashing.{hash_by, key_hash};
-ghost use Rattle.lru_shared.specs.Calls.{HandsBack, MayShow, MayLend};
+ghost use Rattle.lru_shared.specs.Calls.{HandsBack, MayShow, MayLend, MayPut};
 
 use crate::shelf::Shelf;
 use crossbeam_utils::CachePadded;
-use lru_cache::cache::{Cause, Entry, Refused};
+use lru_cache::cache::{Cache, Cause, Entry, Refused};
 use lru_index::hashing::SeededHashes;
 use lru_index::keys::Query;
 use lru_short_locks::ShortMutex;
 use std::alloc::{AllocError, Global};
 use std::hash::{BuildHasher, Hash};
-use std::sync::{Condvar, Wait};
+use std::sync::{Condvar, MutexGuard, Wait};
 
 // How many values the low bits of a hash have, by which its shard is told.
 const LOW: u64 = 4294967296;
@@ -93,6 +93,19 @@ impl<K: Hash + Default + Drop, V: Drop, S: BuildHasher> Shard<K, V, S> {
             Ok(_) => Ok(answer),
             Err(refused) => Err(NotGot::Refused(refused)),
         }
+    }
+}
+
+/// A shard under its lock, which is held as long as this is there.
+#[derive(Drop)]
+pub struct LockedShard<'a, K: Hash, V, S: BuildHasher> {
+    shelf: MutexGuard<'a, Shelf<K, V, S>>,
+}
+
+impl<'a, K: Hash, V, S: BuildHasher> LockedShard<'a, K, V, S> {
+    /// The entries of the shard, as they are while the lock is held.
+    pub fn cache(&self) -> &Cache<K, V, S> {
+        self.shelf.cache()
     }
 }
 
@@ -233,6 +246,16 @@ impl<K: Hash, V, const N: usize, S: BuildHasher> SharedCache<K, V, N, S> {
         self.shards[shard].shelf.lock(rt).visit(visit);
     }
 
+    /// Takes the lock of a shard, and holds it as long as what it answers is there. Meanwhile a call that waits for the same
+    /// shard has to come from another thread.
+    pub fn lock_shard(&self, rt: &impl Wait, shard: usize) -> LockedShard<'_, K, V, S>
+        requires { shard < N }
+    {
+        LockedShard {
+            shelf: self.shards[shard].shelf.lock(rt),
+        }
+    }
+
     /// How many entries a shard has, read under its lock.
     pub fn shard_len(&self, rt: &impl Wait, shard: usize) -> usize
         requires { shard < N }
@@ -346,6 +369,7 @@ impl<K: Hash + Default + Drop, V: Drop, const N: usize, S: BuildHasher> SharedCa
         requires { F.IsAlwaysCallable visit }
         ensures key { IfErr result (λ refused. refused.key ≡ key) }
         ensures value { IfErr result (λ refused. refused.value ≡ value) }
+        ensures puts { MayPut K.eq (λ p x q. F.step p x tt q) visit key value weight result }
     {
         let shard = self.shard_at(&key);
         shard.shelf.lock(rt).put(key, value, weight, visit)

@@ -69,6 +69,13 @@ impl<K: Hash, V, S: BuildHasher> Shelf<K, V, S> {
         }
     }
 
+    // The cache itself.
+    pub(crate) fn cache(&self) -> &Cache<K, V, S>
+        ensures { result.now ≡ self.now.cache }
+    {
+        &self.cache
+    }
+
     // Whether a key has an entry.
     pub(crate) fn contains(&self, key: &K) -> bool
         ensures { result ≡ is_some (entry_of K.eq self.now.cache.entries key.now) }

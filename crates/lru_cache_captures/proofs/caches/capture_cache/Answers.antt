@@ -1,6 +1,6 @@
 use Rattle.std.proofs.Common.{ℕ, List, [], ◌∷◌, ◌++◌, refl, sym, ap, ◌∙◌, subst, append_assoc}
-use Rattle.lru_copies.specs.Copies.{AreEach, IsEntryCopy}
-use Rattle.lru_copies.proofs.Copied.{each_more}
+use Rattle.lru_frames.specs.Copies.{AreEach, IsEntryCopy}
+use Rattle.lru_frames.proofs.Copied.{each_more}
 use Rattle.lru_cache_captures.proofs.caches.capture_cache.Goals as goal
 
 pub loop-key-preserved : goal.loop-key-preserved

@@ -1,5 +1,5 @@
 use Rattle.std.proofs.Common.{◌≡◌, ℕ, List, ◌++◌, length}
-use Rattle.lru_copies.specs.Copies.{AreEach, IsEntryCopy}
+use Rattle.lru_frames.specs.Copies.{AreEach, IsEntryCopy}
 use Rattle.lru_cache_captures.proofs.caches.capture_cache.Given as goal
 
 -- those before the rest were copied

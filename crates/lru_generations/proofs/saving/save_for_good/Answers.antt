@@ -5,6 +5,7 @@ use Rattle.lru_manifests.specs.Names.{frame_path, manifest_path, manifest_temp_p
 use Rattle.lru_whole_files.proofs.Touched.{touches_then, touches_more}
 use Rattle.lru_checkpoints.specs.Causes.{IsUnnamed}
 use Rattle.lru_checkpoints.specs.Checkpoints.{HasCheckpoint, IsFrame}
+use Rattle.lru_checkpoints.proofs.Lists.{never}
 use Rattle.lru_checkpoints.proofs.Saved.{new_checkpoint, saves_all}
 use Rattle.lru_generations.specs.Saving.{IsUnfinished}
 use Rattle.lru_generations.proofs.ForGood.{save_fault, saves_looked, saves_unfinished, still_whole}
@@ -39,7 +40,7 @@ returns-then-is_unnamed-clause-saves g c k =
     let k-2 = c.save_manifest.ensures.kept.0 k-1 in
     let parts = c.in-Ok.ensures.saved in
     let stand = parts.1.1.1.1 k in
-    let unnamed : IsUnnamed c.in-Err-save_manifest.error = ? in
+    let unnamed : IsUnnamed c.in-Err-save_manifest.error = (c.if-is_unnamed.ensures {u = tt}).0 refl in
     saves_all g.K.Stored.bytes_of g.K.Stored.is_value g.V.Stored.bytes_of g.V.Stored.is_value c.args.dir.now c.args.file_name.now (g.S.Source.hands_out c.args.source.now) (g.S.Source.count c.args.source.now) c.args.generation c.requires.few c.ranges.generation.fits m start parts.0 c.in-Ok.frames.items parts.1.0 parts.1.1.0 parts.1.1.1.0 (c.in-Err-save_manifest.ensures.told unnamed) one two
     (c.save_parts.ensures.touches k) stand.0 stand.1 (c.save_manifest.ensures.replaces k-1)
 
@@ -62,7 +63,7 @@ returns-in-Err-save_manifest-clause-saves g c k =
     let two = c.save_manifest.new.folder in
     let new = c.clear-in-Err-save_manifest.new.folder in
     let k-2 = c.save_manifest.ensures.kept.0 k-1 in
-    let named : ¬ IsUnnamed c.in-Err-save_manifest.error = ? in
+    let named : ¬ IsUnnamed c.in-Err-save_manifest.error = λ u. never ((c.if-is_unnamed.ensures {u = tt}).1 u) in
     let second = touches_more m (λ q. q ≡ manifest_temp_path c.args.dir.now c.args.file_name.now c.args.generation) all (λ q e. inr e) one two (c.in-Err-save_manifest.ensures.unnamed k-1 named) in
     saves_unfinished g.K.Stored.bytes_of g.K.Stored.is_value g.V.Stored.bytes_of g.V.Stored.is_value c.args.dir.now c.args.file_name.now (g.S.Source.hands_out c.args.source.now) (g.S.Source.count c.args.source.now) c.args.generation c.requires.few c.ranges.generation.fits m start new
     (touches_then m all start two new (touches_then m all start one two first second) (c.clear-in-Err-save_manifest.ensures.touches k-2))

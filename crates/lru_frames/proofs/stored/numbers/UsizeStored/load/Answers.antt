@@ -1,0 +1,5 @@
+use Rattle.lru_frames.specs.WordLaws.{no_word}
+use Rattle.lru_frames.proofs.stored.numbers.UsizeStored.load.Goals as goal
+
+pub returns-in_default-clause-damaged : goal.returns-in_default-clause-damaged
+returns-in_default-clause-damaged c = λ _ value rest _ h. no_word c.args.bytes.now rest value c.in_default.ensures h

@@ -1,0 +1,12 @@
+use Rattle.lru_generations.proofs.SavedNext.{next_looked}
+use Rattle.lru_generations.proofs.generations.save.Goals as goal
+
+pub returns-in-Err-clause-saves : goal.returns-in-Err-clause-saves
+returns-in-Err-clause-saves g c k =
+    let k-1 = c.save_claimed.ensures.kept.0 k in
+    next_looked g.K.Stored.bytes_of g.K.Stored.is_value g.V.Stored.bytes_of g.V.Stored.is_value c.args.dir.now c.args.file_name.now (g.S.Source.hands_out c.args.source.now) (g.S.Source.count c.args.source.now) c.requires.name g.F.Folder.meaning c.args.folder.now c.save_claimed.new.folder c.leave_dir.new.self (c.save_claimed.ensures.saves k) (c.leave_dir.ensures.time k-1) (c.leave_dir.ensures.loss k-1)
+
+pub returns-in-Ok-clause-saves : goal.returns-in-Ok-clause-saves
+returns-in-Ok-clause-saves g c k =
+    let k-1 = c.save_claimed.ensures.kept.0 k in
+    next_looked g.K.Stored.bytes_of g.K.Stored.is_value g.V.Stored.bytes_of g.V.Stored.is_value c.args.dir.now c.args.file_name.now (g.S.Source.hands_out c.args.source.now) (g.S.Source.count c.args.source.now) c.requires.name g.F.Folder.meaning c.args.folder.now c.save_claimed.new.folder c.leave_dir-in-Ok.new.self (c.save_claimed.ensures.saves k) (c.leave_dir-in-Ok.ensures.time k-1) (c.leave_dir-in-Ok.ensures.loss k-1)

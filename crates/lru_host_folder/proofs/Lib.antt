@@ -1,0 +1,4 @@
+pub mod FailsLemmas
+pub mod PlaceLemmas
+pub mod TrailLemmas
+pub mod ReasonLemmas
