@@ -7,24 +7,24 @@ use Rattle.lru_folder.specs.Meaning.{Meaning}
 use Rattle.lru_frames.specs.declared.row.Row.{Row}
 use Rattle.lru_frames.specs.Words.{word}
 use Rattle.lru_checkpoints.specs.declared.errors.CheckpointError.{CheckpointError}
-use Rattle.lru_checkpoints.specs.Checkpoints.{Shards, AreHandedOut, HasCheckpoint}
-use Rattle.lru_checkpoints.specs.Loads.{IsFault, IsRefused, IsRefusedFrame, rows_of}
+use Rattle.lru_checkpoints.specs.Checkpoints.{Shards, AreHandedOut}
+use Rattle.lru_checkpoints.specs.Loads.{IsFault, IsRefused, IsRefusedFrame}
 use Rattle.lru_generations.specs.declared.checking.Told.{Told}
-use Rattle.lru_generations.specs.declared.loading.Checkpoint.{Checkpoint}
 use Rattle.lru_generations.specs.declared.loading.Loaded.{Loaded}
 use Rattle.lru_generations.specs.Faults.{IsFailed, IsUnlisted}
-use Rattle.lru_generations.specs.Loaded.{IsLoaded, IsReadable, number_of}
+use Rattle.lru_generations.specs.Loaded.{IsLoaded, number_of}
 use Rattle.lru_generations.specs.Newest.{AreGenerations, ArePassed}
 use Rattle.lru_generations.specs.Saving.{IsForGood, IsUnsaved, IsUnused, SavesNext}
 use Rattle.lru_generations.specs.Told.{AreAll, IsTold}
 use Rattle.lru_operations.specs.declared.outcome.Outcome.{Outcome}
 use Rattle.lru_operations.specs.declared.outcome.Outcome.TheVariants as outcome
+use Rattle.lru_operations.specs.declared.requests.Misuse.TheVariants as misuse
+use Rattle.lru_operations.specs.declared.requests.WordsError.{WordsError}
+use Rattle.lru_operations.specs.declared.requests.WordsError.TheVariants as words
+use Rattle.lru_operations.specs.Before.{IsWord, CanShowBefore, IsHighestThere}
 use Rattle.lru_operations.specs.InputRows as input
 use Rattle.lru_operations.specs.Texts.{Held, outcome_text, status_of}
-use Rattle.lru_operations.specs.Requests.{Asked, Help, Save, Show, ShowBefore, Check, Misused}
-
-abbrev pub IsWord : ℕ → Type 0
-IsWord n = n < 2 ^ 64
+use Rattle.lru_operations.specs.Requests.{Asked, Help, Save, Show, ShowBefore, Check, Misused, NoMemory}
 
 -- The rows of a shard, the one that was used last first: the lines are in the order of use, and a key's shard is the rest
 -- that 4 leaves of it.
@@ -40,20 +40,6 @@ abbrev pub HandsOut : Held → ℕ → List (Row ℕ ℕ) → Type 0
 HandsOut shards shard rows = IfSome (slice_get shards shard) (λ held. held.items ≡ rows)
 
 module _ {F : Type 0} (meaning : Meaning F) (dir file_name : List ℕ) where
-  -- a generation can be read as rows of numbers; and one above it can, too
-  abbrev pub CanShow : Files → ℕ → Type 0
-  CanShow files generation = IsReadable word IsWord word IsWord dir file_name files generation
-
-  abbrev pub CanShowBefore : Files → ℕ → Type 0
-  CanShowBefore files generation = CanShow files generation × ((above : ℕ) × ((generation < above) × CanShow files above))
-
-  -- this is the checkpoint of the highest generation that can be read and has one above it that can, or there is none
-  abbrev pub IsLoadedBefore : Files → Option (Checkpoint ℕ ℕ) → Type 0
-  IsLoadedBefore files None = (generation : ℕ) → ¬ CanShowBefore files generation
-  IsLoadedBefore files (Some checkpoint) = HasCheckpoint word IsWord word IsWord dir file_name checkpoint.generation (rows_of checkpoint.shards.items) files
-      × (((above : ℕ) × ((checkpoint.generation < above) × CanShow files above))
-      × ((higher : ℕ) → checkpoint.generation < higher → ¬ CanShowBefore files higher))
-
   -- memory or the device failed, or the folder is not there
   abbrev pub IsUnread : F → F → CheckpointError → Type 0
   IsUnread old new error = IsFault error × (IsUnlisted meaning dir old new error ⊎ IsFailed meaning old new error)
@@ -126,8 +112,9 @@ module _ {F : Type 0} (meaning : Meaning F) (dir file_name : List ℕ) where
   ComesOfShow old new outcome.Unread = ⊥
   ComesOfShow old new outcome.Memory = ⊥
 
+  -- the checkpoint of the highest generation that can be read and has one above it that can, or there is none
   abbrev pub ComesOfShowBefore : F → F → Outcome → Type 0
-  ComesOfShowBefore old new (outcome.Shown loaded) = IsLoadedBefore (meaning.files old) loaded.newest
+  ComesOfShowBefore old new (outcome.Shown loaded) = IsHighestThere dir file_name (meaning.files old) (CanShowBefore dir file_name (meaning.files old)) loaded.newest
   ComesOfShowBefore old new (outcome.Refused error) = IsFault error
   ComesOfShowBefore old new outcome.Helped = ⊥
   ComesOfShowBefore old new (outcome.Misused misuse) = ⊥
@@ -150,10 +137,16 @@ module _ {F : Type 0} (meaning : Meaning F) (dir file_name : List ℕ) where
   ComesOfCheck old new outcome.Unread = ⊥
   ComesOfCheck old new outcome.Memory = ⊥
 
+-- what comes of words that were not read
+abbrev pub unread_words : WordsError → Outcome
+unread_words words.Memory = outcome.Memory
+unread_words words.NoText = outcome.Misused misuse.NoText
+
 -- what comes of a request, over the bytes that are left in the input
 abbrev pub ComesOf : {F : Type 0} → Meaning F → Type 0 → Option (List ℕ) → Asked → F → F → Outcome → Type 0
 ComesOf meaning read_failed bytes Help old new came = (came ≡ outcome.Helped) × (new ≡ old)
 ComesOf meaning read_failed bytes (Misused misuse) old new came = (came ≡ outcome.Misused misuse) × (new ≡ old)
+ComesOf meaning read_failed bytes NoMemory old new came = (came ≡ outcome.Memory) × (new ≡ old)
 ComesOf meaning read_failed bytes (Save dir file_name) old new came = ComesOfSave meaning dir file_name read_failed bytes old new came
 ComesOf meaning read_failed bytes (Show dir file_name) old new came = meaning.keeps old → ComesOfShow meaning dir file_name old new came
 ComesOf meaning read_failed bytes (ShowBefore dir file_name) old new came = meaning.keeps old → ComesOfShowBefore meaning dir file_name old new came
@@ -169,6 +162,7 @@ abbrev pub LeavesFiles : {F : Type 0} → Meaning F → Asked → F → F → Ty
 LeavesFiles meaning (Save dir file_name) old new = Unit {0}
 LeavesFiles meaning Help old new = new ≡ old
 LeavesFiles meaning (Misused misuse) old new = new ≡ old
+LeavesFiles meaning NoMemory old new = new ≡ old
 LeavesFiles meaning (Show dir file_name) old new = meaning.keeps old → meaning.files new ≡ meaning.files old
 LeavesFiles meaning (ShowBefore dir file_name) old new = meaning.keeps old → meaning.files new ≡ meaning.files old
 LeavesFiles meaning (Check dir file_name) old new = meaning.keeps old → meaning.files new ≡ meaning.files old
@@ -178,6 +172,7 @@ abbrev pub LeavesWhole : {F : Type 0} → Meaning F → Option (List ℕ) → As
 LeavesWhole meaning bytes (Save dir file_name) old new = meaning.keeps old → IfSome bytes (λ read. SavesInput meaning dir file_name read old new)
 LeavesWhole meaning bytes Help old new = Unit {0}
 LeavesWhole meaning bytes (Misused misuse) old new = Unit {0}
+LeavesWhole meaning bytes NoMemory old new = Unit {0}
 LeavesWhole meaning bytes (Show dir file_name) old new = Unit {0}
 LeavesWhole meaning bytes (ShowBefore dir file_name) old new = Unit {0}
 LeavesWhole meaning bytes (Check dir file_name) old new = Unit {0}

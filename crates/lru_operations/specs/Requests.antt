@@ -1,9 +1,12 @@
 -- What the words that the program is called with ask for.
-use Rattle.std.specs.Prelude.{◌≡◌, ℕ, List, [], ◌∷◌, Option, Some, None, codes, false, if◌then◌else◌}
+use Rattle.std.specs.Prelude.{◌≡◌, ℕ, List, [], ◌∷◌, Option, Some, None, Result, Ok, Err, String, Vec, codes, false, map, string_bytes, if◌then◌else◌}
+use Rattle.std.specs.declared.alloc.Global.{Global}
 use Rattle.std.specs.Str.{bytes_eq}
 use Rattle.lru_folder.specs.Names.{has_slash}
 use Rattle.lru_operations.specs.declared.requests.Misuse.{Misuse}
 use Rattle.lru_operations.specs.declared.requests.Misuse.TheVariants.{Words, Command, FileName, NoFolder, NoFile, NoText}
+use Rattle.lru_operations.specs.declared.requests.WordsError.{WordsError}
+use Rattle.lru_operations.specs.declared.requests.WordsError.TheVariants as words
 use Rattle.lru_operations.specs.declared.requests.Request.{Request}
 use Rattle.lru_operations.specs.declared.requests.Request.TheVariants as request
 
@@ -14,6 +17,7 @@ pub data Asked : Type 0 where
   ShowBefore : (dir : List ℕ) → (file_name : List ℕ) → Asked
   Check : (dir : List ℕ) → (file_name : List ℕ) → Asked
   Misused : (misuse : Misuse) → Asked
+  NoMemory : Asked
 
 -- a request with its texts as bytes
 abbrev pub asked : Request → Asked
@@ -67,3 +71,10 @@ IsPossible (Show dir file_name) = has_slash file_name ≡ false
 IsPossible (ShowBefore dir file_name) = has_slash file_name ≡ false
 IsPossible (Check dir file_name) = has_slash file_name ≡ false
 IsPossible (Misused misuse) = Unit {0}
+IsPossible NoMemory = Unit {0}
+
+-- what is asked for where the words may not have been read
+abbrev pub asked_of : Result (Vec String Global) WordsError → Asked
+asked_of (Ok words) = request_of (map string_bytes words.items)
+asked_of (Err words.Memory) = NoMemory
+asked_of (Err words.NoText) = Misused NoText

@@ -1,4 +1,10 @@
 // The checkpoint below the newest one.
+ghost use Rattle.std.specs.Prelude.{◌≡◌, ◌↔◌, ◌<◌, false, AllPairs, IfErr, IfOk, OnOk};
+ghost use Rattle.lru_folder.specs.Names.{has_slash};
+ghost use Rattle.lru_checkpoints.specs.Loads.{IsFault};
+ghost use Rattle.lru_generations.specs.Newest.{AreGenerations, HasAllManifests};
+ghost use Rattle.lru_operations.specs.Before.{CanShowBefore, CanShowBelow, IsHighestThere};
+
 use lru_checkpoints::errors::{CheckpointError, CheckpointFile};
 use lru_checkpoints::loading::load_generation;
 use lru_folder::folder::Folder;
@@ -14,7 +20,14 @@ fn generations_in<F: Folder>(
     folder: &mut F,
     dir: &str,
     file_name: &str,
-) -> Result<Vec<u64>, CheckpointError> {
+) -> Result<Vec<u64>, CheckpointError>
+    requires { has_slash file_name.now ≡ false }
+    ensures generations { F.meaning.keeps folder.old → IfOk result (λ generations. AreGenerations dir.now file_name.now (F.meaning.files folder.old) generations.items) }
+    ensures falling { IfOk result (λ generations. AllPairs (λ first later. later < first) generations.items) }
+    ensures error { IfErr result IsFault }
+    ensures files { F.meaning.keeps folder.old → F.meaning.files folder.new ≡ F.meaning.files folder.old }
+    ensures kept { F.meaning.keeps folder.old ↔ F.meaning.keeps folder.new }
+{
     let parts = match list_parts(alloc, folder, dir, file_name) {
         Ok(parts) => parts,
         Err(ReadError::Memory) => return Err(CheckpointError::Memory),
@@ -34,7 +47,10 @@ fn pass_over(
     passed: &mut Vec<Passed>,
     generation: u64,
     error: CheckpointError,
-) -> Result<(), CheckpointError> {
+) -> Result<(), CheckpointError>
+    ensures unblamed { OnOk result (¬ IsFault error) }
+    ensures error { IfErr result IsFault }
+{
     if error.is_fault() {
         return Err(error);
     }
@@ -52,7 +68,15 @@ fn load_below<F: Folder>(
     file_name: &str,
     bound: u64,
     generations: &[u64],
-) -> Result<Loaded<u64, u64>, CheckpointError> {
+) -> Result<Loaded<u64, u64>, CheckpointError>
+    requires falling { AllPairs (λ first later. later < first) generations.now }
+    ensures loaded { F.meaning.keeps folder.old → HasAllManifests dir.now file_name.now (F.meaning.files folder.old) generations.now
+        → IfOk result (λ loaded. IsHighestThere dir.now file_name.now (F.meaning.files folder.old)
+        (CanShowBelow dir.now file_name.now (F.meaning.files folder.old) bound) loaded.newest) }
+    ensures error { IfErr result IsFault }
+    ensures files { F.meaning.keeps folder.old → F.meaning.files folder.new ≡ F.meaning.files folder.old }
+    ensures kept { F.meaning.keeps folder.old ↔ F.meaning.keeps folder.new }
+{
     let mut passed = Vec::new(alloc);
     for generation in generations {
         let generation = *generation;
@@ -78,7 +102,14 @@ pub(crate) fn load_before<F: Folder>(
     folder: &mut F,
     dir: &str,
     file_name: &str,
-) -> Result<Loaded<u64, u64>, CheckpointError> {
+) -> Result<Loaded<u64, u64>, CheckpointError>
+    requires { has_slash file_name.now ≡ false }
+    ensures loaded { F.meaning.keeps folder.old → IfOk result (λ loaded. IsHighestThere dir.now file_name.now (F.meaning.files folder.old)
+        (CanShowBefore dir.now file_name.now (F.meaning.files folder.old)) loaded.newest) }
+    ensures error { IfErr result IsFault }
+    ensures files { F.meaning.keeps folder.old → F.meaning.files folder.new ≡ F.meaning.files folder.old }
+    ensures kept { F.meaning.keeps folder.old ↔ F.meaning.keeps folder.new }
+{
     let loaded = load(alloc, folder, dir, file_name)?;
     let Some(newest) = &loaded.newest else {
         return Ok(loaded);

@@ -71,6 +71,26 @@ pub fn run<F: SyncedFolder, R: Input, W: Output>(
     Ok(outcome.status())
 }
 
+/// Writes what came of a request through a buffer. Answers the status, and the writer beneath, which has taken all that was
+/// written. Where a write fails the status is 1 and there is no writer; what it took is a beginning of the text.
+pub fn tell_buffered<W: Write + Drop>(
+    outcome: &Outcome,
+    writer: BufWriter<W>,
+) -> (u8, Option<W>)
+    ensures told { IfSome result.1 (λ written. (result.0 ≡ status_of outcome.now)
+        × Appends (writer_contents W.contents writer) (W.contents written) (outcome_text outcome.now)) }
+    ensures written { result.0 ≢ 1 → IsSome result.1 }
+{
+    let mut buffered = writer;
+    let Ok(()) = write_outcome(&mut buffered, outcome) else {
+        return (1, None);
+    };
+    match buffered.into_inner() {
+        Ok(written) => (outcome.status(), Some(written)),
+        Err(_) => (1, None),
+    }
+}
+
 /// As `run`, through a buffer. Answers the status, and the writer beneath, which has taken all that was written. Where a write
 /// fails the status is 1 and there is no writer; what it took is a beginning of the text.
 pub fn run_buffered<F: SyncedFolder, R: Input, W: Write + Drop>(
@@ -87,12 +107,6 @@ pub fn run_buffered<F: SyncedFolder, R: Input, W: Write + Drop>(
     ensures written { result.0 ≢ 1 → IsSome result.1 }
     ensures kept { F.meaning.keeps folder.old ↔ F.meaning.keeps folder.new }
 {
-    let mut buffered = writer;
-    let Ok(status) = run(alloc, folder, words, reader, &mut buffered) else {
-        return (1, None);
-    };
-    match buffered.into_inner() {
-        Ok(written) => (status, Some(written)),
-        Err(_) => (1, None),
-    }
+    let outcome = outcome_of(alloc, folder, request_from(words), reader);
+    tell_buffered(&outcome, writer)
 }

@@ -20,6 +20,15 @@ pub enum Misuse {
     NoText,
 }
 
+/// Why the words were not read.
+#[derive(Clone, Copy, Debug, PartialEq, Eq)]
+pub enum WordsError {
+    /// No memory was found for them.
+    Memory,
+    /// One is no text in UTF-8.
+    NoText,
+}
+
 /// What the words ask for.
 #[derive(Clone, Copy)]
 pub enum Request<'a> {

@@ -3,8 +3,9 @@ ghost use Rattle.std.specs.Prelude.{◌≡◌, ◌⊎◌, ◌↔◌, ◌<◌, �
 ghost use Rattle.lru_folder.specs.Names.{has_slash};
 ghost use Rattle.lru_frames.specs.Words.{word};
 ghost use Rattle.lru_generations.specs.Saving.{SavesNext};
+ghost use Rattle.lru_operations.specs.Before.{IsWord};
 ghost use Rattle.lru_operations.specs.Texts.{Held};
-ghost use Rattle.lru_operations.specs.Outcomes.{IsWord, rows_in, AreShardsOf, HandsOut, ComesOfRows, ComesOfInput, ComesOfSave, SavesInput};
+ghost use Rattle.lru_operations.specs.Outcomes.{rows_in, AreShardsOf, HandsOut, ComesOfRows, ComesOfInput, ComesOfSave, SavesInput};
 
 use crate::input_rows::{InputRowsError, rows_from};
 use crate::outcome::Outcome;
