@@ -1,9 +1,20 @@
 //! `checkpoint_tool`: saves, shows and checks checkpoints of rows.
 #![tactic(auto)]
 
+use lru_host_folder::host_folder::HostFolder;
 use lru_operations::program;
 use std::process::ExitCode;
 
 fn main(rt: HostRuntime) -> ExitCode {
-    program::run(rt)
+    let words = program::words(&rt);
+    let mut folder = HostFolder::new(rt);
+    program::run(
+        rt.alloc(),
+        &mut folder,
+        words,
+        &mut rt.stdin(),
+        rt.stdout(),
+        &mut rt.stderr(),
+    )
+    .code
 }

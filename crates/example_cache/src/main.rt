@@ -4,16 +4,14 @@
 //! is made and put with that many bytes, and the entries that were used longest ago go until the budget, the first argument,
 //! is kept. At the end the cache is saved as a checkpoint, whole or not at all, and at the start it is loaded from there.
 //!
-//! Where the newest checkpoint is damaged, the one before is taken. A bad line, or no budget: a line that says which, and
-//! status 2. A checkpoint that was not loaded or saved: a line that says why, and status 1; a damaged one is left as it is.
+//! Where the newest checkpoint is damaged, a line says so, and the one before is taken. A bad line, or no budget: a line that
+//! says which, and status 2. A checkpoint that was not loaded or saved: a line that says why, and status 1.
 #![tactic(auto)]
 
 use lru_cache::cache::Cache;
-use lru_cache_captures::caches::{capture_cache, restore_cache};
-use lru_checkpoints::errors::{CheckpointError, CheckpointFile};
-use lru_checkpoints::loading::load_checkpoint;
+use lru_cache_captures::caches::{CacheSource, restore_shards};
 use lru_generations::generations::save;
-use lru_generations::loading::load_before;
+use lru_generations::loading::{Loaded, load};
 use lru_host_folder::host_folder::HostFolder;
 use std::io::ErrorKind;
 use std::process::ExitCode;
@@ -28,29 +26,31 @@ fn request_of(line: &str) -> Option<(u64, usize)> {
     Some((key.parse().ok()?, size.parse().ok()?))
 }
 
-/// Puts back what the last run saved, if there was one.
-fn load(
+/// Puts back what the last run saved, if there was one. Whether that was done.
+fn come_back(
     rt: HostRuntime,
     folder: &mut HostFolder<HostRuntime>,
     cache: &mut Cache<u64, u64>,
-) -> Result<(), CheckpointError> {
-    let file = CheckpointFile::Manifest;
-    let checkpoint = match load_checkpoint::<_, u64, u64>(rt.alloc(), folder, FOLDER, NAME) {
-        Ok(checkpoint) => checkpoint,
-        Err(error) if error == (CheckpointError::Missing { file }) => return Ok(()),
-        Err(error) if error.is_fault() => return Err(error),
-        Err(error) => match load_before(rt.alloc(), folder, FOLDER, NAME) {
-            Ok(checkpoint) => checkpoint,
-            Err(_) => return Err(error),
-        },
-    };
-    for rows in checkpoint.shards {
-        // Under a smaller budget than the last run's, the entries that were used longest ago go, or one is too heavy.
-        if restore_cache(cache, rows).is_err() {
-            return Err(CheckpointError::Memory);
+) -> io::Result<bool> {
+    let Loaded { newest, passed } = match load(rt.alloc(), folder, FOLDER, NAME) {
+        Ok(loaded) => loaded,
+        Err(error) => {
+            println!(rt; "not loaded: {error}")?;
+            return Ok(false);
         }
+    };
+    for it in &passed {
+        println!(rt; "passed over generation {}: {}", it.generation, it.error)?;
     }
-    Ok(())
+    let Some(checkpoint) = newest else {
+        return Ok(true);
+    };
+    // Under a smaller budget than the last run's, the entries that were used longest ago go, or one is too heavy.
+    if let Err(refused) = restore_shards(cache, checkpoint.shards) {
+        println!(rt; "not put back: {}", refused.cause)?;
+        return Ok(false);
+    }
+    Ok(true)
 }
 
 /// Saves the entries, the one that was used last first: put back, they stand as they stood.
@@ -59,8 +59,7 @@ fn keep(
     folder: &mut HostFolder<HostRuntime>,
     cache: &Cache<u64, u64>,
 ) -> io::Result<ExitCode> {
-    let rows = capture_cache(rt.alloc(), cache)?;
-    match save(rt.alloc(), folder, FOLDER, NAME, &[rows]) {
+    match save(rt.alloc(), folder, FOLDER, NAME, &CacheSource { cache }) {
         Ok(saved) => println!(rt; "saved as generation {}", saved.generation)?,
         Err(error) => {
             println!(rt; "not saved: {error}")?;
@@ -114,8 +113,7 @@ fn main(rt: HostRuntime) -> io::Result<ExitCode> {
     };
     let mut folder = HostFolder::new(rt);
     let mut cache = Cache::new(rt.alloc(), budget, usize::MAX)?;
-    if let Err(error) = load(rt, &mut folder, &mut cache) {
-        println!(rt; "not loaded: {error}")?;
+    if !come_back(rt, &mut folder, &mut cache)? {
         return Ok(ExitCode::from(1));
     }
     println!(rt; "{} entries are here", cache.len())?;

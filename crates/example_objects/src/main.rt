@@ -5,20 +5,19 @@
 //! `kill` forgets the store and goes on with what the last checkpoint holds, as the next run does of a program that was
 //! killed. So does the start.
 //!
-//! It shows `LruCore`, `capture_core`, `save`, `load_checkpoint` and `restore_shard`. It is proved (`put`) that the store
+//! It shows `LruCore`, `CoreSource`, `save`, `load` and `restore_shards`. It is proved (`put`) that the store
 //! keeps its budget. (That the rows that are captured come back in their order is proved of the calls that it shows.)
 //!
-//! A bad line, or no budget: a line that says which, and status 2. A checkpoint that is damaged, or can't be read: a line
-//! that says so, and status 1; it is left as it is.
+//! Where the newest checkpoint is damaged, a line says so, and the one before is taken. A bad line, or no budget: a line that
+//! says which, and status 2. A checkpoint that can't be read: a line that says why, and status 1.
 #![tactic(auto)]
 
 mod store;
 
-use lru_checkpoints::errors::{CheckpointError, CheckpointFile};
-use lru_checkpoints::loading::load_checkpoint;
 use lru_generations::generations::save;
+use lru_generations::loading::{Loaded, load};
 use lru_host_folder::host_folder::HostFolder;
-use lru_order_captures::cores::{capture_core, restore_shard};
+use lru_order_captures::cores::{CoreSource, restore_shards};
 use rand::rngs::StdRng;
 use rand_core::SeedableRng;
 use std::env::Env;
@@ -52,37 +51,36 @@ fn budget(rt: &(impl Env + AllocGlobal)) -> io::Result<Option<usize>> {
 
 /// Saves the objects in their order.
 fn keep(rt: HostRuntime, store: &Store) -> io::Result<()> {
-    let shards = capture_core(rt.alloc(), store)?;
     let mut folder = HostFolder::new(rt);
-    match save(rt.alloc(), &mut folder, FOLDER, NAME, &shards) {
+    match save(
+        rt.alloc(),
+        &mut folder,
+        FOLDER,
+        NAME,
+        &CoreSource { core: store },
+    ) {
         Ok(saved) => println!(rt; "saved as generation {}", saved.generation),
         Err(error) => println!(rt; "not saved: {error}"),
     }
 }
 
-/// A store with this budget, of what was saved last, if anything was.
-fn load(rt: HostRuntime, budget: usize) -> Result<Store, CheckpointError> {
-    let mut store = empty_store(rt.alloc(), budget)?;
-    let mut folder = HostFolder::new(rt);
-    let file = CheckpointFile::Manifest;
-    let checkpoint = match load_checkpoint::<_, u64, u64>(rt.alloc(), &mut folder, FOLDER, NAME) {
-        Err(error) if error == (CheckpointError::Missing { file }) => return Ok(store),
-        found => found?,
-    };
-    for rows in checkpoint.shards {
-        if restore_shard(&mut store, rows).is_err() {
-            return Err(CheckpointError::Memory);
-        }
-    }
-    Ok(store)
-}
-
-/// Goes on with what was saved last. Whether it could be loaded.
+/// Goes on with what was saved last, if anything was. Whether it could be loaded.
 fn come_back(rt: HostRuntime, store: &mut Store) -> io::Result<bool> {
-    match load(rt, store.weight_limit()) {
-        Ok(saved) => *store = saved,
+    *store = empty_store(rt.alloc(), store.weight_limit())?;
+    let mut folder = HostFolder::new(rt);
+    let Loaded { newest, passed } = match load(rt.alloc(), &mut folder, FOLDER, NAME) {
+        Ok(loaded) => loaded,
         Err(error) => {
             println!(rt; "not loaded: {error}")?;
+            return Ok(false);
+        }
+    };
+    for it in &passed {
+        println!(rt; "passed over generation {}: {}", it.generation, it.error)?;
+    }
+    if let Some(checkpoint) = newest {
+        if let Err(refused) = restore_shards(store, checkpoint.shards) {
+            println!(rt; "not put back: {}", refused.cause)?;
             return Ok(false);
         }
     }

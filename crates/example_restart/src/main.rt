@@ -5,15 +5,13 @@
 //! first argument, is kept. At the end the cache is saved as a checkpoint, whole or not at all, and at the start it is loaded
 //! from the folder that the second argument names.
 //!
-//! No budget or folder, or a bad line: a line that says which, and status 2. A checkpoint that was not loaded or saved: a line
-//! that says why, and status 1; a damaged one is left as it is.
+//! Where the newest checkpoint is damaged, a line says so, and the one before is taken. No budget or folder, or a bad line: a
+//! line that says which, and status 2. A checkpoint that was not loaded or saved: a line that says why, and status 1.
 #![tactic(auto)]
 
-use lru_cache_captures::shared::{capture_shared, restore_shard};
-use lru_checkpoints::errors::{CheckpointError, CheckpointFile};
-use lru_checkpoints::loading::load_checkpoint;
-use lru_frames::row::Row;
+use lru_cache_captures::shared::{SharedSource, restore_shards};
 use lru_generations::generations::save;
+use lru_generations::loading::{Loaded, load};
 use lru_host_folder::host_folder::HostFolder;
 use lru_shared::shared::SharedCache;
 use std::alloc::{AllocError, Global};
@@ -91,85 +89,36 @@ fn look_up<R: Wait>(rt: &R, pages: &Pages, made: &AtomicU64, request: &Request) 
     let _ = pages.get_or_put_with(rt, Some(name), make, |_gone| {});
 }
 
-/// Puts back what the last run saved, if there was one.
-fn load<R: Wait>(
+/// Puts back what the last run saved, if there was one. Whether that was done.
+fn come_back<R: Print + Wait>(
     rt: &R,
     alloc: Global,
     folder: &mut HostFolder<HostRuntime>,
     dir: &str,
     pages: &Pages,
-) -> Result<(), CheckpointError> {
-    let file = CheckpointFile::Manifest;
-    let checkpoint = match load_checkpoint::<_, String, u64>(alloc, folder, dir, NAME) {
-        Ok(checkpoint) => checkpoint,
-        Err(error) if error == (CheckpointError::Missing { file }) => return Ok(()),
-        Err(error) => return Err(error),
-    };
-    for rows in checkpoint.shards {
-        put_back(rt, alloc, pages, rows)?;
-    }
-    Ok(())
-}
-
-/// Puts back the entries of one shard. Under a smaller budget those go that were used longest ago.
-fn put_back<R: Wait>(
-    rt: &R,
-    alloc: Global,
-    pages: &Pages,
-    rows: Vec<Row<String, u64>>,
-) -> Result<(), CheckpointError> {
-    let rows = keyed(alloc, rows)?;
-    match restore_shard(rt, pages, rows) {
-        Ok(_) => Ok(()),
-        Err(_) => Err(CheckpointError::Memory),
-    }
-}
-
-/// The rows with keys as the cache has them.
-fn keyed(
-    alloc: Global,
-    rows: Vec<Row<String, u64>>,
-) -> Result<Vec<Row<Option<String>, u64>>, AllocError> {
-    let mut keyed = Vec::with_capacity(alloc, rows.len())?;
-    for row in rows {
-        keyed.push(Row {
-            key: Some(row.key),
-            data: row.data,
-            weight: row.weight,
-        })?;
-    }
-    Ok(keyed)
-}
-
-/// The rows with the names themselves for keys, as a checkpoint has them.
-fn named(
-    alloc: Global,
-    rows: Vec<Row<Option<String>, u64>>,
-) -> Result<Vec<Row<String, u64>>, AllocError> {
-    let mut named = Vec::with_capacity(alloc, rows.len())?;
-    for row in rows {
-        let Row { key, data, weight } = row;
-        if let Some(key) = key {
-            named.push(Row { key, data, weight })?;
+) -> io::Result<bool> {
+    let Loaded { newest, passed } = match load(alloc, folder, dir, NAME) {
+        Ok(loaded) => loaded,
+        Err(error) => {
+            println!(rt; "not loaded: {error}")?;
+            return Ok(false);
         }
+    };
+    for it in &passed {
+        println!(rt; "passed over generation {}: {}", it.generation, it.error)?;
     }
-    Ok(named)
+    let Some(checkpoint) = newest else {
+        return Ok(true);
+    };
+    // Under a smaller budget than the last run's, the pages that were used longest ago go, or one is too heavy.
+    if let Err(refused) = restore_shards(rt, pages, checkpoint.shards) {
+        println!(rt; "not put back: {}", refused.cause)?;
+        return Ok(false);
+    }
+    Ok(true)
 }
 
-/// Copies of the entries of each shard, as a checkpoint has them.
-fn copy<R: Wait>(
-    rt: &R,
-    alloc: Global,
-    pages: &Pages,
-) -> Result<Vec<Vec<Row<String, u64>>>, AllocError> {
-    let mut shards = Vec::new(alloc);
-    for rows in capture_shared(rt, alloc, pages)? {
-        shards.push(named(alloc, rows)?)?;
-    }
-    Ok(shards)
-}
-
-/// Saves the entries: put back, those of each shard stand as they stood.
+/// Saves the entries, one shard after the other: put back, those of each stand as they stood.
 fn keep<R: Print + Wait>(
     rt: &R,
     alloc: Global,
@@ -177,8 +126,8 @@ fn keep<R: Print + Wait>(
     dir: &str,
     pages: &Pages,
 ) -> io::Result<ExitCode> {
-    let shards = copy(rt, alloc, pages)?;
-    match save(alloc, folder, dir, NAME, &shards) {
+    let source = SharedSource { rt, cache: pages };
+    match save(alloc, folder, dir, NAME, &source) {
         Ok(saved) => println!(rt; "saved as generation {}", saved.generation)?,
         Err(error) => {
             println!(rt; "not saved: {error}")?;
@@ -221,8 +170,7 @@ fn main(rt: HostRuntime) -> io::Result<ExitCode> {
     };
     let mut folder = HostFolder::new(rt);
     let pages = Pages::new(rt.alloc(), budget, usize::MAX)?;
-    if let Err(error) = load(&rt, rt.alloc(), &mut folder, &dir, &pages) {
-        println!(rt; "not loaded: {error}")?;
+    if !come_back(&rt, rt.alloc(), &mut folder, &dir, &pages)? {
         return Ok(ExitCode::from(1));
     }
     println!(rt; "{} pages are here", pages.len(&rt))?;

@@ -6,12 +6,12 @@
 //! making. Without arguments it makes 10 000 rows, and no line says how long.
 #![tactic(auto)]
 
-use lru_checkpoints::loading::load_checkpoint;
 use lru_cores::lru_core::LruCore;
 use lru_frames::row::Row;
 use lru_generations::generations::save;
+use lru_generations::loading::{Checkpoint, load};
 use lru_host_folder::host_folder::HostFolder;
-use lru_order_captures::cores::restore_shard;
+use lru_order_captures::cores::restore_shards;
 use std::alloc::{AllocError, Global};
 use std::env::Env;
 use std::process::ExitCode;
@@ -73,7 +73,7 @@ fn shards(alloc: Global, rows: u64) -> Result<[Shard; 8], AllocError> {
 fn save_rows(rt: HostRuntime, shards: &[Shard; 8], dir: &str) -> io::Result<bool> {
     let mut folder = HostFolder::new(rt);
     let start = Instant::now(&rt)?;
-    match save(rt.alloc(), &mut folder, dir, "rows", shards) {
+    match save(rt.alloc(), &mut folder, dir, "rows", &shards.as_slice()) {
         Ok(saved) => println!(rt;
             "generation {}, {} ms",
             saved.generation,
@@ -87,47 +87,48 @@ fn save_rows(rt: HostRuntime, shards: &[Shard; 8], dir: &str) -> io::Result<bool
     Ok(true)
 }
 
-/// Loads the newest checkpoint; whether that was done.
-fn load_rows(rt: HostRuntime, dir: &str) -> io::Result<bool> {
+/// The newest checkpoint, where there is one and it can be loaded.
+fn loaded(rt: HostRuntime, dir: &str) -> io::Result<Option<Checkpoint<u64, u64>>> {
     let mut folder = HostFolder::new(rt);
-    let start = Instant::now(&rt)?;
-    match load_checkpoint::<_, u64, u64>(rt.alloc(), &mut folder, dir, "rows") {
-        Ok(loaded) => println!(rt;
-            "generation {}, {} ms",
-            loaded.generation,
-            start.elapsed(&rt)?.as_millis()
-        )?,
+    match load(rt.alloc(), &mut folder, dir, "rows") {
+        Ok(loaded) => Ok(loaded.newest),
         Err(error) => {
             println!(rt; "not loaded: {error}")?;
-            return Ok(false);
+            Ok(None)
         }
     }
+}
+
+/// Loads the newest checkpoint; whether that was done.
+fn load_rows(rt: HostRuntime, dir: &str) -> io::Result<bool> {
+    let start = Instant::now(&rt)?;
+    let Some(checkpoint) = loaded(rt, dir)? else {
+        return Ok(false);
+    };
+    println!(rt;
+        "generation {}, {} ms",
+        checkpoint.generation,
+        start.elapsed(&rt)?.as_millis()
+    )?;
     Ok(true)
 }
 
 /// A core with these rows, where there is memory for them.
 fn core_of(alloc: Global, shards: Vec<Shard>) -> Result<Option<Core>, AllocError> {
     let mut core = Core::with_capacity(alloc, usize::MAX, 0)?;
-    for rows in shards {
-        if restore_shard(&mut core, rows).is_err() {
-            return Ok(None);
-        }
+    match restore_shards(&mut core, shards) {
+        Ok(()) => Ok(Some(core)),
+        Err(_) => Ok(None),
     }
-    Ok(Some(core))
 }
 
 /// Loads the newest checkpoint into a core; whether that was done.
 fn restore_rows(rt: HostRuntime, dir: &str) -> io::Result<bool> {
-    let mut folder = HostFolder::new(rt);
     let start = Instant::now(&rt)?;
-    let loaded = match load_checkpoint::<_, u64, u64>(rt.alloc(), &mut folder, dir, "rows") {
-        Ok(loaded) => loaded,
-        Err(error) => {
-            println!(rt; "not loaded: {error}")?;
-            return Ok(false);
-        }
-    };
-    tell_core(rt, loaded.shards, start)
+    match loaded(rt, dir)? {
+        Some(checkpoint) => tell_core(rt, checkpoint.shards, start),
+        None => Ok(false),
+    }
 }
 
 /// Puts rows into a core, and says how many they are and how long it took from the start; whether that was done.

@@ -1,12 +1,20 @@
-//! A save that is held holds up no call: what it writes was copied before.
+//! A save that is held holds up no call: each shard is copied before it is written, and no lock is held meanwhile.
+ghost use Rattle.std.specs.Prelude.{◌≤◌};
+ghost use Rattle.lru_checkpoints.specs.Checkpoints.{most_shards};
+
 use lru_checkpoints::errors::CheckpointError;
-use lru_checkpoints::loading::load_checkpoint;
 use lru_folder::folder::Folder;
+use lru_frames::frame::Header;
+use lru_frames::mark::Mark;
+use lru_frames::row::Row;
+use lru_frames::source::Source;
+use lru_frames::stored::Stored;
 use lru_generations::generations::save;
+use lru_generations::loading::load;
 use lru_locks::lru::Lru;
 use lru_memory_folder::memory_folder::MemoryFolder;
-use lru_order_captures::locks::capture_lru;
-use std::alloc::Global;
+use lru_order_captures::locks::LruSource;
+use std::alloc::{AllocError, Global};
 use std::sync::Wait;
 use std::sync::atomic::{AtomicBool, Ordering};
 use std::test::Fail;
@@ -24,31 +32,61 @@ fn is_raised(flag: &AtomicBool) -> bool {
     false
 }
 
-// Captures, holds the save until calls on both shards are done, and saves. Whether it saw them, and the rows before them are
-// what a load finds.
-fn saves_what_it_held<R: Wait>(
-    rt: &R,
+// A source that holds the save once the first shard is copied, until calls on both shards are done.
+#[derive(Drop)]
+struct Held<'a, S> {
+    inner: S,
+    captured: &'a AtomicBool,
+    called: &'a AtomicBool,
+}
+
+impl<'a, K: Stored, V: Stored, S: Source<K, V>> Source<K, V> for Held<'a, S> {
+    ghost count = { λ held. S.count held.inner };
+
+    ghost hands_out = { λ held shard rows. S.hands_out held.inner shard rows };
+
+    fn shards(&self) -> usize {
+        self.inner.shards()
+    }
+
+    fn frame(&self, alloc: Global, header: Header) -> Result<(Vec<u8>, Mark), AllocError> {
+        let copied = self.inner.frame(alloc, header)?;
+        if header.shard == 0 {
+            self.captured.store(true, Ordering::SeqCst);
+            let _ = is_raised(self.called);
+        }
+        Ok(copied)
+    }
+}
+
+// Whether a shard has one row, which is this key's with this number.
+fn has_row(rows: &[Row<u64, u64>], key: u64, number: u64) -> bool {
+    match rows {
+        [row] => (row.key == key) & (row.data == number),
+        _ => false,
+    }
+}
+
+// Saves while calls are made. Whether the first shard is loaded as it stood before them, and the second, which was copied
+// later, as it stood after them.
+fn saves_while_called<S: Source<u64, u64>>(
     alloc: Global,
-    lru: &Lru<(u64, u64), 2>,
-    captured: &AtomicBool,
-    called: &AtomicBool,
-) -> Result<bool, CheckpointError> {
+    source: &S,
+) -> Result<bool, CheckpointError>
+    requires { S.count source.now ≤ most_shards }
+{
     let mut folder = MemoryFolder::new(alloc);
     if folder.make("d").is_err() {
         return Ok(false);
     }
-    let shards = capture_lru(rt, alloc, lru)?;
-    captured.store(true, Ordering::SeqCst);
-    let is_seen = is_raised(called);
-    if shards.len() != 2 {
+    save(alloc, &mut folder, "d", "c", source)?;
+    let Some(loaded) = load(alloc, &mut folder, "d", "c")?.newest else {
         return Ok(false);
+    };
+    match loaded.shards.as_slice() {
+        [first, second] => Ok(has_row(first, 0, 7) & has_row(second, 3, 8)),
+        _ => Ok(false),
     }
-    save(alloc, &mut folder, "d", "c", &shards)?;
-    let loaded = load_checkpoint::<_, u64, u64>(alloc, &mut folder, "d", "c")?;
-    let is_old = (loaded.shards.len() == 2)
-        && loaded.shards.iter().all(|rows| (rows.len() == 1)
-            && rows.iter().all(|row| row.data == 7));
-    Ok(is_seen & is_old)
 }
 
 // Calls on both shards while the save is held. Whether it was, and they were answered.
@@ -72,9 +110,15 @@ fn goes_on<R: Threads + Wait + Sync>(rt: &R, alloc: Global) -> Result<bool, Fail
     let (captured, called, shared) = (&first, &second, &lru);
     let (saved, called) = thread::join(
         rt,
-        move || saves_what_it_held(rt, alloc, shared, captured, called).is_ok_and(
-            |is_saved| is_saved,
-        ),
+        move || {
+            let inner = LruSource { rt, lru: shared };
+            let held = Held {
+                inner,
+                captured,
+                called,
+            };
+            saves_while_called(alloc, &held).is_ok_and(|is_saved| is_saved)
+        },
         move || calls(rt, shared, captured, called),
     );
     Ok(is_put & saved & called)
@@ -82,6 +126,7 @@ fn goes_on<R: Threads + Wait + Sync>(rt: &R, alloc: Global) -> Result<bool, Fail
 
 #[test]
 fn a_held_save_holds_up_no_call(rt: HostRuntime) -> Result<(), Fail> {
-    assert!(rt; goes_on(&rt, rt.alloc())?);
+    let is_right = goes_on(&rt, rt.alloc())?;
+    assert!(rt; is_right);
     Ok(())
 }

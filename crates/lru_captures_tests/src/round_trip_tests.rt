@@ -1,13 +1,17 @@
 //! Rows captured, saved, loaded and put back.
+ghost use Rattle.std.specs.Prelude.{◌≤◌};
+ghost use Rattle.lru_checkpoints.specs.Checkpoints.{most_shards};
+
 use lru_cache::cache::Cache;
 use lru_cache_captures::{caches, shared};
 use lru_checkpoints::errors::CheckpointError;
-use lru_checkpoints::loading::load_checkpoint;
 use lru_cores::lru_core::LruCore;
 use lru_folder::folder::Folder;
 use lru_frames::row::Row;
+use lru_frames::source::Source;
 use lru_frames::stored::Stored;
 use lru_generations::generations::save;
+use lru_generations::loading::load;
 use lru_locks::lru::Lru;
 use lru_memory_folder::memory_folder::MemoryFolder;
 use lru_order_captures::{cores, locks, snapshots};
@@ -16,20 +20,22 @@ use std::alloc::{AllocError, Global};
 use std::sync::Wait;
 use std::test::Fail;
 
-// The shards as a load finds them after a save.
-fn saved_and_loaded<K: Stored, V: Stored>(
+// The shards as a load finds them after a save; none where it finds none.
+fn saved_and_loaded<K: Stored, V: Stored, S: Source<K, V>>(
     alloc: Global,
-    shards: &[Vec<Row<K, V>>],
-) -> Result<Vec<Vec<Row<K, V>>>, CheckpointError> {
-    if shards.len() > 4 {
-        return Err(CheckpointError::LastGeneration);
-    }
+    source: &S,
+) -> Result<Vec<Vec<Row<K, V>>>, CheckpointError>
+    requires { S.count source.now ≤ most_shards }
+{
     let mut folder = MemoryFolder::new(alloc);
     if folder.make("d").is_err() {
         return Err(CheckpointError::Memory);
     }
-    save(alloc, &mut folder, "d", "c", shards)?;
-    Ok(load_checkpoint(alloc, &mut folder, "d", "c")?.shards)
+    save(alloc, &mut folder, "d", "c", source)?;
+    match load(alloc, &mut folder, "d", "c")?.newest {
+        Some(checkpoint) => Ok(checkpoint.shards),
+        None => Ok(Vec::new(alloc)),
+    }
 }
 
 fn text(alloc: Global, number: u64) -> Result<String, AllocError> {
@@ -56,12 +62,10 @@ fn core_comes_back(alloc: Global) -> Result<bool, Fail> {
             return Ok(false);
         }
     }
-    let shards = cores::capture_core(alloc, &core)?;
+    let shards = saved_and_loaded(alloc, &cores::CoreSource { core: &core })?;
     let mut again: LruCore<(u64, String), 2> = LruCore::with_capacity(alloc, 100, 4)?;
-    for rows in saved_and_loaded(alloc, &shards)? {
-        if cores::restore_shard(&mut again, rows).is_err() {
-            return Ok(false);
-        }
+    if cores::restore_shards(&mut again, shards).is_err() {
+        return Ok(false);
     }
     let rows = cores::capture_shard(alloc, &again, 1)?;
     Ok(is_as_it_stood(&rows) & (again.len() == 4) & (again.weight() == 7))
@@ -83,12 +87,10 @@ fn lru_comes_back<R: Wait>(rt: &R, alloc: Global) -> Result<bool, Fail> {
             return Ok(false);
         }
     }
-    let shards = locks::capture_lru(rt, alloc, &lru)?;
+    let shards = saved_and_loaded(alloc, &locks::LruSource { rt, lru: &lru })?;
     let again: Lru<(u64, String), 2> = Lru::with_capacity(alloc, 100, 4)?;
-    for rows in saved_and_loaded(alloc, &shards)? {
-        if locks::restore_shard(rt, &again, rows).is_err() {
-            return Ok(false);
-        }
+    if locks::restore_shards(rt, &again, shards).is_err() {
+        return Ok(false);
     }
     let rows = locks::capture_shard(rt, alloc, &again, 1)?;
     Ok(is_as_it_stood(&rows) & (again.len() == 4) & (again.weight() == 7))
@@ -110,20 +112,15 @@ fn cache_comes_back(alloc: Global) -> Result<bool, Fail> {
             return Ok(false);
         }
     }
-    let rows = caches::capture_cache(alloc, &cache)?;
-    let shards = [rows];
+    let source = caches::CacheSource { cache: &cache };
     // under a limit of 4 the last of the three goes
     let mut again: Cache<u64, String> = Cache::new(alloc, 100, 100)?;
     let mut small: Cache<u64, String> = Cache::new(alloc, 4, 100)?;
-    for rows in saved_and_loaded(alloc, &shards)? {
-        if caches::restore_cache(&mut again, rows).is_err() {
-            return Ok(false);
-        }
+    if caches::restore_shards(&mut again, saved_and_loaded(alloc, &source)?).is_err() {
+        return Ok(false);
     }
-    for rows in saved_and_loaded(alloc, &shards)? {
-        if caches::restore_cache(&mut small, rows).is_err() {
-            return Ok(false);
-        }
+    if caches::restore_shards(&mut small, saved_and_loaded(alloc, &source)?).is_err() {
+        return Ok(false);
     }
     let rows = caches::capture_cache(alloc, &again)?;
     Ok(is_as_it_stood(&rows) & (small.len() == 2) & (small.weight() == 4) & !small.contains(&3))
@@ -170,20 +167,6 @@ fn a_cache_comes_back(rt: HostRuntime) -> Result<(), Fail> {
     Ok(())
 }
 
-// Puts back what was saved, each shard's entries. Whether each was let in.
-fn is_put_back<R: Wait>(
-    rt: &R,
-    cache: &SharedCache<u64, String, 2>,
-    shards: Vec<Vec<Row<u64, String>>>,
-) -> bool {
-    for rows in shards {
-        if shared::restore_shard(rt, cache, rows).is_err() {
-            return false;
-        }
-    }
-    true
-}
-
 // Whether two captures hold the same entries in the same order.
 fn are_alike(one: &[Row<u64, String>], other: &[Row<u64, String>]) -> bool {
     (one.len() == other.len())
@@ -202,17 +185,18 @@ fn shared_comes_back<R: Wait>(rt: &R, alloc: Global) -> Result<bool, Fail> {
             return Ok(false);
         }
     }
-    let shards = shared::capture_shared(rt, alloc, &cache)?;
+    let shards = saved_and_loaded(alloc, &shared::SharedSource { rt, cache: &cache })?;
+    let (one, other) = (
+        shared::capture_shard(rt, alloc, &cache, 0)?,
+        shared::capture_shard(rt, alloc, &cache, 1)?,
+    );
     let again: SharedCache<u64, String, 2> = SharedCache::new(alloc, 200, 200)?;
-    let is_whole = is_put_back(rt, &again, saved_and_loaded(alloc, &shards)?);
+    let is_whole = shared::restore_shards(rt, &again, shards).is_ok();
     let (first, second) = (
         shared::capture_shard(rt, alloc, &again, 0)?,
         shared::capture_shard(rt, alloc, &again, 1)?,
     );
-    let is_same = match shards.as_slice() {
-        [one, other] => are_alike(one, &first) & are_alike(other, &second),
-        _ => false,
-    };
+    let is_same = are_alike(&one, &first) & are_alike(&other, &second);
     Ok(is_whole & is_same & (again.len(rt) == 4) & (again.weight(rt) == 7))
 }
 
@@ -228,7 +212,7 @@ fn snapshot_comes_back(alloc: Global) -> Result<bool, Fail> {
     snapshot.push((text(alloc, 3)?, 2usize))?;
     snapshot.push((text(alloc, 1)?, 0))?;
     let shards = [snapshots::snapshot_rows(alloc, snapshot)?];
-    let loaded: Vec<Vec<Row<String, ()>>> = saved_and_loaded(alloc, &shards)?;
+    let loaded: Vec<Vec<Row<String, ()>>> = saved_and_loaded(alloc, &shards.as_slice())?;
     let wanted = [("value 3", 2usize), ("value 1", 0)];
     Ok(
         (loaded.len() == 1)

@@ -1,6 +1,5 @@
 -- What a save of a checkpoint leaves.
-use Rattle.std.proofs.Common.{◌≡◌, ◌≢◌, inl, inr, ⊎_elim, ℕ, ◌<◌, ◌≤◌, ◌^◌, List, ◌++◌, length, codes, Some, slice_get, refl, sym, ◌∙◌, ap, subst, arith, length-append}
-use Rattle.std.specs.FinMap.{get}
+use Rattle.std.proofs.Common.{◌≡◌, ◌≢◌, inl, inr, ⊎_elim, ℕ, ◌<◌, ◌≤◌, ◌^◌, List, ◌++◌, length, codes, refl, sym, ◌∙◌, ap, subst, arith, length-append}
 use Rattle.lru_folder.specs.Files.{Files}
 use Rattle.lru_folder.specs.Folder.{LeavesOnly}
 use Rattle.lru_folder.specs.Losses.{IsFromStart, LosesOnly}
@@ -11,15 +10,14 @@ use Rattle.lru_folder.proofs.NamesLemmas.{path_text-injective}
 use Rattle.lru_folder.specs.Names.{shard_text}
 use Rattle.lru_frames.specs.declared.mark.Mark.{Mark}
 use Rattle.lru_frames.specs.declared.row.Row.{Row}
-use Rattle.lru_frames.specs.Frame.{frame_of}
 use Rattle.lru_manifests.specs.declared.names.PartName.{PartName}
 use Rattle.lru_manifests.specs.declared.names.PartName.TheVariants.{Frame, Manifest, Temp}
-use Rattle.lru_manifests.specs.Manifests.{IsManifest, part_header, manifest_bytes}
+use Rattle.lru_manifests.specs.Manifests.{IsManifest, manifest_bytes}
 use Rattle.lru_manifests.specs.Names.{IsPart, part_path, frame_path, manifest_path, manifest_temp_path}
 use Rattle.lru_manifests.proofs.NameLaws.{one_path}
 use Rattle.lru_whole_files.specs.Touching.{IsSameBut, TouchesOnly}
 use Rattle.lru_whole_files.specs.Replacing.{IsReplaced, IsOldOrReplaced, Replaces}
-use Rattle.lru_checkpoints.specs.Checkpoints.{Shards, IsFrame, IsPartOf, AreFirm, AreMarked, AreHandedOut, FitsEach, HasFrames, HasCheckpoint, HasNew, IsOldOrNew, SavesCheckpoint, most_shards}
+use Rattle.lru_checkpoints.specs.Checkpoints.{Shards, IsFrame, IsPartOf, AreFirm, AreMarked, AreHandedOut, FitsEach, HasFrames, HasCheckpoint, IsOldOrNew, SavesCheckpoint, most_shards}
 use Rattle.lru_checkpoints.proofs.Lists.{get-below}
 
 -- parts of one name that share a path are one part

@@ -1,82 +1,115 @@
 //! Saves that a stop or a loss of power cuts short.
-use crate::fixture::{is_checkpoint, load, save, saved, with_other};
+use crate::fixture::{save_next, two, what_loads};
 use lru_checkpoints::errors::CheckpointError;
 use lru_memory_folder::memory_folder::MemoryFolder;
-use std::alloc::{AllocError, Global};
+use std::alloc::Global;
 use std::test::Fail;
 
-// The calls of a save of two shards: four for each frame and four for the manifest, and one that renames it.
-const CALLS: u64 = 13;
+// More calls than a save makes.
+const CALLS: u64 = 60;
 
-// Which of the two checkpoints a folder loads: the old one, or the new one.
+// What became of a save that was cut short.
 #[derive(Clone, Copy, Debug, PartialEq, Eq)]
-enum Found {
+enum Left {
+    // The checkpoint before it is loaded.
     Old,
+    // The new one is loaded.
     New,
-    Neither,
+    // Neither is loaded, or no further save is made and loaded.
+    Wrong,
 }
 
-fn what_loads(alloc: Global, folder: &mut MemoryFolder) -> Result<Found, AllocError> {
-    let Ok(loaded) = load(alloc, folder) else {
-        return Ok(Found::Neither);
+// A folder with two checkpoints, in which a save of the third stopped at this call, after so many bytes of a write; and
+// whether it told that it was done.
+fn stopped(alloc: Global, call: u64, part: usize) -> Result<(MemoryFolder, bool), CheckpointError> {
+    let mut folder = two(alloc)?;
+    folder.stop_at(call, part);
+    let is_saved = save_next(alloc, &mut folder, 12).is_ok();
+    folder.mend();
+    Ok((folder, is_saved))
+}
+
+// Whether one more save is made and loaded.
+fn goes_on(alloc: Global, folder: &mut MemoryFolder) -> bool {
+    let Ok(saved) = save_next(alloc, folder, 13) else {
+        return false;
     };
-    if is_checkpoint(alloc, &loaded, 6, 10)? {
-        Ok(Found::Old)
-    } else if is_checkpoint(alloc, &loaded, 7, 11)? {
-        Ok(Found::New)
+    what_loads(alloc, folder) == Ok(Some((saved.generation, 13)))
+}
+
+// What a stop or a loss of power left.
+fn what_is_left(alloc: Global, folder: &mut MemoryFolder) -> Left {
+    let left = match what_loads(alloc, folder) {
+        Ok(Some((1, 11))) => Left::Old,
+        Ok(Some((2, 12))) => Left::New,
+        _ => Left::Wrong,
+    };
+    if goes_on(alloc, folder) {
+        left
     } else {
-        Ok(Found::Neither)
+        Left::Wrong
     }
 }
 
-// A folder with the old checkpoint, in which a save of the new one stopped at this call, after so many bytes of a
-// write; and whether it told so.
-fn stopped(alloc: Global, call: u64, part: usize) -> Result<(MemoryFolder, bool), CheckpointError> {
-    // It begins anew, so that no name of the old checkpoint can be lost.
-    let mut folder = with_other(alloc, &saved(alloc, 6, 10)?, "", None)?;
-    folder.stop_at(call, part);
-    let is_told = save(alloc, &mut folder, 7, 11).is_err();
-    folder.mend();
-    Ok((folder, is_told))
+// Whether a save is right that told this and left that: one that was done leaves the new checkpoint.
+fn is_right(is_saved: bool, left: Left) -> bool {
+    match left {
+        Left::Old => !is_saved,
+        Left::New => true,
+        Left::Wrong => false,
+    }
 }
 
-// Whether a save that stopped at this call told so and left the old checkpoint, or was done and left the new one.
-fn is_old_or_done(alloc: Global, call: u64, part: usize) -> Result<bool, CheckpointError> {
-    let (mut folder, is_told) = stopped(alloc, call, part)?;
-    let wanted = if call < CALLS { Found::Old } else { Found::New };
-    Ok(is_told == (call < CALLS) && what_loads(alloc, &mut folder)? == wanted)
+// Whether a stop at this call is right, and whether the save was done.
+fn stops_right(alloc: Global, call: u64) -> Result<(bool, bool), CheckpointError> {
+    let mut are_right = true;
+    let mut are_saved = true;
+    for part in [0, 1, 1000] {
+        let (mut folder, is_saved) = stopped(alloc, call, part)?;
+        are_right &= is_right(is_saved, what_is_left(alloc, &mut folder));
+        are_saved &= is_saved;
+    }
+    Ok((are_right, are_saved))
+}
+
+// Whether each loss of power after a stop at this call is right, and whether the save was done.
+fn loses_right(alloc: Global, call: u64) -> Result<(bool, bool), CheckpointError> {
+    let (folder, is_saved) = stopped(alloc, call, 1)?;
+    let mut are_right = true;
+    for names in 0..8 {
+        let mut left = folder.after_loss(names, b'X')?;
+        are_right &= is_right(is_saved, what_is_left(alloc, &mut left));
+    }
+    Ok((are_right, is_saved))
+}
+
+// The first call at which something is wrong, or else the last one. At the first call no save is done, and behind the last call
+// each is.
+fn first_wrong<F: Fn(u64) -> Result<(bool, bool), CheckpointError> + Drop>(
+    goes_right: F,
+) -> Result<Option<u64>, CheckpointError> {
+    for call in 0..=CALLS {
+        let (is_right, is_saved) = goes_right(call)?;
+        let is_told = (is_saved || call < CALLS) && (!is_saved || call > 0);
+        if !(is_right & is_told) {
+            return Ok(Some(call));
+        }
+    }
+    Ok(None)
 }
 
 #[test]
 fn a_stop_at_each_call(rt: HostRuntime) -> Result<(), Fail> {
     let alloc = rt.alloc();
-    for call in 0..=CALLS {
-        for part in [0, 1, 1000] {
-            assert!(rt; is_old_or_done(alloc, call, part)?, "{call}");
-        }
-    }
+    let wrong = first_wrong(move |call| stops_right(alloc, call))?;
+    assert_eq!(rt; wrong, None);
     Ok(())
-}
-
-// What loads after a save that stopped at this call, and a loss of power that leaves so many names.
-fn what_is_left(alloc: Global, call: u64, names: usize) -> Result<Found, CheckpointError> {
-    let (folder, _) = stopped(alloc, call, 1)?;
-    let mut left = folder.after_loss(names, b'X')?;
-    Ok(what_loads(alloc, &mut left)?)
 }
 
 #[test]
 fn a_loss_of_power_after_each_call(rt: HostRuntime) -> Result<(), Fail> {
-    let mut found = [0usize; 3];
-    for call in 0..=CALLS {
-        for names in 0..4 {
-            match what_is_left(rt.alloc(), call, names)? {
-                Found::Old => found[0] = found[0].saturating_add(1),
-                Found::New => found[1] = found[1].saturating_add(1),
-                Found::Neither => found[2] = found[2].saturating_add(1),
-            }
-        }
-    }
-    assert_eq!(rt; found, [53, 3, 0]);
+    let alloc = rt.alloc();
+    let wrong = first_wrong(move |call| loses_right(alloc, call))?;
+    assert_eq!(rt; wrong, None);
     Ok(())
 }

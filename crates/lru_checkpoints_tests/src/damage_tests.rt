@@ -1,31 +1,42 @@
-//! Checkpoints whose files are changed, cut short, missing, or of another checkpoint.
-use crate::fixture::{load, saved, with_other};
+//! Checkpoints whose files are changed, cut short, missing, or of another checkpoint: the older one is loaded in their place.
+use crate::fixture::{
+    are_passed, empty, found_in, load_newest, names_in, save_as, save_next, two, with_other,
+};
 use lru_checkpoints::errors::{CheckpointError, CheckpointFile};
 use lru_frames::errors::Part;
 use lru_memory_folder::memory_folder::MemoryFolder;
 use std::alloc::{AllocError, Global};
 use std::test::Fail;
 
-// The files of a checkpoint of generation 4.
+// The files of the newest of two checkpoints.
 static FILES: [(&str, CheckpointFile); 3] = [
-    ("d/c.4.0", CheckpointFile::Shard(0)),
-    ("d/c.4.1", CheckpointFile::Shard(1)),
-    ("d/c.manifest", CheckpointFile::Manifest),
+    ("d/c.1.0", CheckpointFile::Shard(0)),
+    ("d/c.1.1", CheckpointFile::Shard(1)),
+    ("d/c.1.manifest", CheckpointFile::Manifest),
 ];
 
-// How a load is refused where a path has other bytes.
-fn refusal(
+// Why the newest checkpoint is passed over where a path has other bytes or is not there, while the one before is loaded and no
+// file is removed; nothing where another load is made of it.
+fn why_passed(
     alloc: Global,
     folder: &MemoryFolder,
     path: &str,
     bytes: Option<&[u8]>,
-) -> Result<Option<CheckpointError>, AllocError> {
+) -> Result<Option<CheckpointError>, CheckpointError> {
     let mut other = with_other(alloc, folder, path, bytes)?;
-    Ok(load(alloc, &mut other).err())
+    let before = names_in(alloc, &other)?;
+    let loaded = load_newest(alloc, &mut other)?;
+    let after = names_in(alloc, &other)?;
+    match loaded.passed.as_slice() {
+        [it] if found_in(&loaded) == Some((0, 10)) && it.generation == 1 && before == after => Ok(
+            Some(it.error),
+        ),
+        _ => Ok(None),
+    }
 }
 
-fn is_damaged(refusal: Option<CheckpointError>, wanted: CheckpointFile) -> bool {
-    match refusal {
+fn is_damaged(error: Option<CheckpointError>, wanted: CheckpointFile) -> bool {
+    match error {
         Some(CheckpointError::Damaged { file, .. }) => file == wanted,
         _ => false,
     }
@@ -37,20 +48,20 @@ fn first_unseen(
     folder: &MemoryFolder,
     path: &str,
     file: CheckpointFile,
-) -> Result<Option<usize>, AllocError> {
+) -> Result<Option<usize>, CheckpointError> {
     let Some(held) = folder.get(path) else {
         return Ok(Some(0));
     };
     let part = Part::Length;
     for place in 0..held.len() {
-        for change in [1, 255u8] {
+        for change in [0x01, 0x80, 0xffu8] {
             let mut bytes = Vec::from_slice(alloc, held)?;
             bytes[place] ^= change;
-            if !is_damaged(refusal(alloc, folder, path, Some(&bytes))?, file) {
+            if !is_damaged(why_passed(alloc, folder, path, Some(&bytes))?, file) {
                 return Ok(Some(place));
             }
         }
-        let cut = refusal(alloc, folder, path, Some(&held[..place]))?;
+        let cut = why_passed(alloc, folder, path, Some(&held[..place]))?;
         if cut != Some(CheckpointError::Damaged { file, part }) {
             return Ok(Some(place));
         }
@@ -60,85 +71,98 @@ fn first_unseen(
 
 #[test]
 fn each_byte_and_each_cut(rt: HostRuntime) -> Result<(), Fail> {
-    let alloc = rt.alloc();
-    let folder = saved(alloc, 4, 10)?;
-    for (path, file) in FILES {
-        assert!(rt; first_unseen(alloc, &folder, path, file)? == None, "{path}");
-    }
+    let folder = two(rt.alloc())?;
+    let unseen = FILES.map(|(path, file)| first_unseen(rt.alloc(), &folder, path, file));
+    assert_eq!(rt; unseen, [Ok(None), Ok(None), Ok(None)]);
     Ok(())
 }
 
 #[test]
-fn each_file_missing(rt: HostRuntime) -> Result<(), Fail> {
-    let alloc = rt.alloc();
-    let folder = saved(alloc, 4, 10)?;
-    for (path, file) in FILES {
-        let refusal = refusal(alloc, &folder, path, None)?;
-        assert!(rt;
-            refusal == Some(CheckpointError::Missing { file }),
-            "{path}"
-        );
-    }
+fn a_frame_that_is_missing(rt: HostRuntime) -> Result<(), Fail> {
+    let folder = two(rt.alloc())?;
+    let file = CheckpointFile::Shard(1);
+    let error = why_passed(rt.alloc(), &folder, "d/c.1.1", None)?;
+    assert_eq!(rt; error, Some(CheckpointError::Missing { file }));
     Ok(())
 }
 
-// The bytes of a path of a folder, none where it is not there.
-fn bytes_of<'a>(folder: &'a MemoryFolder, path: &str) -> &'a [u8] {
-    match folder.get(path) {
-        None => &[],
-        Some(bytes) => bytes,
-    }
-}
-
-// Whether a load is refused so where a path of the folder has these bytes.
-fn is_refused_as(
-    alloc: Global,
-    folder: &MemoryFolder,
-    (path, bytes): (&str, &[u8]),
-    wanted: CheckpointError,
-) -> Result<bool, AllocError> {
-    Ok(refusal(alloc, folder, path, Some(bytes))? == Some(wanted))
-}
-
+// Without its manifest a checkpoint is none, and none is passed over.
 #[test]
-fn frames_of_other_checkpoints(rt: HostRuntime) -> Result<(), Fail> {
-    let folder = saved(rt.alloc(), 4, 10)?;
-    let older = saved(rt.alloc(), 3, 10)?;
-    let file = CheckpointFile::Shard(0);
-    // Another shard's frame, that of another generation, and a manifest.
-    let others = [
-        bytes_of(&folder, "d/c.4.1"),
-        bytes_of(&older, "d/c.3.0"),
-        bytes_of(&folder, "d/c.manifest"),
-    ];
-    for (number, other) in others.iter().enumerate() {
-        let changed = ("d/c.4.0", *other);
-        assert!(rt;
-            is_refused_as(
-                rt.alloc(),
-                &folder,
-                changed,
-                CheckpointError::Other { file }
-            )?,
-            "{number}"
-        );
-    }
+fn a_manifest_that_is_missing(rt: HostRuntime) -> Result<(), Fail> {
+    let mut folder = with_other(rt.alloc(), &two(rt.alloc())?, "d/c.1.manifest", None)?;
+    let loaded = load_newest(rt.alloc(), &mut folder)?;
+    let found = (found_in(&loaded), loaded.passed.len());
+    assert_eq!(rt; found, (Some((0, 10)), 0));
     Ok(())
 }
 
+// Two checkpoints under each of two names, with other numbers.
+fn two_of_each(alloc: Global) -> Result<MemoryFolder, CheckpointError> {
+    let mut folder = empty(alloc)?;
+    save_next(alloc, &mut folder, 10)?;
+    save_next(alloc, &mut folder, 11)?;
+    save_as(alloc, &mut folder, "e", 20)?;
+    save_as(alloc, &mut folder, "e", 21)?;
+    Ok(folder)
+}
+
+// Paths, those whose bytes they get, and the file that is then told to be of another checkpoint.
+static SWAPS: [(&str, &str, CheckpointFile); 7] = [
+    // Another shard's frame, that of the generation before, and that of another name.
+    ("d/c.1.0", "d/c.1.1", CheckpointFile::Shard(0)),
+    ("d/c.1.0", "d/c.0.0", CheckpointFile::Shard(0)),
+    ("d/c.1.0", "d/e.1.0", CheckpointFile::Shard(0)),
+    ("d/c.1.1", "d/e.1.1", CheckpointFile::Shard(1)),
+    // A manifest in place of a frame.
+    ("d/c.1.1", "d/c.1.manifest", CheckpointFile::Shard(1)),
+    // The manifest of the generation before, and that of another name, which tells of other frames.
+    ("d/c.1.manifest", "d/c.0.manifest", CheckpointFile::Manifest),
+    ("d/c.1.manifest", "d/e.1.manifest", CheckpointFile::Shard(0)),
+];
+
+// The first path that is not refused so.
+fn first_taken(alloc: Global) -> Result<Option<&'static str>, CheckpointError> {
+    let folder = two_of_each(alloc)?;
+    for (path, from, file) in SWAPS {
+        let error = why_passed(alloc, &folder, path, folder.get(from))?;
+        if error != Some(CheckpointError::Other { file }) {
+            return Ok(Some(from));
+        }
+    }
+    Ok(None)
+}
+
 #[test]
-fn manifests_of_other_checkpoints(rt: HostRuntime) -> Result<(), Fail> {
+fn files_of_other_checkpoints(rt: HostRuntime) -> Result<(), Fail> {
+    let taken = first_taken(rt.alloc())?;
+    assert_eq!(rt; taken, None);
+    Ok(())
+}
+
+// The manifest and one frame of another name's checkpoint make no mixture with a frame of this one.
+#[test]
+fn no_mixture(rt: HostRuntime) -> Result<(), Fail> {
     let alloc = rt.alloc();
-    let folder = saved(alloc, 4, 10)?;
-    let older = saved(alloc, 3, 10)?;
-    // A frame in place of the manifest, and a manifest of another generation.
-    let frame = bytes_of(&folder, "d/c.4.0");
-    let damaged = refusal(alloc, &folder, "d/c.manifest", Some(frame))?;
-    let missing = CheckpointError::Missing {
-        file: CheckpointFile::Shard(0),
-    };
-    let changed = ("d/c.manifest", bytes_of(&older, "d/c.manifest"));
-    let is_missing = is_refused_as(alloc, &folder, changed, missing)?;
-    assert!(rt; is_damaged(damaged, CheckpointFile::Manifest) && is_missing);
+    let folder = two_of_each(alloc)?;
+    let mixed = with_other(
+        alloc,
+        &folder,
+        "d/c.1.manifest",
+        folder.get("d/e.1.manifest"),
+    )?;
+    let error = why_passed(alloc, &mixed, "d/c.1.0", folder.get("d/e.1.0"))?;
+    let file = CheckpointFile::Shard(1);
+    assert_eq!(rt; error, Some(CheckpointError::Other { file }));
+    Ok(())
+}
+
+// A frame in place of a manifest.
+#[test]
+fn a_frame_is_no_manifest(rt: HostRuntime) -> Result<(), Fail> {
+    let folder = two(rt.alloc())?;
+    let error = why_passed(rt.alloc(), &folder, "d/c.1.manifest", folder.get("d/c.1.0"))?;
+    let file = CheckpointFile::Manifest;
+    let part = Part::Header;
+    assert_eq!(rt; error, Some(CheckpointError::Damaged { file, part }));
     Ok(())
 }

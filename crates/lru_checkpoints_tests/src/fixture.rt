@@ -1,103 +1,120 @@
 //! Checkpoints of two shards for tests.
+ghost use Rattle.std.specs.Prelude.{◌≡◌, false};
+ghost use Rattle.lru_folder.specs.Names.{has_slash};
+
 use lru_checkpoints::errors::CheckpointError;
-use lru_checkpoints::loading::{Checkpoint, load_checkpoint};
-use lru_checkpoints::saving::save_generation;
 use lru_folder::folder::Folder;
 use lru_frames::row::Row;
+use lru_generations::generations::{Saved, save};
+use lru_generations::loading::{Loaded, load};
+use lru_generations::newest::Passed;
 use lru_memory_folder::memory_folder::MemoryFolder;
 use std::alloc::{AllocError, Global};
 
 pub(crate) type Shards = Vec<Vec<Row<u64, u64>>>;
 
-// Two shards, of one row and of two, with this number among their data.
-pub(crate) fn shards(alloc: Global, number: u64) -> Result<Shards, AllocError> {
-    let mut first = Vec::new(alloc);
-    first.push(Row {
-        key: 1,
-        data: number,
-        weight: 2,
-    })?;
-    let mut second = Vec::new(alloc);
-    second.push(Row {
-        key: 2,
-        data: 20,
-        weight: 1,
-    })?;
-    second.push(Row {
-        key: 3,
-        data: number,
-        weight: 1,
-    })?;
+// Two shards of one row each, with this number as their data.
+fn shards(alloc: Global, number: u64) -> Result<Shards, AllocError> {
     let mut shards = Vec::new(alloc);
-    shards.push(first)?;
-    shards.push(second)?;
+    for key in 0..2u64 {
+        let mut rows = Vec::new(alloc);
+        rows.push(Row {
+            key,
+            data: number,
+            weight: 1,
+        })?;
+        shards.push(rows)?;
+    }
     Ok(shards)
 }
 
-fn is_same_row(row: &Row<u64, u64>, other: &Row<u64, u64>) -> bool {
-    (row.key == other.key) & (row.data == other.data) & (row.weight == other.weight)
+// A folder without a checkpoint.
+pub(crate) fn empty(alloc: Global) -> Result<MemoryFolder, CheckpointError> {
+    let mut folder = MemoryFolder::new(alloc);
+    match folder.make("d") {
+        Ok(()) => Ok(folder),
+        Err(_) => Err(CheckpointError::Memory),
+    }
 }
 
-fn are_same_rows(rows: &Vec<Row<u64, u64>>, others: &Vec<Row<u64, u64>>) -> bool {
-    (rows.len() == others.len())
-        && rows
-            .iter()
-            .zip(others.iter())
-            .all(|(row, other)| is_same_row(row, other))
-}
-
-fn are_same(shards: &Shards, others: &Shards) -> bool {
-    (shards.len() == others.len())
-        && shards
-            .iter()
-            .zip(others.iter())
-            .all(|(rows, others)| are_same_rows(rows, others))
-}
-
-// Saves the shards with this number as this generation.
-pub(crate) fn save(
+// Saves the shards with this number as the next checkpoint under a name.
+pub(crate) fn save_as(
     alloc: Global,
     folder: &mut MemoryFolder,
-    generation: u64,
+    name: &str,
     number: u64,
-) -> Result<(), CheckpointError> {
+) -> Result<Saved, CheckpointError>
+    requires { has_slash name.now ≡ false }
+{
     let shards = shards(alloc, number)?;
     if shards.len() != 2 {
         return Err(CheckpointError::Memory);
     }
-    save_generation(alloc, folder, "d", "c", generation, &shards)
+    save(alloc, folder, "d", name, &shards.as_slice())
 }
 
-pub(crate) fn load(
+pub(crate) fn save_next(
     alloc: Global,
     folder: &mut MemoryFolder,
-) -> Result<Checkpoint<u64, u64>, CheckpointError> {
-    load_checkpoint(alloc, folder, "d", "c")
+    number: u64,
+) -> Result<Saved, CheckpointError> {
+    save_as(alloc, folder, "c", number)
 }
 
-// Whether a checkpoint is that of this generation, with this number.
-pub(crate) fn is_checkpoint(
-    alloc: Global,
-    loaded: &Checkpoint<u64, u64>,
-    generation: u64,
-    number: u64,
-) -> Result<bool, AllocError> {
-    let wanted = shards(alloc, number)?;
-    Ok((loaded.generation == generation) & are_same(&loaded.shards, &wanted))
-}
-
-// A folder with a checkpoint of this generation, with this number.
-pub(crate) fn saved(
-    alloc: Global,
-    generation: u64,
-    number: u64,
-) -> Result<MemoryFolder, CheckpointError> {
-    let mut folder = MemoryFolder::new(alloc);
-    if folder.make("d").is_err() {
-        return Err(CheckpointError::Memory);
-    }
-    save(alloc, &mut folder, generation, number)?;
+// A folder with two checkpoints: generation 0 with the number 10, and generation 1 with the number 11.
+pub(crate) fn two(alloc: Global) -> Result<MemoryFolder, CheckpointError> {
+    let mut folder = empty(alloc)?;
+    save_next(alloc, &mut folder, 10)?;
+    save_next(alloc, &mut folder, 11)?;
     Ok(folder)
+}
+
+pub(crate) fn load_as(
+    alloc: Global,
+    folder: &mut MemoryFolder,
+    name: &str,
+) -> Result<Loaded<u64, u64>, CheckpointError>
+    requires { has_slash name.now ≡ false }
+{
+    load(alloc, folder, "d", name)
+}
+
+pub(crate) fn load_newest(
+    alloc: Global,
+    folder: &mut MemoryFolder,
+) -> Result<Loaded<u64, u64>, CheckpointError> {
+    load_as(alloc, folder, "c")
+}
+
+// The number that all rows of the shards have as their data, where they are whole.
+fn number_in(shards: &Shards) -> Option<u64> {
+    let number = shards.first()?.first()?.data;
+    let is_whole = (shards.len() == 2)
+        && shards.iter().zip(0u64..).all(|(rows, key)| (rows.len() == 1)
+            && rows.iter().all(|row| (row.key == key) & (row.data == number) & (row.weight == 1)));
+    if is_whole { Some(number) } else { None }
+}
+
+// The generation of what was loaded, and its number.
+pub(crate) fn found_in(loaded: &Loaded<u64, u64>) -> Option<(u64, u64)> {
+    let checkpoint = loaded.newest.as_ref()?;
+    Some((checkpoint.generation, number_in(&checkpoint.shards)?))
+}
+
+// The generation of what loads, and its number.
+pub(crate) fn what_loads(
+    alloc: Global,
+    folder: &mut MemoryFolder,
+) -> Result<Option<(u64, u64)>, CheckpointError> {
+    Ok(found_in(&load_newest(alloc, folder)?))
+}
+
+// Whether these generations were passed over, for these reasons.
+pub(crate) fn are_passed(passed: &[Passed], wanted: &[(u64, CheckpointError)]) -> bool {
+    (passed.len() == wanted.len())
+        && passed.iter().zip(wanted.iter()).all(|(it, (generation, error))| (it.generation
+            == *generation)
+            & (it.error == *error))
 }
 
 // The files of a folder in a new one, but for one path, which has these bytes or is not there.
@@ -119,4 +136,14 @@ pub(crate) fn with_other(
         }
     }
     Ok(other)
+}
+
+// The names of a folder's files, each with a space behind it.
+pub(crate) fn names_in(alloc: Global, folder: &MemoryFolder) -> Result<String, AllocError> {
+    let mut names = String::new(alloc);
+    for path in &folder.paths()? {
+        let name = path.strip_prefix("d/").unwrap_or(path);
+        write!(names, "{name} ")?;
+    }
+    Ok(names)
 }

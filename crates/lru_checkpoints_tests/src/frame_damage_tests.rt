@@ -146,7 +146,7 @@ fn check_of(bytes: &[u8]) -> u64 {
 }
 
 // A frame whose check is right, with these numbers after its version.
-fn sealed(alloc: Global, version: u64, numbers: &[u64]) -> Result<Vec<u8>, AllocError> {
+pub(crate) fn sealed(alloc: Global, version: u64, numbers: &[u64]) -> Result<Vec<u8>, AllocError> {
     let mut bytes = Vec::from_slice(alloc, b"LRUFRAME")?;
     bytes.extend_from_slice(&version.to_le_bytes())?;
     for number in numbers {

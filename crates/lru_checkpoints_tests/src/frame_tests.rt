@@ -13,7 +13,7 @@ const HEADER: Header = Header {
 // A frame of one row. The last 8 bytes are the check, which was computed by another program.
 static ONE_ROW: [u8; 88] = [
     b'L', b'R', b'U', b'F', b'R', b'A', b'M', b'E', // magic
-    1, 0, 0, 0, 0, 0, 0, 0, // version
+    2, 0, 0, 0, 0, 0, 0, 0, // version
     88, 0, 0, 0, 0, 0, 0, 0, // length
     4, 0, 0, 0, 0, 0, 0, 0, // shards
     1, 0, 0, 0, 0, 0, 0, 0, // shard
@@ -22,19 +22,19 @@ static ONE_ROW: [u8; 88] = [
     5, 0, 0, 0, 0, 0, 0, 0, // key
     9, 0, 0, 0, 0, 0, 0, 0, // data
     3, 0, 0, 0, 0, 0, 0, 0, // weight
-    152, 27, 216, 151, 95, 12, 176, 185, // check
+    244, 240, 42, 191, 39, 46, 49, 128, // check
 ];
 
 // A frame of one row of text, bytes and a number, which is no whole number of words.
 static TEXT_ROW: [u8; 99] = [
-    b'L', b'R', b'U', b'F', b'R', b'A', b'M', b'E', 1, 0, 0, 0, 0, 0, 0, 0, // magic, version
+    b'L', b'R', b'U', b'F', b'R', b'A', b'M', b'E', 2, 0, 0, 0, 0, 0, 0, 0, // magic, version
     99, 0, 0, 0, 0, 0, 0, 0, // length
     1, 0, 0, 0, 0, 0, 0, 0, 0, 0, 0, 0, 0, 0, 0, 0, // shards, shard
     0, 0, 0, 0, 0, 0, 0, 0, 1, 0, 0, 0, 0, 0, 0, 0, // generation, rows
     1, 0, 0, 0, 0, 0, 0, 0, b'a', // key
     2, 0, 0, 0, 0, 0, 0, 0, b'x', b'y', 2, 1, 0, 0, 0, 0, 0, 0, // data
     2, 0, 0, 0, 0, 0, 0, 0, // weight
-    137, 164, 190, 240, 134, 99, 189, 131, // check
+    86, 109, 163, 134, 107, 78, 249, 119, // check
 ];
 
 fn one_row(alloc: Global) -> Result<Vec<Row<u64, u64>>, AllocError> {

@@ -8,15 +8,15 @@ mod damage_tests;
 #[cfg(test)]
 mod error_tests;
 #[cfg(test)]
+mod failure_tests;
+#[cfg(test)]
 mod fixture;
+#[cfg(test)]
+mod forged_tests;
 #[cfg(test)]
 mod frame_damage_tests;
 #[cfg(test)]
 mod frame_tests;
-#[cfg(test)]
-mod generation_crash_tests;
-#[cfg(test)]
-mod generation_fixture;
 #[cfg(test)]
 mod memory_tests;
 #[cfg(test)]

@@ -1,5 +1,5 @@
 //! Want of memory. The gate runs this with memory for all; `rt try --test --fail-alloc N` refuses the request number N.
-use crate::fixture::{is_checkpoint, load, save, saved};
+use crate::fixture::{save_next, two, what_loads};
 use lru_checkpoints::errors::CheckpointError;
 use lru_folder::fault::FolderFault;
 use lru_memory_folder::memory_folder::MemoryFolder;
@@ -15,64 +15,51 @@ fn is_for_memory(error: &CheckpointError) -> bool {
     }
 }
 
-// Whether a checkpoint loads as that of this generation, at the latest when it is asked again.
-fn loads(
+// What loads, at the latest when it is asked again.
+fn loads_at_last(
     alloc: Global,
     folder: &mut MemoryFolder,
-    generation: u64,
-    number: u64,
     refusals: &mut usize,
-) -> Result<bool, CheckpointError> {
-    let loaded = match load(alloc, folder) {
-        Ok(loaded) => loaded,
-        Err(error) => {
-            if !is_for_memory(&error) {
-                return Ok(false);
-            }
+) -> Result<Option<(u64, u64)>, CheckpointError> {
+    match what_loads(alloc, folder) {
+        Err(error) if is_for_memory(&error) => {
             *refusals = refusals.saturating_add(1);
-            load(alloc, folder)?
+            what_loads(alloc, folder)
         }
-    };
-    match is_checkpoint(alloc, &loaded, generation, number) {
-        Ok(is_same) => Ok(is_same),
-        Err(_) => {
-            *refusals = refusals.saturating_add(1);
-            Ok(is_checkpoint(alloc, &loaded, generation, number)?)
-        }
+        found => found,
     }
 }
 
-// A folder with a checkpoint. Where memory was refused, it is made anew.
-fn saved_at_last(alloc: Global, refusals: &mut usize) -> Result<MemoryFolder, CheckpointError> {
-    match saved(alloc, 6, 10) {
-        Ok(folder) => Ok(folder),
-        Err(error) => {
-            if !is_for_memory(&error) {
-                return Err(error);
-            }
+// A folder with two checkpoints. Where memory was refused, it is made anew.
+fn two_at_last(alloc: Global, refusals: &mut usize) -> Result<MemoryFolder, CheckpointError> {
+    match two(alloc) {
+        Err(error) if is_for_memory(&error) => {
             *refusals = refusals.saturating_add(1);
-            saved(alloc, 6, 10)
+            two(alloc)
         }
+        made => made,
     }
 }
 
-// Saves a second checkpoint over a first one. Where it is refused memory, the first one is there, and the save that
-// is made again succeeds.
+// Saves a third checkpoint over two. Where it is refused memory, the second one is there, and the save that is made again
+// succeeds.
 fn saves(alloc: Global) -> Result<bool, CheckpointError> {
     let mut refusals = 0;
-    let mut folder = saved_at_last(alloc, &mut refusals)?;
-    let mut is_right = true;
-    if let Err(error) = save(alloc, &mut folder, 7, 11) {
+    let mut folder = two_at_last(alloc, &mut refusals)?;
+    if let Err(error) = save_next(alloc, &mut folder, 12) {
         refusals = refusals.saturating_add(1);
-        is_right = is_for_memory(&error) && loads(alloc, &mut folder, 6, 10, &mut refusals)?;
-        save(alloc, &mut folder, 7, 11)?;
+        if !is_for_memory(&error) || what_loads(alloc, &mut folder)? != Some((1, 11)) {
+            return Ok(false);
+        }
+        save_next(alloc, &mut folder, 12)?;
     }
-    is_right = is_right && loads(alloc, &mut folder, 7, 11, &mut refusals)?;
-    Ok(is_right & (refusals <= 1))
+    let found = loads_at_last(alloc, &mut folder, &mut refusals)?;
+    Ok((found == Some((2, 12))) & (refusals <= 1))
 }
 
 #[test]
 fn a_save_and_a_load(rt: HostRuntime) -> Result<(), Fail> {
-    assert!(rt; saves(rt.alloc())?);
+    let is_right = saves(rt.alloc())?;
+    assert!(rt; is_right);
     Ok(())
 }

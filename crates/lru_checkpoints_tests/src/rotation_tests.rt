@@ -1,88 +1,143 @@
-//! Which files are there after saves, and what a damaged newest checkpoint leaves to load.
-use crate::generation_fixture::{before, empty, newest, number_of, saved};
+//! Which checkpoints a save keeps and removes, also where the newest one is damaged, and how its generation is numbered.
+use crate::fixture::{
+    are_passed, empty, found_in, load_as, load_newest, names_in, save_as, save_next, two,
+    what_loads,
+};
 use lru_checkpoints::errors::{CheckpointError, CheckpointFile};
+use lru_frames::errors::Part;
+use lru_generations::newest::Passed;
 use lru_memory_folder::memory_folder::MemoryFolder;
 use std::alloc::{AllocError, Global};
 use std::test::Fail;
 
-// Saves five checkpoints. Whether each is told as the next generation, with what is too old removed.
+// Saves five checkpoints. Whether each is told as the next generation, with the one before kept and what is older removed.
 fn save_five(alloc: Global, folder: &mut MemoryFolder) -> Result<bool, CheckpointError> {
     let mut is_told = true;
     for number in 0..5u64 {
-        let done = saved(alloc, folder, 10 + number)?;
-        is_told &= done.generation == number && done.removed.is_ok();
+        let saved = save_next(alloc, folder, 10 + number)?;
+        let is_kept = saved.kept == number.checked_sub(1);
+        is_told &= (saved.generation == number) & is_kept & saved.passed.is_empty();
+        is_told &= saved.removed.is_ok();
     }
     Ok(is_told)
-}
-
-// The files after five saves.
-static WANTED: [&str; 6] = [
-    "d/c.3.0",
-    "d/c.3.1",
-    "d/c.4.0",
-    "d/c.4.1",
-    "d/c.before.manifest",
-    "d/c.manifest",
-];
-
-// Whether these are the paths of all files of a folder.
-fn has_paths(folder: &MemoryFolder, wanted: &[&str]) -> Result<bool, AllocError> {
-    let paths = folder.paths()?;
-    let are_same = paths
-        .iter()
-        .zip(wanted.iter())
-        .all(|(path, name)| path.as_str() == *name);
-    Ok(are_same & (paths.len() == wanted.len()))
 }
 
 #[test]
 fn the_newest_and_the_one_before_are_kept(rt: HostRuntime) -> Result<(), Fail> {
     let mut folder = empty(rt.alloc())?;
     let is_told = save_five(rt.alloc(), &mut folder)?;
-    let has_files = has_paths(&folder, &WANTED)?;
-    let newest = number_of(&newest(rt.alloc(), &mut folder)?);
-    let before = number_of(&before(rt.alloc(), &mut folder)?);
+    let names = names_in(rt.alloc(), &folder)?;
+    let found = what_loads(rt.alloc(), &mut folder)?;
+    let has_names = names.as_str() == "c.3.0 c.3.1 c.3.manifest c.4.0 c.4.1 c.4.manifest ";
+    assert_eq!(rt; (is_told, has_names, found), (true, true, Some((4, 14))));
+    Ok(())
+}
+
+// Bytes that are no file of a checkpoint.
+const DAMAGE: &[u8] = b"no frame";
+
+fn damage(file: CheckpointFile) -> CheckpointError {
+    let part = Part::Length;
+    CheckpointError::Damaged { file, part }
+}
+
+// Saves the third checkpoint over two, the second of which is damaged. Whether the first is kept, the second told, and all
+// their files left.
+fn keeps_first(
+    alloc: Global,
+    folder: &mut MemoryFolder,
+    file: CheckpointFile,
+) -> Result<bool, CheckpointError> {
+    let saved = save_next(alloc, folder, 12)?;
+    let names = names_in(alloc, folder)?;
+    let is_told = (saved.generation == 2) & (saved.kept == Some(0)) & saved.removed.is_ok();
+    Ok(
+        is_told
+            && are_passed(&saved.passed, &[(1, damage(file))])
+            && names.as_str()
+                == "c.0.0 c.0.1 c.0.manifest c.1.0 c.1.1 c.1.manifest c.2.0 c.2.1 c.2.manifest ",
+    )
+}
+
+// Whether the third checkpoint is loaded, and where it is damaged too the first, with both others told.
+fn loads_first(
+    alloc: Global,
+    mut folder: MemoryFolder,
+    file: CheckpointFile,
+) -> Result<bool, CheckpointError> {
+    let third = what_loads(alloc, &mut folder)?;
+    let mut folder = folder.with("d/c.2.0", DAMAGE)?;
+    let loaded = load_newest(alloc, &mut folder)?;
+    let wanted = [(2, damage(CheckpointFile::Shard(0))), (1, damage(file))];
+    Ok(
+        third == Some((2, 12))
+            && found_in(&loaded) == Some((0, 10))
+            && are_passed(&loaded.passed, &wanted),
+    )
+}
+
+// Whether all that is so where this file of the second checkpoint is damaged.
+fn goes_on(alloc: Global, path: &str, file: CheckpointFile) -> Result<bool, CheckpointError> {
+    let mut folder = two(alloc)?.with(path, DAMAGE)?;
+    let is_kept = keeps_first(alloc, &mut folder, file)?;
+    Ok(is_kept & loads_first(alloc, folder, file)?)
+}
+
+#[test]
+fn a_damaged_one_is_not_kept_for_a_whole_one(rt: HostRuntime) -> Result<(), Fail> {
+    let frame = goes_on(rt.alloc(), "d/c.1.1", CheckpointFile::Shard(1))?;
+    let manifest = goes_on(rt.alloc(), "d/c.1.manifest", CheckpointFile::Manifest)?;
+    assert_eq!(rt; (frame, manifest), (true, true));
+    Ok(())
+}
+
+// Once a newer one is kept, the files of the damaged one go.
+#[test]
+fn a_damaged_one_goes_at_last(rt: HostRuntime) -> Result<(), Fail> {
+    let alloc = rt.alloc();
+    let mut folder = two(alloc)?.with("d/c.1.1", DAMAGE)?;
+    save_next(alloc, &mut folder, 12)?;
+    let kept = save_next(alloc, &mut folder, 13)?.kept;
+    let names = names_in(alloc, &folder)?;
+    let has_names = names.as_str() == "c.2.0 c.2.1 c.2.manifest c.3.0 c.3.1 c.3.manifest ";
+    assert_eq!(rt; (kept, has_names), (Some(2), true));
+    Ok(())
+}
+
+// A folder with two checkpoints and a stray frame of a higher number.
+#[test]
+fn a_number_above_all_that_are_named(rt: HostRuntime) -> Result<(), Fail> {
+    let alloc = rt.alloc();
+    let mut folder = two(alloc)?.with("d/c.7.0", DAMAGE)?;
+    let saved = save_next(alloc, &mut folder, 12)?;
+    let found = what_loads(alloc, &mut folder)?;
     assert_eq!(rt;
-        (is_told, has_files, newest, before),
-        (true, true, Some(14), Some(13))
+        (saved.generation, saved.kept, found),
+        (8, Some(1), Some((8, 12)))
     );
     Ok(())
 }
 
-// A folder with three checkpoints, the newest of which is damaged.
-fn damaged(alloc: Global) -> Result<MemoryFolder, CheckpointError> {
-    let mut folder = empty(alloc)?;
+// Saves three checkpoints under each of three names that begin with one another, in turn.
+fn save_each(alloc: Global, folder: &mut MemoryFolder) -> Result<(), CheckpointError> {
     for number in 0..3u64 {
-        saved(alloc, &mut folder, 10 + number)?;
+        save_as(alloc, folder, "c", 10 + number)?;
+        save_as(alloc, folder, "c.before", 20 + number)?;
+        save_as(alloc, folder, "c.0", 30 + number)?;
     }
-    Ok(folder.with("d/c.2.1", b"no frame")?)
-}
-
-fn is_damage_of_shard_1(error: CheckpointError) -> bool {
-    let file = CheckpointFile::Shard(1);
-    match error {
-        CheckpointError::Damaged { file: told, .. } => told == file && !error.is_fault(),
-        _ => false,
-    }
-}
-
-#[test]
-fn the_one_before_is_loaded_where_the_newest_is_damaged(rt: HostRuntime) -> Result<(), Fail> {
-    let mut folder = damaged(rt.alloc())?;
-    let error = newest(rt.alloc(), &mut folder).err();
-    let before = number_of(&before(rt.alloc(), &mut folder)?);
-    assert!(rt; error.is_some_and(is_damage_of_shard_1) && before == Some(11));
     Ok(())
 }
 
 #[test]
-fn there_is_none_before_the_first(rt: HostRuntime) -> Result<(), Fail> {
+fn names_that_begin_with_another(rt: HostRuntime) -> Result<(), Fail> {
     let alloc = rt.alloc();
     let mut folder = empty(alloc)?;
-    saved(alloc, &mut folder, 10)?;
-    let missing = CheckpointError::Missing {
-        file: CheckpointFile::Manifest,
-    };
-    assert!(rt; before(alloc, &mut folder).err() == Some(missing));
+    save_each(alloc, &mut folder)?;
+    let found = [
+        found_in(&load_as(alloc, &mut folder, "c")?),
+        found_in(&load_as(alloc, &mut folder, "c.before")?),
+        found_in(&load_as(alloc, &mut folder, "c.0")?),
+    ];
+    assert_eq!(rt; found, [Some((2, 12)), Some((2, 22)), Some((2, 32))]);
     Ok(())
 }

@@ -1,110 +1,69 @@
-//! A checkpoint saved, loaded, and saved again.
-use crate::fixture::{is_checkpoint, load, save, saved};
+//! A folder without checkpoints, and how errors are shown.
+use crate::fixture::{empty, load_newest, save_next};
 use lru_checkpoints::errors::{CheckpointError, CheckpointFile};
-use lru_checkpoints::next::next_generation;
 use lru_folder::fault::FolderFault;
-use lru_folder::folder::Folder;
 use lru_folder::folder_call::FolderCall;
+use lru_frames::errors::Part;
 use lru_memory_folder::memory_folder::MemoryFolder;
 use lru_whole_files::errors::CallFault;
 use std::alloc::{AllocError, Global};
 use std::test::Fail;
 
-// Whether this generation is the next one, and what is saved as it is what is loaded.
-fn comes_back(
-    alloc: Global,
-    folder: &mut MemoryFolder,
-    generation: u64,
-) -> Result<bool, CheckpointError> {
-    let is_next = next_generation(alloc, folder, "d", "c")? == generation;
-    save(alloc, folder, generation, 10)?;
-    let loaded = load(alloc, folder)?;
-    Ok(is_next & is_checkpoint(alloc, &loaded, generation, 10)?)
+#[test]
+fn a_folder_without_checkpoints(rt: HostRuntime) -> Result<(), Fail> {
+    let mut folder = empty(rt.alloc())?;
+    let loaded = load_newest(rt.alloc(), &mut folder)?;
+    let found = (loaded.newest.is_none(), loaded.passed.len());
+    assert_eq!(rt; found, (true, 0));
+    Ok(())
 }
 
-// The paths of a folder's files, each with a space behind it.
-fn names_of(alloc: Global, folder: &MemoryFolder) -> Result<String, AllocError> {
-    let mut names = String::new(alloc);
-    for path in &folder.paths()? {
-        write!(names, "{path} ")?;
-    }
-    Ok(names)
+// That the folder is not there, as this call finds it.
+fn not_found(call: FolderCall) -> CheckpointError {
+    let source = FolderFault::NotFound;
+    let fault = CallFault { call, source };
+    let file = CheckpointFile::Names;
+    CheckpointError::Folder { file, fault }
 }
 
 #[test]
-fn two_generations(rt: HostRuntime) -> Result<(), Fail> {
+fn no_folder(rt: HostRuntime) -> Result<(), Fail> {
     let mut folder = MemoryFolder::new(rt.alloc());
-    folder.make("d")?;
-    let first = comes_back(rt.alloc(), &mut folder, 0)?;
-    let second = comes_back(rt.alloc(), &mut folder, 1)?;
-    let names = names_of(rt.alloc(), &folder)?;
-    assert!(rt;
-        first && second && names.as_str() == "d/c.0.0 d/c.0.1 d/c.1.0 d/c.1.1 d/c.manifest "
-    );
+    let saved = save_next(rt.alloc(), &mut folder, 10).err();
+    let loaded = load_newest(rt.alloc(), &mut folder).err();
+    let wanted = (not_found(FolderCall::Claim), not_found(FolderCall::List));
+    assert_eq!(rt; (saved, loaded), (Some(wanted.0), Some(wanted.1)));
     Ok(())
 }
 
-#[test]
-fn the_last_generation(rt: HostRuntime) -> Result<(), Fail> {
-    let alloc = rt.alloc();
-    let mut folder = saved(alloc, u64::MAX, 10)?;
-    let loaded = load(alloc, &mut folder)?;
-    let is_loaded = is_checkpoint(alloc, &loaded, u64::MAX, 10)?;
-    let next = next_generation(alloc, &mut folder, "d", "c");
-    assert!(rt; is_loaded && next == Err(CheckpointError::LastGeneration));
-    Ok(())
-}
+const SHARD: CheckpointFile = CheckpointFile::Shard(3);
 
-#[test]
-fn no_folder_and_no_checkpoint(rt: HostRuntime) -> Result<(), Fail> {
-    let alloc = rt.alloc();
-    let mut folder = MemoryFolder::new(alloc);
-    let fault = CallFault {
-        call: FolderCall::Create,
-        source: FolderFault::NotFound,
-    };
-    let file = CheckpointFile::Shard(0);
-    let saved = save(alloc, &mut folder, 0, 10);
-    let loaded = load(alloc, &mut folder).err();
-    let missing = CheckpointError::Missing {
-        file: CheckpointFile::Manifest,
-    };
-    assert!(rt; saved == Err(CheckpointError::Folder { file, fault }) && loaded == Some(missing));
-    Ok(())
+// Errors, and how they are shown.
+#[rattlefmt::skip]
+static TEXTS: [(CheckpointError, &str); 8] = [
+    (CheckpointError::Memory, "out of memory"),
+    (CheckpointError::Folder { file: SHARD, fault: CallFault { call: FolderCall::Read, source: FolderFault::Io } }, "shard 3: input or output failed"),
+    (CheckpointError::Folder { file: CheckpointFile::Names, fault: CallFault { call: FolderCall::List, source: FolderFault::Io } }, "folder: input or output failed"),
+    (CheckpointError::Missing { file: SHARD }, "shard 3: not there"),
+    (CheckpointError::Damaged { file: CheckpointFile::Manifest, part: Part::Check }, "manifest: damaged check"),
+    (CheckpointError::Other { file: SHARD }, "shard 3: of another checkpoint"),
+    (CheckpointError::LastGeneration, "no generation is left"),
+    (CheckpointError::InUse, "another save is at work in the folder"),
+];
+
+// The first error that is shown otherwise.
+fn first_other(alloc: Global) -> Result<Option<CheckpointError>, AllocError> {
+    for (error, text) in &TEXTS {
+        if error.to_string(alloc)?.as_str() != *text {
+            return Ok(Some(*error));
+        }
+    }
+    Ok(None)
 }
 
 #[test]
 fn texts(rt: HostRuntime) -> Result<(), Fail> {
-    use lru_frames::errors::Part;
-    let alloc = rt.alloc();
-    let file = CheckpointFile::Shard(3);
-    let part = Part::Check;
-    let fault = CallFault {
-        call: FolderCall::Read,
-        source: FolderFault::Io,
-    };
-    let errors = [
-        (CheckpointError::Memory, "out of memory"),
-        (
-            CheckpointError::Folder { file, fault },
-            "shard 3: input or output failed",
-        ),
-        (CheckpointError::Missing { file }, "shard 3: not there"),
-        (
-            CheckpointError::Damaged {
-                file: CheckpointFile::Manifest,
-                part,
-            },
-            "manifest: damaged check",
-        ),
-        (
-            CheckpointError::Other { file },
-            "shard 3: of another checkpoint",
-        ),
-        (CheckpointError::LastGeneration, "no generation is left"),
-    ];
-    for (error, text) in errors {
-        assert_eq!(rt; format!(in alloc; "{error}")?.as_str(), text);
-    }
+    let other = first_other(rt.alloc())?;
+    assert_eq!(rt; other, None);
     Ok(())
 }

@@ -1,6 +1,5 @@
 -- What a save leaves of a generation's files, and what a loss of power leaves of a checkpoint whose names were synced.
-use Rattle.std.proofs.Common.{◌≡◌, ◌≢◌, inl, inr, ⊎_elim, ℕ, ◌<◌, ◌≤◌, ◌^◌, List, length, false, refl, sym, ◌∙◌, subst, arith}
-use Rattle.std.specs.FinMap.{get}
+use Rattle.std.proofs.Common.{◌≡◌, inl, inr, ⊎_elim, ℕ, ◌<◌, ◌≤◌, ◌^◌, List, length, false, refl, sym, ◌∙◌, subst, arith}
 use Rattle.lru_folder.specs.Files.{Files, Same}
 use Rattle.lru_folder.specs.Folder.{Passes}
 use Rattle.lru_folder.specs.Losses.{Loses, looking}

@@ -2,3 +2,4 @@ pub mod ForGood
 pub mod SavedNext
 pub mod Passing
 pub mod Refusals
+pub mod Telling

@@ -9,7 +9,6 @@ use Rattle.lru_folder.specs.Files.{Files}
 use Rattle.lru_manifests.specs.declared.names.PartName.{PartName}
 use Rattle.lru_manifests.specs.declared.names.PartName.TheVariants.{Manifest}
 use Rattle.lru_manifests.specs.Listing.{HasParts}
-use Rattle.lru_checkpoints.specs.declared.errors.CheckpointError.{CheckpointError}
 use Rattle.lru_generations.specs.declared.newest.Passed.{Passed}
 use Rattle.lru_generations.specs.Newest.{AreGenerations, IsFront}
 
@@ -45,12 +44,11 @@ module _ (Holds : ℕ → Type 0) (numbers : List ℕ) where
 abbrev pub numbers_of : List Passed → List ℕ
 numbers_of passed = map (λ one. one.generation) passed
 
--- one more is passed over
-pub front_more : (numbers : List ℕ) (i : ℕ) (passed : List Passed) (n : ℕ) (error : CheckpointError) → i < length numbers → numbers_of passed ≡ take i numbers → n ≡ get_or numbers i 0
-    → numbers_of (passed ++ record { generation = n; error = error } ∷ []) ≡ take (i + 1) numbers
-front_more numbers i passed n error within is at =
-    map-append (λ (one : Passed). one.generation) passed (record { generation = n; error = error } ∷ [])
-    ∙ ap (λ (l : List ℕ). l ++ n ∷ []) is ∙ ap (λ (m : ℕ). take i numbers ++ m ∷ []) at ∙ sym (take_more numbers i 0 within)
+-- one more, with its number
+pub map_more : {X : Type 0} (number : X → ℕ) (numbers : List ℕ) (i : ℕ) (items : List X) (last : X) → i < length numbers → map number items ≡ take i numbers → number last ≡ get_or numbers i 0
+    → map number (items ++ last ∷ []) ≡ take (i + 1) numbers
+map_more number numbers i items last within is at =
+    map-append number items (last ∷ []) ∙ ap (λ (l : List ℕ). l ++ number last ∷ []) is ∙ ap (λ (m : ℕ). take i numbers ++ m ∷ []) at ∙ sym (take_more numbers i 0 within)
 
 -- those in front of one, and all
 pub front_at : (numbers : List ℕ) (i : ℕ) (front : List ℕ) (n : ℕ) → i < length numbers → front ≡ take i numbers → n ≡ get_or numbers i 0 → IsFront numbers (Some n) front
@@ -63,9 +61,9 @@ front_at numbers i front n within is at = (
 pub front_all : (numbers : List ℕ) (i : ℕ) (front : List ℕ) → length numbers ≤ i → front ≡ take i numbers → IsFront numbers None front
 front_all numbers i front le is = is ∙ take_all i numbers le
 
--- what holds of each that was passed over holds with one more
-pub each_more : (P : Passed → Type 0) (passed : List Passed) (last : Passed) → ((one : Passed) → Contains passed one → P one) → P last → (one : Passed) → Contains (passed ++ last ∷ []) one → P one
-each_more P passed last each here one h = ⊎_elim (each one) (λ same. subst P same here) (Contains-push_cases passed last one h)
+-- what holds of each item holds with one more
+pub each_more : {X : Type 0} (P : X → Type 0) (items : List X) (last : X) → ((one : X) → Contains items one → P one) → P last → (one : X) → Contains (items ++ last ∷ []) one → P one
+each_more P items last each here one h = ⊎_elim (each one) (λ same. subst P same here) (Contains-push_cases items last one h)
 
 -- the generations that have a manifest among the parts of a folder
 pub generations_so : (dir file_name : List ℕ) (files : Files) (parts : List PartName) (generations : List ℕ) → HasParts dir file_name files parts

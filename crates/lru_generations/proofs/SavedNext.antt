@@ -1,5 +1,5 @@
 -- What a save of the next checkpoint leaves.
-use Rattle.std.proofs.Common.{◌≡◌, ◌≢◌, ◌⊎◌, inl, inr, ⊎_elim, ℕ, suc, ◌<◌, ◌≤◌, ◌^◌, Bool, true, false, List, length, Option, Some, None, slice_get, refl, sym, ◌∙◌, ap, subst, arith}
+use Rattle.std.proofs.Common.{◌≡◌, ◌≢◌, ◌⊎◌, inl, inr, ⊎_elim, ℕ, ◌<◌, ◌≤◌, ◌^◌, true, false, List, length, Option, Some, None, refl, sym, ◌∙◌, ap, subst, arith}
 use Rattle.std.specs.Prelude.{is_some, Contains}
 use Rattle.std.specs.FinMap.{get}
 use Rattle.std.proofs.lemmas.Bool.{cases_lt}
@@ -14,13 +14,12 @@ use Rattle.lru_folder.proofs.Moments.{then_run, goes_on}
 use Rattle.lru_frames.specs.declared.row.Row.{Row}
 use Rattle.lru_synced_folder.specs.Names.{IsIn}
 use Rattle.lru_manifests.specs.declared.names.PartName.{PartName}
-use Rattle.lru_manifests.specs.declared.names.PartName.TheVariants.{Frame, Manifest, Temp}
-use Rattle.lru_manifests.specs.Listing.{HasParts, IsAbove, IsLeftover, IsTemp}
-use Rattle.lru_manifests.specs.Names.{IsPart, generation_of, part_path, part_text, frame_path, manifest_path}
+use Rattle.lru_manifests.specs.declared.names.PartName.TheVariants.{Frame, Manifest}
+use Rattle.lru_manifests.specs.Listing.{IsTemp}
+use Rattle.lru_manifests.specs.Names.{IsPart, generation_of, part_path, part_text, manifest_path}
 use Rattle.lru_manifests.proofs.NameLaws.{has_slash-part_text}
 use Rattle.lru_whole_files.specs.Touching.{IsSameBut, TouchesNothing, TouchesOnly}
-use Rattle.lru_whole_files.proofs.Touched.{touches_more, touches_then}
-use Rattle.lru_checkpoints.specs.Checkpoints.{Shards, AreHandedOut, HasCheckpoint, HasNew, IsOldOrNew, IsPartOf, IsWhole, SavesCheckpoint}
+use Rattle.lru_checkpoints.specs.Checkpoints.{Shards, AreHandedOut, HasCheckpoint, HasNew, IsOldOrNew, IsPartOf, SavesCheckpoint}
 use Rattle.lru_checkpoints.proofs.Lists.{get-below, never}
 use Rattle.lru_checkpoints.proofs.Saved.{one_part, leaves_more, loses_more}
 use Rattle.lru_generations.specs.Newest.{IsNewest, IsWholeAt}

@@ -3,3 +3,4 @@ pub mod Faults
 pub mod Loaded
 pub mod Removing
 pub mod Saving
+pub mod Told

@@ -1,22 +1,22 @@
 -- What a save of the next checkpoint leaves.
-use Rattle.std.specs.Prelude.{◌≡◌, ◌⊎◌, ◌<◌, ◌≤◌, ◌^◌, ◌↔◌, ℕ, List, Option, Some, None, is_some, Contains}
+use Rattle.std.specs.Prelude.{◌≡◌, ◌⊎◌, ◌<◌, ◌≤◌, ℕ, List, Option, Some, None, is_some, Contains}
 use Rattle.std.specs.FinMap.{get}
 use Rattle.lru_folder.specs.Files.{Files}
 use Rattle.lru_folder.specs.Folder.{LeavesOnly}
 use Rattle.lru_folder.specs.Losses.{LosesOnly}
 use Rattle.lru_folder.specs.Meaning.{Meaning}
-use Rattle.lru_frames.specs.declared.mark.Mark.{Mark}
 use Rattle.lru_frames.specs.declared.row.Row.{Row}
 use Rattle.lru_manifests.specs.declared.names.PartName.{PartName}
 use Rattle.lru_manifests.specs.Listing.{HasParts, IsAbove, IsLeftover}
-use Rattle.lru_manifests.specs.Names.{IsPart, generation_of, part_path, manifest_path, manifest_temp_path}
+use Rattle.lru_manifests.specs.Names.{IsPart, generation_of, part_path, manifest_temp_path}
 use Rattle.lru_synced_folder.specs.Names.{IsIn}
 use Rattle.lru_checkpoints.specs.declared.errors.CheckpointError.{CheckpointError}
 use Rattle.lru_checkpoints.specs.declared.errors.CheckpointError.TheVariants.{InUse, LastGeneration}
 use Rattle.lru_checkpoints.specs.Checkpoints.{Shards, HasCheckpoint, HasNew, IsFrame}
 use Rattle.lru_checkpoints.specs.Causes.{HasSaveReason}
-use Rattle.lru_checkpoints.specs.Loads.{IsFault}
-use Rattle.lru_generations.specs.Newest.{IsNewest}
+use Rattle.lru_checkpoints.specs.Loads.{IsFault, IsRefused, IsRefusedByCheck}
+use Rattle.lru_generations.specs.declared.newest.Passed.{Passed}
+use Rattle.lru_generations.specs.Newest.{AreGenerations, ArePassed, IsNewest}
 
 -- a frame of this generation, or what its manifest is first written to
 abbrev pub IsUnfinished : List ℕ → List ℕ → ℕ → List ℕ → Type 0
@@ -39,6 +39,11 @@ pub record IsSurveyed (dir file_name : List ℕ) (files : Files) (parts : List P
   pub listed : HasParts dir file_name files parts
   pub top : IsNewest dir file_name files newest
   pub above : IsAbove parts generation
+
+-- The generations above the newest whole one were found with these files, and each is told with what was refused of it.
+abbrev pub TellsPassed : {F : Type 0} → Meaning F → List ℕ → List ℕ → Files → Option ℕ → List Passed → Type 0
+TellsPassed {F} meaning dir file_name files newest passed = (mid : F) × ((now : F) × ((meaning.files mid ≡ files) × ((generations : List ℕ) × (AreGenerations dir file_name files generations
+    × ArePassed (λ number error. IsRefused meaning (IsRefusedByCheck meaning dir file_name) dir file_name number mid now error) generations newest passed))))
 
 -- the path of a part that no manifest tells of, and of one that is older than the newest whole generation
 abbrev pub IsLeft : List ℕ → List ℕ → List PartName → List ℕ → Type 0

@@ -11,7 +11,7 @@ ghost use Rattle.lru_checkpoints.specs.Checkpoints.{Shards, AreHandedOut, HasChe
 ghost use Rattle.lru_checkpoints.specs.Loads.{IsFault};
 ghost use Rattle.lru_generations.specs.Faults.{IsFailed};
 ghost use Rattle.lru_generations.specs.Newest.{IsNewest};
-ghost use Rattle.lru_generations.specs.Saving.{IsForGood, IsLeft, IsOld, IsOlder, IsUnsaved, IsUnused, SavesNext};
+ghost use Rattle.lru_generations.specs.Saving.{IsForGood, IsLeft, IsOld, IsOlder, IsUnsaved, IsUnused, SavesNext, TellsPassed};
 
 use crate::newest::Passed;
 use crate::removing::remove_parts;
@@ -103,6 +103,7 @@ fn save_claimed<F: SyncedFolder, K: Stored, V: Stored, S: Source<K, V>>(
     ensures for_good { F.meaning.keeps folder.old → IfOk result (λ saved. (shards : Shards K V) × (AreHandedOut (S.hands_out source.now) (S.count source.now) shards
         × IsForGood K.bytes_of K.is_value V.bytes_of V.is_value dir.now file_name.now F.meaning saved.generation shards folder.new)) }
     ensures newest { F.meaning.keeps folder.old → IfOk result (λ saved. IsNewest dir.now file_name.now (F.meaning.files folder.old) saved.kept) }
+    ensures passed { F.meaning.keeps folder.old → IfOk result (λ saved. TellsPassed F.meaning dir.now file_name.now (F.meaning.files folder.old) saved.kept saved.passed.items) }
     ensures gone { F.meaning.keeps folder.old → IfOk result (λ saved. OnOk saved.removed ((part : PartName) (bytes : List ℕ) → IsPart part → IsOlder saved.kept part
         → get (F.meaning.files folder.old) (part_path dir.now file_name.now part) ≡ Some bytes → get (F.meaning.files folder.new) (part_path dir.now file_name.now part) ≡ None)) }
     ensures error { F.meaning.keeps folder.old → IfErr result IsUnsaved }
@@ -168,8 +169,9 @@ pub fn save<F: SyncedFolder, K: Stored, V: Stored, S: Source<K, V>>(
     ensures for_good { F.meaning.keeps folder.old → IfOk result (λ saved. (shards : Shards K V) × (AreHandedOut (S.hands_out source.now) (S.count source.now) shards
         × IsForGood K.bytes_of K.is_value V.bytes_of V.is_value dir.now file_name.now F.meaning saved.generation shards folder.new)) }
 
-    // The one that is kept was the newest whole one, and what was below it is gone.
+    // The one that is kept was the newest whole one, those above it are told, and what was below it is gone.
     ensures newest { F.meaning.keeps folder.old → IfOk result (λ saved. IsNewest dir.now file_name.now (F.meaning.files folder.old) saved.kept) }
+    ensures passed { F.meaning.keeps folder.old → IfOk result (λ saved. TellsPassed F.meaning dir.now file_name.now (F.meaning.files folder.old) saved.kept saved.passed.items) }
     ensures gone { F.meaning.keeps folder.old → IfOk result (λ saved. OnOk saved.removed ((part : PartName) (bytes : List ℕ) → IsPart part → IsOlder saved.kept part
         → get (F.meaning.files folder.old) (part_path dir.now file_name.now part) ≡ Some bytes → get (F.meaning.files folder.new) (part_path dir.now file_name.now part) ≡ None)) }
 

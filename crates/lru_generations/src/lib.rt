@@ -4,6 +4,7 @@
 //! all that are named there, and keeps the newest one that is whole; a load answers the newest one that is whole.
 #![tactic(auto)]
 
+pub mod checking;
 pub mod generations;
 mod listing;
 pub mod loading;

@@ -3,7 +3,7 @@ ghost use Rattle.std.specs.Prelude.{◌≡◌, ◌↔◌, ◌<◌, ◌^◌, ℕ,
 ghost use Rattle.lru_folder.specs.Files.{Files};
 ghost use Rattle.lru_folder.specs.Names.{has_slash};
 ghost use Rattle.lru_whole_files.specs.Touching.{TouchesNothing};
-ghost use Rattle.lru_generations.specs.Saving.{AreNamed, IsSurveyed, IsUnsaved};
+ghost use Rattle.lru_generations.specs.Saving.{AreNamed, IsSurveyed, IsUnsaved, TellsPassed};
 
 use crate::listing::parts_of;
 use crate::newest::{Newest, newest_whole};
@@ -37,6 +37,8 @@ pub(crate) fn survey<F: SyncedFolder>(
     requires { has_slash file_name.now ≡ false }
     ensures found { F.meaning.keeps folder.old → IfOk result (λ seen. IsSurveyed dir.now file_name.now (F.meaning.files folder.old)
         seen.parts.items seen.newest.generation seen.generation) }
+    ensures passed { F.meaning.keeps folder.old → IfOk result (λ seen. TellsPassed F.meaning dir.now file_name.now (F.meaning.files folder.old)
+        seen.newest.generation seen.newest.passed.items) }
     ensures fits { IfOk result (λ seen. seen.generation < 2 ^ 64) }
     ensures named { F.meaning.keeps folder.old → OnOk result ((m : Files) → F.meaning.lost_since folder.new (F.meaning.clock folder.new) m
         → AreNamed dir.now (F.meaning.files folder.old) m) }

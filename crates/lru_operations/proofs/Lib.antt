@@ -1,3 +1,4 @@
+mod Below
+mod Lines
 mod Told
-mod Verdicts
 mod Words

@@ -6,7 +6,7 @@ ghost use Rattle.lru_operations.specs.Requests.{asked, request_of, IsPossible};
 ghost use Rattle.lru_operations.specs.Texts.{outcome_text, status_of};
 ghost use Rattle.lru_operations.specs.Outcomes.{ComesOf, LeavesFiles, LeavesWhole, Tells};
 
-use crate::checking::{check, show};
+use crate::checking::{check, show, show_before};
 use crate::outcome::Outcome;
 use crate::requests::{Request, request_from};
 use crate::saving::save_input;
@@ -36,6 +36,7 @@ fn outcome_of<F: SyncedFolder, R: Input>(
         Request::Misused(misuse) => Outcome::Misused(misuse),
         Request::Save { dir, file_name } => save_input(alloc, folder, dir, file_name, reader),
         Request::Show { dir, file_name } => show(alloc, folder, dir, file_name),
+        Request::ShowBefore { dir, file_name } => show_before(alloc, folder, dir, file_name),
         Request::Check { dir, file_name } => check(alloc, folder, dir, file_name),
     }
 }
@@ -59,7 +60,7 @@ pub fn run<F: SyncedFolder, R: Input, W: Output>(
     // A request that saves nothing leaves the files.
     ensures files { LeavesFiles F.meaning (request_of (map string_bytes words.now)) folder.old folder.new }
 
-    // A stop, and a loss of power, at any moment of a save leaves the old checkpoint or the next one, whole.
+    // A stop, and a loss of power, at any moment of a save leaves the newest whole checkpoint, and beside it that of the rows or none.
     ensures whole { LeavesWhole F.meaning (R.remaining reader.old) (request_of (map string_bytes words.now)) folder.old folder.new }
 
     ensures failed { OnErr result (W.has_failed writer.new) }
@@ -68,6 +69,26 @@ pub fn run<F: SyncedFolder, R: Input, W: Output>(
     let outcome = outcome_of(alloc, folder, request_from(words), reader);
     write_outcome(writer, &outcome)?;
     Ok(outcome.status())
+}
+
+/// Writes what came of a request through a buffer. Answers the status, and the writer beneath, which has taken all that was
+/// written. Where a write fails the status is 1 and there is no writer; what it took is a beginning of the text.
+pub fn tell_buffered<W: Write + Drop>(
+    outcome: &Outcome,
+    writer: BufWriter<W>,
+) -> (u8, Option<W>)
+    ensures told { IfSome result.1 (λ written. (result.0 ≡ status_of outcome.now)
+        × Appends (writer_contents W.contents writer) (W.contents written) (outcome_text outcome.now)) }
+    ensures written { result.0 ≢ 1 → IsSome result.1 }
+{
+    let mut buffered = writer;
+    let Ok(()) = write_outcome(&mut buffered, outcome) else {
+        return (1, None);
+    };
+    match buffered.into_inner() {
+        Ok(written) => (outcome.status(), Some(written)),
+        Err(_) => (1, None),
+    }
 }
 
 /// As `run`, through a buffer. Answers the status, and the writer beneath, which has taken all that was written. Where a write
@@ -86,12 +107,6 @@ pub fn run_buffered<F: SyncedFolder, R: Input, W: Write + Drop>(
     ensures written { result.0 ≢ 1 → IsSome result.1 }
     ensures kept { F.meaning.keeps folder.old ↔ F.meaning.keeps folder.new }
 {
-    let mut buffered = writer;
-    let Ok(status) = run(alloc, folder, words, reader, &mut buffered) else {
-        return (1, None);
-    };
-    match buffered.into_inner() {
-        Ok(written) => (status, Some(written)),
-        Err(_) => (1, None),
-    }
+    let outcome = outcome_of(alloc, folder, request_from(words), reader);
+    tell_buffered(&outcome, writer)
 }

@@ -1,20 +1,22 @@
 //! What came of a request, and the status that tells it.
 ghost use Rattle.std.specs.Prelude.{◌≡◌};
-ghost use Rattle.lru_operations.specs.Texts.{status_of, verdict_status, generation_of, same_generation};
+ghost use Rattle.lru_operations.specs.Texts.{checked_status, shown_status, status_of, verdict_of, verdict_on};
 
 use crate::requests::Misuse;
-use lru_checkpoints::errors::CheckpointError;
-use lru_checkpoints::loading::Checkpoint;
+use lru_checkpoints::errors::{CheckpointError, CheckpointFile};
+use lru_generations::checking::Told;
+use lru_generations::loading::Loaded;
+use lru_generations::newest::Passed;
 
-/// Whether a checkpoint is whole.
+/// Whether a generation is whole.
 #[derive(Clone, Copy, Debug, PartialEq, Eq)]
 pub enum Verdict {
-    /// That of this generation is.
-    Whole(u64),
-    /// A file of that of this generation is not there, damaged, or was not read.
-    Broken(u64, CheckpointError),
-    /// No generation is told, for the manifest is not there, damaged, or was not read.
-    Unnamed(CheckpointError),
+    /// It is.
+    Whole,
+    /// It has no manifest: its save was cut short, or is still at work.
+    Unfinished,
+    /// A file of it is not there, damaged or of another checkpoint.
+    Damaged(CheckpointError),
 }
 
 /// What came of a request.
@@ -30,11 +32,13 @@ pub enum Outcome {
         generation: u64,
         /// How many rows it has.
         rows: u64,
+        /// The generations above the one that is kept.
+        passed: Vec<Passed>,
     },
-    /// This checkpoint was loaded.
-    Shown(Checkpoint<u64, u64>),
-    /// Of the newest checkpoint and of the one before.
-    Checked(Verdict, Option<Verdict>),
+    /// This was loaded.
+    Shown(Loaded<u64, u64>),
+    /// This is told of each generation.
+    Checked(Vec<Told>),
     /// This line of the input is no row.
     BadLine(u64),
     /// The input was not read.
@@ -45,41 +49,66 @@ pub enum Outcome {
     Refused(CheckpointError),
 }
 
-impl Verdict {
-    /// 0 where the checkpoint is whole, and else 1.
-    pub fn status(&self) -> u8
-        ensures { result ≡ verdict_status self.now }
-    {
-        match self {
-            Verdict::Whole(_) => 0,
-            Verdict::Broken(_, _) => 1,
-            Verdict::Unnamed(_) => 1,
+// What is told of a generation that is not whole, for this reason.
+fn verdict_on(error: CheckpointError) -> Verdict
+    ensures { result ≡ verdict_on error }
+{
+    match error {
+        CheckpointError::Missing {
+            file: CheckpointFile::Manifest,
+        } => Verdict::Unfinished,
+        CheckpointError::Missing {
+            file: CheckpointFile::Shard(_),
+        } => Verdict::Damaged(error),
+        CheckpointError::Missing {
+            file: CheckpointFile::Names,
+        } => Verdict::Damaged(error),
+        CheckpointError::Memory => Verdict::Damaged(error),
+        CheckpointError::Folder { .. } => Verdict::Damaged(error),
+        CheckpointError::Damaged { .. } => Verdict::Damaged(error),
+        CheckpointError::Other { .. } => Verdict::Damaged(error),
+        CheckpointError::LastGeneration => Verdict::Damaged(error),
+        CheckpointError::InUse => Verdict::Damaged(error),
+    }
+}
+
+/// What is told of a generation.
+pub fn verdict_of(told: &Told) -> Verdict
+    ensures { result ≡ verdict_of told.now }
+{
+    match told.shards {
+        Ok(_) => Verdict::Whole,
+        Err(error) => verdict_on(error),
+    }
+}
+
+// 0 where one is whole and none is damaged, and else 1.
+fn checked_status(told: &[Told]) -> u8
+    ensures { result ≡ checked_status told.now }
+{
+    let mut status = 1;
+    for one in told {
+        match verdict_of(one) {
+            Verdict::Whole => status = 0,
+            Verdict::Unfinished => {}
+            Verdict::Damaged(_) => return 1,
         }
     }
+    status
+}
 
-    /// Whether both tell of one generation.
-    pub fn is_of_same(&self, other: &Verdict) -> bool
-        ensures { result ≡ same_generation self.now other.now }
-    {
-        match (self.generation(), other.generation()) {
-            (Some(one), Some(another)) => one == another,
-            _ => false,
-        }
-    }
-
-    fn generation(&self) -> Option<u64>
-        ensures { result ≡ generation_of self.now }
-    {
-        match self {
-            Verdict::Whole(generation) => Some(*generation),
-            Verdict::Broken(generation, _) => Some(*generation),
-            Verdict::Unnamed(_) => None,
-        }
+// 0 where there is a checkpoint, and else 1.
+fn shown_status(loaded: &Loaded<u64, u64>) -> u8
+    ensures { result ≡ shown_status loaded.now.newest }
+{
+    match &loaded.newest {
+        Some(_) => 0,
+        None => 1,
     }
 }
 
 impl Outcome {
-    /// 0 where all was done and each checkpoint is whole; 2 for wrong words or a bad line; else 1.
+    /// 0 where all was done, there is a checkpoint and, of a check, none is damaged; 2 for wrong words or a bad line; else 1.
     pub fn status(&self) -> u8
         ensures { result ≡ status_of self.now }
     {
@@ -87,9 +116,8 @@ impl Outcome {
             Outcome::Helped => 0,
             Outcome::Misused(_) => 2,
             Outcome::Saved { .. } => 0,
-            Outcome::Shown(_) => 0,
-            Outcome::Checked(newest, None) => newest.status(),
-            Outcome::Checked(newest, Some(before)) => newest.status().max(before.status()),
+            Outcome::Shown(loaded) => shown_status(loaded),
+            Outcome::Checked(told) => checked_status(told),
             Outcome::BadLine(_) => 2,
             Outcome::Unread => 1,
             Outcome::Memory => 1,

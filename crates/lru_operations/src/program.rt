@@ -1,48 +1,91 @@
-//! The program `checkpoint_tool`.
+//! The program `checkpoint_tool`, over the streams and the folder that it is given.
+ghost use Rattle.std.specs.Prelude.{◌≡◌, ◌≢◌, ◌↔◌, IfSome, IsSome};
+ghost use Rattle.std.specs.Process.{exit_status};
+ghost use Rattle.lru_operations.specs.Requests.{asked_of};
+ghost use Rattle.lru_operations.specs.Outcomes.{unread_words, LeavesFiles, LeavesWhole, Tells};
 
-use crate::engine::run_buffered;
-use lru_host_folder::host_folder::HostFolder;
-use std::alloc::AllocError;
+use crate::engine::{run_buffered, tell_buffered};
+use crate::outcome::Outcome;
+use crate::requests::{Misuse, WordsError};
+use lru_streams::input::Input;
+use lru_synced_folder::synced_folder::SyncedFolder;
+use std::alloc::Global;
 use std::env;
 use std::env::Env;
-use std::io::{BufWriter, ErrorKind};
+use std::io::{BufWriter, ErrorKind, Write};
 use std::process::ExitCode;
 
-// The words after the program's name. A word that is not UTF-8 leaves none at all, which are then too few; an error is want
-// of memory.
-fn words<R: Env + AllocGlobal>(rt: &R) -> Result<Vec<String>, AllocError> {
+/// How the program ended.
+#[derive(Drop)]
+pub struct Ended<W> {
+    /// What it ends with.
+    pub code: ExitCode,
+    /// The output, where it has taken all that was written.
+    pub written: Option<W>,
+}
+
+/// The words after the program's name, or why they were not read.
+pub fn words<R: Env + AllocGlobal>(rt: &R) -> Result<Vec<String>, WordsError> {
+    let arguments = match env::args(rt) {
+        Ok(arguments) => arguments,
+        Err(error) if error.kind() == ErrorKind::OutOfMemory => return Err(WordsError::Memory),
+        Err(_) => return Err(WordsError::NoText),
+    };
     let mut words = Vec::new(rt.alloc());
-    match env::args(rt) {
-        Ok(arguments) => {
-            for argument in arguments.skip(1) {
-                words.push(argument)?;
-            }
-        }
-        Err(error) => {
-            if error.kind() == ErrorKind::OutOfMemory {
-                return Err(AllocError);
-            }
-        }
+    for argument in arguments.skip(1) {
+        let Ok(()) = words.push(argument) else {
+            return Err(WordsError::Memory);
+        };
     }
     Ok(words)
 }
 
-/// Does what the words that the program was called with ask for, over the host's folders and standard input. Where the words or
-/// the buffer find no memory it writes a line that says so, and the status is 1.
-pub fn run(rt: HostRuntime) -> ExitCode {
-    let Ok(words) = words(&rt) else {
-        return no_memory(rt);
-    };
-    let Ok(writer) = BufWriter::new(rt.alloc(), rt.stdout()) else {
-        return no_memory(rt);
-    };
-    let mut folder = HostFolder::new(rt);
-    let (status, _) = run_buffered(rt.alloc(), &mut folder, &words, &mut rt.stdin(), writer);
-    ExitCode::from(status)
+// What comes of words that were not read.
+fn unread(error: WordsError) -> Outcome
+    ensures { result ≡ unread_words error }
+{
+    match error {
+        WordsError::Memory => Outcome::Memory,
+        WordsError::NoText => Outcome::Misused(Misuse::NoText),
+    }
 }
 
-fn no_memory(rt: HostRuntime) -> ExitCode {
-    // (where it can't be written, the status alone tells it)
-    let _ = println!(rt; "failed: out of memory");
-    ExitCode::from(1)
+/// Does what the words ask for, or tells why they were not read, and writes what came of it to the output. The status is the one
+/// that `engine::run` answers, of 1 where there is no memory for the words. Where the output has not taken all that was
+/// written, which is told on the other stream, it is 1.
+pub fn run<F: SyncedFolder, R: Input, W: Write + Drop, E: Write>(
+    alloc: Global,
+    folder: &mut F,
+    words: Result<Vec<String>, WordsError>,
+    reader: &mut R,
+    writer: W,
+    errors: &mut E,
+) -> Ended<W>
+    // What is written, and the status, tell what came of the words.
+    ensures told { IfSome result.written (λ written. Tells F.meaning (R.has_failed reader.new) (R.remaining reader.old) (asked_of words)
+        folder.old folder.new (exit_status result.code) (W.contents writer) (W.contents written)) }
+
+    // Where the output has not taken all of it, the status is 1.
+    ensures written { exit_status result.code ≢ 1 → IsSome result.written }
+
+    ensures files { LeavesFiles F.meaning (asked_of words) folder.old folder.new }
+    ensures whole { LeavesWhole F.meaning (R.remaining reader.old) (asked_of words) folder.old folder.new }
+    ensures kept { F.meaning.keeps folder.old ↔ F.meaning.keeps folder.new }
+{
+    let Ok(buffered) = BufWriter::new(alloc, writer) else {
+        let _ = errors.write_all(b"failed: out of memory\n");
+        let code = ExitCode::from(1);
+        let written = None;
+        return Ended { code, written };
+    };
+    let (status, written) = match words {
+        Ok(words) => run_buffered(alloc, folder, &words, reader, buffered),
+        Err(error) => tell_buffered(&unread(error), buffered),
+    };
+    if written.is_none() {
+        // (where this can't be written either, the status alone tells it)
+        let _ = errors.write_all(b"failed: the output was not written\n");
+    }
+    let code = ExitCode::from(status);
+    Ended { code, written }
 }

@@ -1,10 +1,11 @@
 //! The rows of an input saved as the next checkpoint.
 ghost use Rattle.std.specs.Prelude.{◌≡◌, ◌⊎◌, ◌↔◌, ◌<◌, ◌^◌, ℕ, false, length, IfOk, IfSome};
-ghost use Rattle.lru_checkpoints.specs.Checkpoints.{Shards};
 ghost use Rattle.lru_folder.specs.Names.{has_slash};
 ghost use Rattle.lru_frames.specs.Words.{word};
-ghost use Rattle.lru_generations.specs.Before.{SavesNext};
-ghost use Rattle.lru_operations.specs.Outcomes.{IsWord, rows_in, AreShardsOf, ComesOfRows, ComesOfInput, ComesOfSave, SavesInput};
+ghost use Rattle.lru_generations.specs.Saving.{SavesNext};
+ghost use Rattle.lru_operations.specs.Before.{IsWord};
+ghost use Rattle.lru_operations.specs.Texts.{Held};
+ghost use Rattle.lru_operations.specs.Outcomes.{rows_in, AreShardsOf, HandsOut, ComesOfRows, ComesOfInput, ComesOfSave, SavesInput};
 
 use crate::input_rows::{InputRowsError, rows_from};
 use crate::outcome::Outcome;
@@ -61,18 +62,19 @@ fn save_rows<F: SyncedFolder>(
 ) -> Outcome
     requires name { has_slash file_name.now ≡ false }
     ensures outcome { ComesOfRows F.meaning dir.now file_name.now rows.now folder.old folder.new result }
-    ensures whole { F.meaning.keeps folder.old → (folder.new ≡ folder.old) ⊎ ((shards : Shards ℕ ℕ)
-        × (AreShardsOf rows.now shards × SavesNext word IsWord word IsWord dir.now file_name.now F.meaning shards folder.old folder.new)) }
+    ensures whole { F.meaning.keeps folder.old → (folder.new ≡ folder.old) ⊎ ((held : Held)
+        × (AreShardsOf rows.now held × SavesNext word IsWord word IsWord dir.now file_name.now (HandsOut held) (length held) F.meaning folder.old folder.new)) }
     ensures kept { F.meaning.keeps folder.old ↔ F.meaning.keeps folder.new }
 {
     let Ok(shards) = shards_of(alloc, rows) else {
         return Outcome::Memory;
     };
-    match save(alloc, folder, dir, file_name, &shards) {
+    match save(alloc, folder, dir, file_name, &shards.as_slice()) {
         Err(error) => Outcome::Refused(error),
         Ok(saved) => Outcome::Saved {
             generation: saved.generation,
             rows: rows.len() as u64,
+            passed: saved.passed,
         },
     }
 }
@@ -111,7 +113,7 @@ pub fn save_input<F: SyncedFolder, R: Input>(
     requires name { has_slash file_name.now ≡ false }
     ensures outcome { ComesOfSave F.meaning dir.now file_name.now (R.has_failed reader.new) (R.remaining reader.old) folder.old folder.new result }
 
-    // A stop, and a loss of power, at any moment leaves the old checkpoint or the next one, whole.
+    // A stop, and a loss of power, at any moment leaves the newest whole checkpoint, and beside it that of these rows or none.
     ensures whole { F.meaning.keeps folder.old → IfSome (R.remaining reader.old) (λ input. SavesInput F.meaning dir.now file_name.now input folder.old folder.new) }
 
     ensures kept { F.meaning.keeps folder.old ↔ F.meaning.keeps folder.new }

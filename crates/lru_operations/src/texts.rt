@@ -5,15 +5,17 @@ ghost use Rattle.std.specs.Io.KnownBytes.{Appends};
 ghost use Rattle.lru_folder.specs.TextsFault.{fault_text};
 ghost use Rattle.lru_frames.specs.Errors.{part_text};
 ghost use Rattle.lru_checkpoints.specs.Texts.{file_text, error_text};
-ghost use Rattle.lru_operations.specs.Texts.{heading, refusal_text, misuse_text, row_line, generation_line, rows_text, saved_text, verdict_text, checked_text, bad_line_text, outcome_text, help_text};
+ghost use Rattle.lru_operations.specs.Texts.{heading, refusal_text, misuse_text, row_line, generation_line, rows_text, saved_text, damaged_text, passed_text, told_text, no_checkpoint_text, checked_text, shown_text, bad_line_text, outcome_text, help_text};
 
-use crate::outcome::{Outcome, Verdict};
+use crate::outcome::{Outcome, Verdict, verdict_of};
 use crate::requests::Misuse;
 use lru_checkpoints::errors::{CheckpointError, CheckpointFile};
-use lru_checkpoints::loading::Checkpoint;
 use lru_folder::fault::FolderFault;
 use lru_frames::errors::Part;
 use lru_frames::row::Row;
+use lru_generations::checking::Told;
+use lru_generations::loading::{Checkpoint, Loaded};
+use lru_generations::newest::Passed;
 use lru_streams::output::Output;
 use lru_streams::pieces::{Piece, write_pieces};
 use std::io;
@@ -25,10 +27,16 @@ const SAVE: &str =
     "save DIR FILE   saves the rows of the input as the next checkpoint, KEY VALUE WEIGHT a line, last used last\n";
 
 const SHOW: &str =
-    "show DIR FILE   writes the rows of the newest checkpoint, most recent first, shard by shard\n";
+    "show DIR FILE   writes the rows of the newest whole checkpoint, most recent first, shard by shard\n";
+
+const BEFORE: &str =
+    "show --before DIR FILE  writes those of the next whole one below it\n";
 
 const CHECK: &str =
-    "check DIR FILE  tells of the newest checkpoint and of the one before whether it is whole\n";
+    "check DIR FILE  tells of each generation in the folder whether it is whole, highest first\n";
+
+const DAMAGE: &str =
+    "A generation that is damaged is passed over; its files stay until a newer checkpoint is kept.\n";
 
 fn fault_text(fault: FolderFault) -> &'static str
     ensures { result.now ≡ fault_text fault }
@@ -63,6 +71,7 @@ fn heading(error: &CheckpointError) -> &'static str
         CheckpointError::Damaged { .. } => "damaged: ",
         CheckpointError::Other { .. } => "damaged: ",
         CheckpointError::LastGeneration => "failed: ",
+        CheckpointError::InUse => "failed: ",
     }
 }
 
@@ -73,6 +82,9 @@ fn misuse_text(misuse: Misuse) -> &'static str
         Misuse::Words => "error: these are not as many words as a command has\n",
         Misuse::Command => "error: no such command\n",
         Misuse::FileName => "error: the name of the file has a slash\n",
+        Misuse::NoFolder => "error: the name of the folder is empty\n",
+        Misuse::NoFile => "error: the name of the file is empty\n",
+        Misuse::NoText => "error: a word is no text in UTF-8\n",
     }
 }
 
@@ -86,6 +98,7 @@ fn write_file<W: Output>(writer: &mut W, file: CheckpointFile) -> io::Result<()>
             writer,
             &[Piece::Text("shard "), Piece::Number(shard)],
         ),
+        CheckpointFile::Names => write_pieces(writer, &[Piece::Text("folder")]),
     }
 }
 
@@ -122,6 +135,10 @@ fn write_error<W: Output>(writer: &mut W, error: CheckpointError) -> io::Result<
         CheckpointError::LastGeneration => {
             write_pieces(writer, &[Piece::Text("no generation is left")])
         }
+        CheckpointError::InUse => write_pieces(
+            writer,
+            &[Piece::Text("another save is at work in the folder")],
+        ),
     }
 }
 
@@ -135,13 +152,13 @@ fn write_refusal<W: Output>(writer: &mut W, error: &CheckpointError) -> io::Resu
     write_pieces(writer, &[Piece::Text("\n")])
 }
 
-// The line of a checkpoint whose number is known.
-fn write_broken<W: Output>(
+// The line of a generation that is not whole.
+fn write_damaged<W: Output>(
     writer: &mut W,
     generation: u64,
-    error: &CheckpointError,
+    error: CheckpointError,
 ) -> io::Result<()>
-    ensures text { OnOk result (Appends (W.contents writer.old) (W.contents writer.new) (verdict_text (Verdict.Broken generation error.now))) }
+    ensures text { OnOk result (Appends (W.contents writer.old) (W.contents writer.new) (damaged_text generation error)) }
     ensures failed { OnErr result (W.has_failed writer.new) }
 {
     write_pieces(
@@ -149,48 +166,71 @@ fn write_broken<W: Output>(
         &[
             Piece::Text("generation "),
             Piece::Number(generation),
-            Piece::Text(" "),
+            Piece::Text(" damaged: "),
         ],
     )?;
-    write_refusal(writer, error)
+    write_error(writer, error)?;
+    write_pieces(writer, &[Piece::Text("\n")])
 }
 
-fn write_verdict<W: Output>(writer: &mut W, verdict: &Verdict) -> io::Result<()>
-    ensures text { OnOk result (Appends (W.contents writer.old) (W.contents writer.new) (verdict_text verdict.now)) }
+// A line for each generation that was passed over.
+fn write_passed<W: Output>(writer: &mut W, passed: &[Passed]) -> io::Result<()>
+    ensures text { OnOk result (Appends (W.contents writer.old) (W.contents writer.new) (passed_text passed.now)) }
     ensures failed { OnErr result (W.has_failed writer.new) }
 {
-    match verdict {
-        Verdict::Whole(generation) => write_pieces(
-            writer,
-            &[
-                Piece::Text("generation "),
-                Piece::Number(*generation),
-                Piece::Text(" whole\n"),
-            ],
-        ),
-        Verdict::Broken(generation, error) => write_broken(writer, *generation, error),
-        Verdict::Unnamed(error) => write_refusal(writer, error),
+    for one in passed {
+        write_damaged(writer, one.generation, one.error)?;
     }
+    Ok(())
 }
 
-// A line for each generation.
-fn write_checked<W: Output>(
-    writer: &mut W,
-    newest: &Verdict,
-    before: &Option<Verdict>,
-) -> io::Result<()>
-    ensures text { OnOk result (Appends (W.contents writer.old) (W.contents writer.new) (checked_text newest.now before.now)) }
+// The line of a generation.
+fn write_told<W: Output>(writer: &mut W, told: &Told) -> io::Result<()>
+    ensures text { OnOk result (Appends (W.contents writer.old) (W.contents writer.new) (told_text told.now)) }
     ensures failed { OnErr result (W.has_failed writer.new) }
 {
-    write_verdict(writer, newest)?;
-    match before {
-        None => Ok(()),
-        Some(before) => {
-            if newest.is_of_same(before) {
-                return Ok(());
-            }
-            write_verdict(writer, before)
-        }
+    let generation = told.generation;
+    let what = match verdict_of(told) {
+        Verdict::Whole => " whole\n",
+        Verdict::Unfinished => " unfinished\n",
+        Verdict::Damaged(error) => return write_damaged(writer, generation, error),
+    };
+    write_pieces(
+        writer,
+        &[
+            Piece::Text("generation "),
+            Piece::Number(generation),
+            Piece::Text(what),
+        ],
+    )
+}
+
+fn write_no_checkpoint<W: Output>(writer: &mut W) -> io::Result<()>
+    ensures text { OnOk result (Appends (W.contents writer.old) (W.contents writer.new) no_checkpoint_text) }
+    ensures failed { OnErr result (W.has_failed writer.new) }
+{
+    write_pieces(writer, &[Piece::Text("no checkpoint\n")])
+}
+
+fn write_each<W: Output>(writer: &mut W, told: &[Told]) -> io::Result<()>
+    ensures text { OnOk result (Appends (W.contents writer.old) (W.contents writer.new) (flat_map told_text told.now)) }
+    ensures failed { OnErr result (W.has_failed writer.new) }
+{
+    for one in told {
+        write_told(writer, one)?;
+    }
+    Ok(())
+}
+
+// A line for each generation, or that there is none.
+fn write_checked<W: Output>(writer: &mut W, told: &[Told]) -> io::Result<()>
+    ensures text { OnOk result (Appends (W.contents writer.old) (W.contents writer.new) (checked_text told.now)) }
+    ensures failed { OnErr result (W.has_failed writer.new) }
+{
+    if told.is_empty() {
+        write_no_checkpoint(writer)
+    } else {
+        write_each(writer, told)
     }
 }
 
@@ -231,7 +271,10 @@ fn write_shards<W: Output>(writer: &mut W, shards: &[Vec<Row<u64, u64>>]) -> io:
     Ok(())
 }
 
-fn write_shown<W: Output>(writer: &mut W, checkpoint: &Checkpoint<u64, u64>) -> io::Result<()>
+fn write_checkpoint<W: Output>(
+    writer: &mut W,
+    checkpoint: &Checkpoint<u64, u64>,
+) -> io::Result<()>
     ensures text { OnOk result (Appends (W.contents writer.old) (W.contents writer.new) (generation_line checkpoint.now.generation ++ rows_text checkpoint.now.shards.items)) }
     ensures failed { OnErr result (W.has_failed writer.new) }
 {
@@ -246,6 +289,18 @@ fn write_shown<W: Output>(writer: &mut W, checkpoint: &Checkpoint<u64, u64>) -> 
     write_shards(writer, &checkpoint.shards)
 }
 
+// The generations that were passed over, and then the checkpoint, if there is one.
+fn write_shown<W: Output>(writer: &mut W, loaded: &Loaded<u64, u64>) -> io::Result<()>
+    ensures text { OnOk result (Appends (W.contents writer.old) (W.contents writer.new) (shown_text loaded.now)) }
+    ensures failed { OnErr result (W.has_failed writer.new) }
+{
+    write_passed(writer, &loaded.passed)?;
+    match &loaded.newest {
+        Some(checkpoint) => write_checkpoint(writer, checkpoint),
+        None => write_no_checkpoint(writer),
+    }
+}
+
 fn write_help<W: Output>(writer: &mut W) -> io::Result<()>
     ensures text { OnOk result (Appends (W.contents writer.old) (W.contents writer.new) help_text) }
     ensures failed { OnErr result (W.has_failed writer.new) }
@@ -256,13 +311,20 @@ fn write_help<W: Output>(writer: &mut W) -> io::Result<()>
             Piece::Text(ABOUT),
             Piece::Text(SAVE),
             Piece::Text(SHOW),
+            Piece::Text(BEFORE),
             Piece::Text(CHECK),
+            Piece::Text(DAMAGE),
         ],
     )
 }
 
-fn write_saved<W: Output>(writer: &mut W, generation: u64, rows: u64) -> io::Result<()>
-    ensures text { OnOk result (Appends (W.contents writer.old) (W.contents writer.new) (saved_text generation rows)) }
+fn write_saved<W: Output>(
+    writer: &mut W,
+    generation: u64,
+    rows: u64,
+    passed: &[Passed],
+) -> io::Result<()>
+    ensures text { OnOk result (Appends (W.contents writer.old) (W.contents writer.new) (saved_text generation rows ++ passed_text passed.now)) }
     ensures failed { OnErr result (W.has_failed writer.new) }
 {
     write_pieces(
@@ -274,7 +336,8 @@ fn write_saved<W: Output>(writer: &mut W, generation: u64, rows: u64) -> io::Res
             Piece::Number(rows),
             Piece::Text("\n"),
         ],
-    )
+    )?;
+    write_passed(writer, passed)
 }
 
 fn write_bad_line<W: Output>(writer: &mut W, number: u64) -> io::Result<()>
@@ -299,9 +362,13 @@ pub fn write_outcome<W: Output>(writer: &mut W, outcome: &Outcome) -> io::Result
     match outcome {
         Outcome::Helped => write_help(writer),
         Outcome::Misused(misuse) => writer.put(misuse_text(*misuse).as_bytes()),
-        Outcome::Saved { generation, rows } => write_saved(writer, *generation, *rows),
-        Outcome::Shown(checkpoint) => write_shown(writer, checkpoint),
-        Outcome::Checked(newest, before) => write_checked(writer, newest, before),
+        Outcome::Saved {
+            generation,
+            rows,
+            passed,
+        } => write_saved(writer, *generation, *rows, passed),
+        Outcome::Shown(loaded) => write_shown(writer, loaded),
+        Outcome::Checked(told) => write_checked(writer, told),
         Outcome::BadLine(number) => write_bad_line(writer, *number),
         Outcome::Unread => writer.put(b"failed: the input was not read\n"),
         Outcome::Memory => writer.put(b"failed: out of memory\n"),

@@ -1,5 +1,5 @@
 //! Damage and faults: a line that tells them, and no row.
-use crate::fixture::{Run, answers, empty, other_run, other_run_on_empty, saves};
+use crate::fixture::{Run, answers, empty, other_run, other_run_on_empty, saves, written};
 use lru_folder::folder::Folder;
 use lru_memory_folder::memory_folder::MemoryFolder;
 use std::alloc::{AllocError, Global};
@@ -17,23 +17,56 @@ fn with_two(alloc: Global) -> Result<MemoryFolder, AllocError> {
     }
 }
 
+// A folder with two checkpoints, a file of which has the byte at this place changed.
+fn with_changed(alloc: Global, path: &str, place: usize) -> Result<MemoryFolder, AllocError> {
+    let folder = with_two(alloc)?;
+    let mut bytes = Vec::new(alloc);
+    let Some(old) = folder.get(path) else {
+        return Err(AllocError);
+    };
+    bytes.extend_from_slice(old)?;
+    let Some(byte) = bytes.get_mut(place) else {
+        return Err(AllocError);
+    };
+    *byte ^= 1;
+    folder.with(path, &bytes)
+}
+
 #[rattlefmt::skip]
-static DAMAGED_FRAME: [Run; 2] = [
-    ("show d c", "", 1, "damaged: shard 2: damaged length\n"),
-    ("check d c", "", 1, "generation 1 damaged: shard 2: damaged length\ngeneration 0 whole\n"),
+static DAMAGED_FRAME: [Run; 7] = [
+    ("check d c", "", 1, "generation 1 damaged: shard 2: damaged check\ngeneration 0 whole\n"),
+    ("show d c", "", 0, "generation 1 damaged: shard 2: damaged check\ngeneration 0\n1 1 1\n"),
+    ("show --before d c", "", 1, "no checkpoint\n"),
+    ("save d c", "1 3 1\n", 0, "generation 2 rows 1\ngeneration 1 damaged: shard 2: damaged check\n"),
+    ("show --before d c", "", 0, "generation 1 damaged: shard 2: damaged check\ngeneration 0\n1 1 1\n"),
+    ("save d c", "1 4 1\n", 0, "generation 3 rows 1\n"),
+    ("check d c", "", 0, "generation 3 whole\ngeneration 2 whole\n"),
 ];
 
 #[test]
-fn a_damaged_frame_is_told(rt: HostRuntime) -> Result<(), Fail> {
-    let mut folder = with_two(rt.alloc())?.with("d/c.1.2", b"no frame")?;
+fn a_damaged_frame_of_the_newest_is_passed_over(rt: HostRuntime) -> Result<(), Fail> {
+    let mut folder = with_changed(rt.alloc(), "d/c.1.2", 40)?;
     assert_eq!(rt; other_run(rt.alloc(), &mut folder, &DAMAGED_FRAME)?, None);
     Ok(())
 }
 
 #[rattlefmt::skip]
-static MISSING_FRAME: [Run; 2] = [
+static SHORT_FRAME: [Run; 1] = [
+    ("check d c", "", 1, "generation 1 damaged: shard 2: damaged length\ngeneration 0 whole\n"),
+];
+
+#[test]
+fn a_frame_that_is_too_short_is_told(rt: HostRuntime) -> Result<(), Fail> {
+    let mut folder = with_two(rt.alloc())?.with("d/c.1.2", b"no frame")?;
+    assert_eq!(rt; other_run(rt.alloc(), &mut folder, &SHORT_FRAME)?, None);
+    Ok(())
+}
+
+#[rattlefmt::skip]
+static MISSING_FRAME: [Run; 3] = [
     ("check d c", "", 1, "generation 1 whole\ngeneration 0 damaged: shard 3: not there\n"),
     ("show d c", "", 0, "generation 1\n1 2 1\n"),
+    ("show --before d c", "", 1, "generation 0 damaged: shard 3: not there\nno checkpoint\n"),
 ];
 
 #[test]
@@ -45,7 +78,7 @@ fn a_missing_frame_of_the_one_before_is_told(rt: HostRuntime) -> Result<(), Fail
     Ok(())
 }
 
-// A folder with two checkpoints, one frame of which has the name of another.
+// A folder with two checkpoints, a file of which has the name of another.
 fn renamed(alloc: Global, old: &str, new: &str) -> Result<MemoryFolder, AllocError> {
     let mut folder = with_two(alloc)?;
     match folder.rename(old, new) {
@@ -54,14 +87,16 @@ fn renamed(alloc: Global, old: &str, new: &str) -> Result<MemoryFolder, AllocErr
     }
 }
 
-static MOVED_FRAME: [Run; 1] = [("show d c", "", 1, "damaged: shard 0: not there\n")];
+#[rattlefmt::skip]
+static MOVED_FRAME: [Run; 1] = [
+    ("show d c", "", 0, "generation 1 damaged: shard 0: not there\ngeneration 0\n1 1 1\n"),
+];
 
-static OTHER_FRAME: [Run; 1] = [(
-    "show d c",
-    "",
-    1,
-    "damaged: shard 0: of another checkpoint\n",
-)];
+#[rattlefmt::skip]
+static OTHER_FRAME: [Run; 2] = [
+    ("show d c", "", 1, "generation 1 damaged: shard 0: of another checkpoint\ngeneration 0 damaged: shard 0: not there\nno checkpoint\n"),
+    ("check d c", "", 1, "generation 1 damaged: shard 0: of another checkpoint\ngeneration 0 damaged: shard 0: not there\n"),
+];
 
 #[test]
 fn a_frame_of_another_shard_is_told(rt: HostRuntime) -> Result<(), Fail> {
@@ -78,14 +113,15 @@ fn a_frame_of_another_generation_is_told(rt: HostRuntime) -> Result<(), Fail> {
 }
 
 #[rattlefmt::skip]
-static DAMAGED_MANIFEST: [Run; 2] = [
-    ("show d c", "", 1, "damaged: manifest: damaged magic\n"),
-    ("check d c", "", 1, "damaged: manifest: damaged magic\ngeneration 0 whole\n"),
+static DAMAGED_MANIFEST: [Run; 3] = [
+    ("check d c", "", 1, "generation 1 damaged: manifest: damaged check\ngeneration 0 whole\n"),
+    ("show d c", "", 0, "generation 1 damaged: manifest: damaged check\ngeneration 0\n1 1 1\n"),
+    ("save d c", "1 3 1\n", 0, "generation 2 rows 1\ngeneration 1 damaged: manifest: damaged check\n"),
 ];
 
 #[test]
-fn a_damaged_manifest_names_no_generation(rt: HostRuntime) -> Result<(), Fail> {
-    let mut folder = with_two(rt.alloc())?.with("d/c.manifest", &[0u8; 64])?;
+fn a_damaged_manifest_of_the_newest_is_passed_over(rt: HostRuntime) -> Result<(), Fail> {
+    let mut folder = with_changed(rt.alloc(), "d/c.1.manifest", 40)?;
     assert_eq!(rt;
         other_run(rt.alloc(), &mut folder, &DAMAGED_MANIFEST)?,
         None
@@ -94,24 +130,95 @@ fn a_damaged_manifest_names_no_generation(rt: HostRuntime) -> Result<(), Fail> {
 }
 
 #[rattlefmt::skip]
-static NO_MANIFEST: [Run; 2] = [
-    ("show d c", "", 1, "damaged: manifest: not there\n"),
-    ("check d c", "", 1, "damaged: manifest: not there\n"),
+static OTHER_MANIFEST: [Run; 1] = [
+    ("show d c", "", 1, "generation 1 damaged: manifest: of another checkpoint\nno checkpoint\n"),
 ];
 
 #[test]
-fn a_missing_manifest_names_no_generation(rt: HostRuntime) -> Result<(), Fail> {
-    assert_eq!(rt;
-        other_run_on_empty(rt.alloc(), &NO_MANIFEST)?,
-        (None, false)
-    );
+fn a_manifest_of_another_generation_is_told(rt: HostRuntime) -> Result<(), Fail> {
+    let mut folder = renamed(rt.alloc(), "d/c.0.manifest", "d/c.1.manifest")?;
+    assert_eq!(rt; other_run(rt.alloc(), &mut folder, &OTHER_MANIFEST)?, None);
+    Ok(())
+}
+
+#[rattlefmt::skip]
+static NO_MANIFEST: [Run; 5] = [
+    ("check d c", "", 0, "generation 1 unfinished\ngeneration 0 whole\n"),
+    ("show d c", "", 0, "generation 0\n1 1 1\n"),
+    ("save d c", "1 3 1\n", 0, "generation 2 rows 1\n"),
+    ("check d c", "", 0, "generation 2 whole\ngeneration 0 whole\n"),
+    ("show --before d c", "", 0, "generation 0\n1 1 1\n"),
+];
+
+#[test]
+fn a_generation_without_a_manifest_is_unfinished(rt: HostRuntime) -> Result<(), Fail> {
+    let mut folder = with_two(rt.alloc())?;
+    let is_removed = folder.remove("d/c.1.manifest").is_ok();
+    let other = other_run(rt.alloc(), &mut folder, &NO_MANIFEST)?;
+    assert_eq!(rt; (is_removed, other), (true, None));
+    Ok(())
+}
+
+#[rattlefmt::skip]
+static ALONE: [Run; 3] = [
+    ("check d c", "", 1, "generation 7 unfinished\n"),
+    ("show d c", "", 1, "no checkpoint\n"),
+    ("show --before d c", "", 1, "no checkpoint\n"),
+];
+
+#[test]
+fn a_generation_that_is_unfinished_is_no_checkpoint(rt: HostRuntime) -> Result<(), Fail> {
+    let mut folder = empty(rt.alloc())?.with("d/c.7.0", b"")?;
+    assert_eq!(rt; other_run(rt.alloc(), &mut folder, &ALONE)?, None);
+    Ok(())
+}
+
+#[rattlefmt::skip]
+static NONE: [Run; 3] = [
+    ("show d c", "", 1, "no checkpoint\n"),
+    ("show --before d c", "", 1, "no checkpoint\n"),
+    ("check d c", "", 1, "no checkpoint\n"),
+];
+
+#[test]
+fn no_checkpoint_is_told(rt: HostRuntime) -> Result<(), Fail> {
+    assert_eq!(rt; other_run_on_empty(rt.alloc(), &NONE)?, (None, false));
+    Ok(())
+}
+
+#[rattlefmt::skip]
+static CLAIMED: [Run; 4] = [
+    ("save d c", "1 3 1\n", 1, "failed: another save is at work in the folder\n"),
+    ("show d c", "", 0, "generation 1\n1 2 1\n"),
+    ("show --before d c", "", 0, "generation 0\n1 1 1\n"),
+    ("check d c", "", 0, "generation 1 whole\ngeneration 0 whole\n"),
+];
+
+#[test]
+fn a_folder_that_another_save_has_is_left(rt: HostRuntime) -> Result<(), Fail> {
+    let mut folder = with_two(rt.alloc())?;
+    folder.claimed_by_another(Some(String::from_str(rt.alloc(), "d")?));
+    assert_eq!(rt; other_run(rt.alloc(), &mut folder, &CLAIMED)?, None);
+    Ok(())
+}
+
+#[rattlefmt::skip]
+static LAST: [Run; 1] = [
+    ("save d c", "1 1 1\n", 1, "failed: no generation is left\n"),
+];
+
+#[test]
+fn a_number_above_the_last_is_not_found(rt: HostRuntime) -> Result<(), Fail> {
+    let mut folder = empty(rt.alloc())?.with("d/c.18446744073709551615.0", b"")?;
+    assert_eq!(rt; other_run(rt.alloc(), &mut folder, &LAST)?, None);
     Ok(())
 }
 
 // What of a folder's calls fails, and what is told.
-static FAULTS: [(u64, &str); 2] = [
-    (0, "failed: manifest: input or output failed\n"),
-    (2, "failed: shard 0: input or output failed\n"),
+static FAULTS: [(u64, &str); 3] = [
+    (0, "failed: folder: input or output failed\n"),
+    (1, "failed: manifest: input or output failed\n"),
+    (3, "failed: shard 0: input or output failed\n"),
 ];
 
 #[test]
@@ -124,7 +231,7 @@ fn a_fault_is_no_damage(rt: HostRuntime) -> Result<(), Fail> {
     Ok(())
 }
 
-static NO_FOLDER: [Run; 1] = [("save e c", "1 1 1\n", 1, "failed: shard 0: not found\n")];
+static NO_FOLDER: [Run; 1] = [("save e c", "1 1 1\n", 1, "failed: folder: not found\n")];
 
 #[test]
 fn a_missing_folder_is_a_fault(rt: HostRuntime) -> Result<(), Fail> {
@@ -132,13 +239,22 @@ fn a_missing_folder_is_a_fault(rt: HostRuntime) -> Result<(), Fail> {
     Ok(())
 }
 
+// How a check may begin after a save that stopped: what it had begun is unfinished, and below these two may be what it had not
+// come to remove.
+static OLD: [&str; 2] = [
+    "generation 1 whole\ngeneration 0 whole\n",
+    "generation 2 unfinished\ngeneration 1 whole\ngeneration 0 whole\n",
+];
+
+static NEW: [&str; 1] = ["generation 2 whole\ngeneration 1 whole\n"];
+
 // A save that stops at a call, and what is found then.
 #[derive(Drop)]
 struct AfterStop {
     is_saved: bool,
     is_old: bool,
     is_new: bool,
-    // where the manifest before names the newest, there is one line
+    // the newest that is shown is whole, and so is the one below it; what was begun above it is unfinished
     is_checked: bool,
 }
 
@@ -149,19 +265,8 @@ fn stopped(alloc: Global, call: u64) -> Result<AfterStop, AllocError> {
     folder.mend();
     let is_old = shows(alloc, &mut folder, "generation 1\n1 2 1\n")?;
     let is_new = shows(alloc, &mut folder, "generation 2\n1 3 1\n")?;
-    let is_checked = if is_new {
-        checks(
-            alloc,
-            &mut folder,
-            "generation 2 whole\ngeneration 1 whole\n",
-        )?
-    } else {
-        checks(
-            alloc,
-            &mut folder,
-            "generation 1 whole\ngeneration 0 whole\n",
-        )? | checks(alloc, &mut folder, "generation 1 whole\n")?
-    };
+    let texts: &[&str] = if is_new { &NEW } else { &OLD };
+    let is_checked = checks(alloc, &mut folder, texts)?;
     Ok(AfterStop {
         is_saved,
         is_old,
@@ -174,8 +279,10 @@ fn shows(alloc: Global, folder: &mut MemoryFolder, text: &str) -> Result<bool, A
     answers(alloc, folder, "show d c", "", 0, text)
 }
 
-fn checks(alloc: Global, folder: &mut MemoryFolder, text: &str) -> Result<bool, AllocError> {
-    answers(alloc, folder, "check d c", "", 0, text)
+// Whether a check begins with one of these.
+fn checks(alloc: Global, folder: &mut MemoryFolder, texts: &[&str]) -> Result<bool, AllocError> {
+    let text = written(alloc, folder, "check d c")?;
+    Ok(texts.iter().any(|begin| text.starts_with(begin.as_bytes())))
 }
 
 #[test]

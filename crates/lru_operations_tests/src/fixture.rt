@@ -37,6 +37,19 @@ pub(crate) fn answers(
     Ok((answer, writer.as_slice()) == (status, text.as_bytes()))
 }
 
+// What these words write.
+pub(crate) fn written(
+    alloc: Global,
+    folder: &mut MemoryFolder,
+    line: &str,
+) -> Result<Vec<u8>, AllocError> {
+    let words = words(alloc, line)?;
+    let mut reader = b"".as_slice();
+    let mut writer = Vec::new(alloc);
+    let _ = run(alloc, folder, &words, &mut reader, &mut writer);
+    Ok(writer)
+}
+
 /// A run of the program: its words, its input, the status that it ends with, and what it writes.
 pub(crate) type Run = (&'static str, &'static str, u8, &'static str);
 

@@ -3,12 +3,14 @@ use crate::fixture::{Run, other_run_on_empty};
 use std::test::Fail;
 
 #[rattlefmt::skip]
-static ROWS: [Run; 5] = [
+static ROWS: [Run; 7] = [
     ("save d c", "4 40 1\n8 80 2\n5 50 3\n", 0, "generation 0 rows 3\n"),
     ("show d c", "", 0, "generation 0\n8 80 2\n4 40 1\n5 50 3\n"),
     ("save d c", "7 1 0", 0, "generation 1 rows 1\n"),
     ("show d c", "", 0, "generation 1\n7 1 0\n"),
+    ("show --before d c", "", 0, "generation 0\n8 80 2\n4 40 1\n5 50 3\n"),
     ("check d c", "", 0, "generation 1 whole\ngeneration 0 whole\n"),
+    ("show d other", "", 1, "no checkpoint\n"),
 ];
 
 #[test]
@@ -18,9 +20,10 @@ fn rows_are_saved_and_shown(rt: HostRuntime) -> Result<(), Fail> {
 }
 
 #[rattlefmt::skip]
-static NO_ROWS: [Run; 3] = [
+static NO_ROWS: [Run; 4] = [
     ("save d c", "", 0, "generation 0 rows 0\n"),
     ("show d c", "", 0, "generation 0\n"),
+    ("show --before d c", "", 1, "no checkpoint\n"),
     ("check d c", "", 0, "generation 0 whole\n"),
 ];
 
@@ -64,12 +67,20 @@ fn a_bad_line_saves_nothing(rt: HostRuntime) -> Result<(), Fail> {
 }
 
 #[rattlefmt::skip]
-static WRONG: [Run; 5] = [
+static WRONG: [Run; 13] = [
     ("save d", "1 1 1\n", 2, "error: these are not as many words as a command has\n"),
     ("save", "1 1 1\n", 2, "error: these are not as many words as a command has\n"),
     ("show d c c", "", 2, "error: these are not as many words as a command has\n"),
     ("load d c", "", 2, "error: no such command\n"),
     ("save d c/c", "1 1 1\n", 2, "error: the name of the file has a slash\n"),
+    ("save d ", "1 1 1\n", 2, "error: the name of the file is empty\n"),
+    ("save  c", "1 1 1\n", 2, "error: the name of the folder is empty\n"),
+    ("check  ", "", 2, "error: the name of the folder is empty\n"),
+    ("show --before d ", "", 2, "error: the name of the file is empty\n"),
+    ("show --before  c", "", 2, "error: the name of the folder is empty\n"),
+    ("show --before d c/c", "", 2, "error: the name of the file has a slash\n"),
+    ("save --before d c", "1 1 1\n", 2, "error: these are not as many words as a command has\n"),
+    ("show --after d c", "", 2, "error: these are not as many words as a command has\n"),
 ];
 
 #[test]
@@ -83,7 +94,7 @@ static HELP: [Run; 1] = [(
     "--help",
     "",
     0,
-    "checkpoint_tool saves, shows and checks checkpoints of rows: whole, or refused.\nsave DIR FILE   saves the rows of the input as the next checkpoint, KEY VALUE WEIGHT a line, last used last\nshow DIR FILE   writes the rows of the newest checkpoint, most recent first, shard by shard\ncheck DIR FILE  tells of the newest checkpoint and of the one before whether it is whole\n",
+    "checkpoint_tool saves, shows and checks checkpoints of rows: whole, or refused.\nsave DIR FILE   saves the rows of the input as the next checkpoint, KEY VALUE WEIGHT a line, last used last\nshow DIR FILE   writes the rows of the newest whole checkpoint, most recent first, shard by shard\nshow --before DIR FILE  writes those of the next whole one below it\ncheck DIR FILE  tells of each generation in the folder whether it is whole, highest first\nA generation that is damaged is passed over; its files stay until a newer checkpoint is kept.\n",
 )];
 
 #[test]

@@ -6,6 +6,5 @@ pub mod cores;
 pub mod deadlines;
 pub mod files;
 pub mod keys;
-pub mod restart;
 pub mod shards;
 pub mod threads;

@@ -1,6 +1,7 @@
 // A shared cache of texts, whose clones take memory too.
-use crate::saves::{Shards, folder, is_saved, loaded, text, write_rows};
-use lru_cache_captures::shared::{capture_shared, restore_shard};
+use crate::saves::{folder, is_saved, loaded, text, write_rows};
+use lru_cache_captures::shared::{SharedSource, capture_shard, restore_shards};
+use lru_frames::row::Row;
 use lru_memory_folder::memory_folder::MemoryFolder;
 use lru_shared::shared::SharedCache;
 use std::alloc::{AllocError, Global};
@@ -36,20 +37,15 @@ fn filled(rt: &impl Wait, alloc: Global) -> Result<Option<Texts>, AllocError> {
     Ok(Some(cache))
 }
 
-fn captured(rt: &impl Wait, alloc: Global, cache: &Texts) -> Result<Shards, AllocError> {
-    match capture_shared(rt, alloc, cache) {
-        Ok(shards) => Ok(shards),
-        Err(_) => capture_shared(rt, alloc, cache),
+fn captured(
+    rt: &impl Wait,
+    alloc: Global,
+    cache: &Texts,
+) -> Result<Vec<Row<u64, String>>, AllocError> {
+    match capture_shard(rt, alloc, cache, 0) {
+        Ok(rows) => Ok(rows),
+        Err(_) => capture_shard(rt, alloc, cache, 0),
     }
-}
-
-fn is_put_back(rt: &impl Wait, cache: &Texts, shards: Shards) -> bool {
-    for rows in shards {
-        if restore_shard(rt, cache, rows).is_err() {
-            return false;
-        }
-    }
-    true
 }
 
 // A cache with the entries that were saved. A refusal drops what is not put back, so it is loaded again.
@@ -59,7 +55,7 @@ fn restored(rt: &impl Wait, alloc: Global, folder: &mut MemoryFolder) -> io::Res
         let Ok(shards) = loaded(alloc, folder) else {
             return Ok(None);
         };
-        if is_put_back(rt, &cache, shards) {
+        if restore_shards(rt, &cache, shards).is_ok() {
             return Ok(Some(cache));
         }
     }
@@ -71,14 +67,13 @@ pub fn script<W: Write>(rt: &impl Wait, alloc: Global, out: &mut W) -> io::Resul
     let (Some(cache), Some(mut folder)) = (filled(rt, alloc)?, folder(alloc)) else {
         return Ok(false);
     };
-    if !is_saved(alloc, &mut folder, &captured(rt, alloc, &cache)?) {
+    let source = SharedSource { rt, cache: &cache };
+    if !is_saved(alloc, &mut folder, &source) {
         return Ok(false);
     }
     let Some(again) = restored(rt, alloc, &mut folder)? else {
         return Ok(false);
     };
-    for rows in &captured(rt, alloc, &again)? {
-        write_rows(out, "entry", rows)?;
-    }
+    write_rows(out, "entry", &captured(rt, alloc, &again)?)?;
     Ok(true)
 }

@@ -1,9 +1,11 @@
 // A core whose data are texts, and a snapshot of keys and weights.
-use crate::saves::{Shards, folder, is_saved, loaded, text, write_rows};
+ghost use Rattle.std.specs.Prelude.{◌<◌};
+
+use crate::saves::{folder, is_saved, loaded, text, write_rows};
 use lru_cores::lru_core::LruCore;
 use lru_frames::row::Row;
 use lru_memory_folder::memory_folder::MemoryFolder;
-use lru_order_captures::cores::{capture_core, restore_shard};
+use lru_order_captures::cores::{CoreSource, capture_shard, restore_shards};
 use lru_order_captures::snapshots::snapshot_rows;
 use std::alloc::{AllocError, Global};
 use std::io;
@@ -35,20 +37,13 @@ fn filled(alloc: Global) -> Result<Option<Texts>, AllocError> {
     Ok(Some(core))
 }
 
-fn captured(alloc: Global, core: &Texts) -> Result<Shards, AllocError> {
-    match capture_core(alloc, core) {
-        Ok(shards) => Ok(shards),
-        Err(_) => capture_core(alloc, core),
+fn captured(alloc: Global, core: &Texts, shard: usize) -> Result<Vec<Row<u64, String>>, AllocError>
+    requires { shard < 2 }
+{
+    match capture_shard(alloc, core, shard) {
+        Ok(rows) => Ok(rows),
+        Err(_) => capture_shard(alloc, core, shard),
     }
-}
-
-fn is_put_back(core: &mut Texts, shards: Shards) -> bool {
-    for rows in shards {
-        if restore_shard(core, rows).is_err() {
-            return false;
-        }
-    }
-    true
 }
 
 // A core with the rows that were saved. A refusal drops what is not put back, so it is loaded again.
@@ -58,7 +53,7 @@ fn restored(alloc: Global, folder: &mut MemoryFolder) -> io::Result<Option<Texts
         let Ok(shards) = loaded(alloc, folder) else {
             return Ok(None);
         };
-        if is_put_back(&mut core, shards) {
+        if restore_shards(&mut core, shards).is_ok() {
             return Ok(Some(core));
         }
     }
@@ -82,14 +77,14 @@ pub fn script<W: Write>(alloc: Global, out: &mut W) -> io::Result<bool> {
     let (Some(core), Some(mut folder)) = (filled(alloc)?, folder(alloc)) else {
         return Ok(false);
     };
-    if !is_saved(alloc, &mut folder, &captured(alloc, &core)?) {
+    if !is_saved(alloc, &mut folder, &CoreSource { core: &core }) {
         return Ok(false);
     }
     let Some(again) = restored(alloc, &mut folder)? else {
         return Ok(false);
     };
-    for rows in &captured(alloc, &again)? {
-        write_rows(out, "row", rows)?;
+    for shard in 0..2 {
+        write_rows(out, "row", &captured(alloc, &again, shard)?)?;
     }
     for row in &rows_of_snapshot(alloc)? {
         writeln!(out, "snapshot {} {}", row.key, row.weight)?;

@@ -1,9 +1,13 @@
 // Saves and loads, made again where memory was refused to the first.
+ghost use Rattle.std.specs.Prelude.{◌≤◌};
+ghost use Rattle.lru_checkpoints.specs.Checkpoints.{most_shards};
+
 use lru_checkpoints::errors::CheckpointError;
-use lru_checkpoints::loading::load_checkpoint;
 use lru_folder::folder::Folder;
 use lru_frames::row::Row;
+use lru_frames::source::Source;
 use lru_generations::generations::save;
+use lru_generations::loading::load;
 use lru_memory_folder::memory_folder::MemoryFolder;
 use std::alloc::{AllocError, Global};
 use std::io;
@@ -29,19 +33,30 @@ pub fn folder(alloc: Global) -> Option<MemoryFolder> {
     Some(folder)
 }
 
-/// Saves the shards; whether that was done.
-pub fn is_saved(alloc: Global, folder: &mut MemoryFolder, shards: &Shards) -> bool {
-    if shards.len() > 4 {
-        return false;
-    }
-    save(alloc, folder, "d", "c", shards).is_ok() || save(alloc, folder, "d", "c", shards).is_ok()
+/// Saves what the source hands out; whether that was done.
+pub fn is_saved<S: Source<u64, String>>(
+    alloc: Global,
+    folder: &mut MemoryFolder,
+    source: &S,
+) -> bool
+    requires { S.count source.now ≤ most_shards }
+{
+    save(alloc, folder, "d", "c", source).is_ok() || save(alloc, folder, "d", "c", source).is_ok()
 }
 
-/// The shards that were saved last.
+// The shards that were saved last; none where nothing was.
+fn loaded_once(alloc: Global, folder: &mut MemoryFolder) -> Result<Shards, CheckpointError> {
+    match load(alloc, folder, "d", "c")?.newest {
+        Some(checkpoint) => Ok(checkpoint.shards),
+        None => Ok(Vec::new(alloc)),
+    }
+}
+
+/// The shards that were saved last; none where nothing was.
 pub fn loaded(alloc: Global, folder: &mut MemoryFolder) -> Result<Shards, CheckpointError> {
-    match load_checkpoint::<_, u64, String>(alloc, folder, "d", "c") {
-        Ok(checkpoint) => Ok(checkpoint.shards),
-        Err(_) => Ok(load_checkpoint::<_, u64, String>(alloc, folder, "d", "c")?.shards),
+    match loaded_once(alloc, folder) {
+        Ok(shards) => Ok(shards),
+        Err(_) => loaded_once(alloc, folder),
     }
 }
 

@@ -1,4 +1,4 @@
-use Rattle.std.proofs.Common.{◌≡◌, ◌<◌, ◌^◌, ℕ, List, length, Some, slice_get, inr, sym, ◌∙◌, ap, subst}
+use Rattle.std.proofs.Common.{◌≡◌, ◌<◌, ◌^◌, ℕ, List, length, Some, slice_get, inr, sym, subst}
 use Rattle.std.specs.FinMap.{get}
 use Rattle.lru_folder.specs.Files.{Files}
 use Rattle.lru_folder.specs.Meaning.{Meaning}

@@ -1,4 +1,4 @@
-use Rattle.std.proofs.Common.{refl, ap, ◌∙◌, sym, arith, length}
+use Rattle.std.proofs.Common.{refl, ap, ◌∙◌, arith, length}
 use Rattle.lru_manifests.specs.Manifests.{manifest_bytes}
 use Rattle.lru_manifests.specs.Names.{manifest_path}
 use Rattle.lru_whole_files.proofs.Touched.{touches_started}

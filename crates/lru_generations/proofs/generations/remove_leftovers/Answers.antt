@@ -1,4 +1,4 @@
-use Rattle.std.proofs.Common.{◌≡◌, List, sym, subst}
+use Rattle.std.proofs.Common.{List, sym, subst}
 use Rattle.std.specs.Prelude.{Contains}
 use Rattle.lru_folder.specs.Meaning.{Meaning}
 use Rattle.lru_manifests.specs.declared.names.PartName.{PartName}

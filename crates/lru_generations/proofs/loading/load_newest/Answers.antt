@@ -10,7 +10,7 @@ use Rattle.lru_checkpoints.specs.Loads.{IsFault, IsRefused, IsRefusedFrame, rows
 use Rattle.lru_generations.specs.declared.newest.Passed.{Passed}
 use Rattle.lru_generations.specs.Loaded.{IsReadable}
 use Rattle.lru_generations.specs.Newest.{HasAllManifests}
-use Rattle.lru_generations.proofs.Passing.{each_more, front_all, front_at, front_more, none_at_all, none_higher, none_more, numbers_of}
+use Rattle.lru_generations.proofs.Passing.{each_more, front_all, front_at, map_more, none_at_all, none_higher, none_more, numbers_of}
 use Rattle.lru_generations.proofs.Refusals.{frame_again}
 use Rattle.lru_generations.proofs.loading.load_newest.Goals as goal
 
@@ -122,7 +122,7 @@ loop-generation-preserved g c =
     let is : c.pass_over.new.passed.items ≡ passed ++ last ∷ [] = c.in_ok-pass_over-in-Err.ensures.passed in
     let blames : ¬ IsFault error = c.in_ok-pass_over-in-Err.ensures.unblamed in
     record {
-      front = ap (λ (l : List Passed). numbers_of l) is ∙ front_more numbers i passed n error c.loop-generation-test.true so_far.front refl;
+      front = ap (λ (l : List Passed). numbers_of l) is ∙ map_more (λ (one : Passed). one.generation) numbers i passed last c.loop-generation-test.true so_far.front refl;
       none = λ k. none_more (IsReadable K.bytes_of K.is_value V.bytes_of V.is_value dir file_name (m.files start)) numbers i (so_far.none k)
           (λ w. blames (c.in-Err.ensures.written (so_far.kept.0 k) w.0 (subst (λ (f : Files). HasCheckpoint K.bytes_of K.is_value V.bytes_of V.is_value dir file_name n w.0 f) (sym (so_far.files k)) w.1)));
       unblamed = λ one h. each_more (λ (p : Passed). ¬ IsFault p.error) passed last so_far.unblamed blames one (subst (λ (l : List Passed). Contains l one) is h);

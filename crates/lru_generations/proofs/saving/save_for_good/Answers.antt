@@ -1,5 +1,4 @@
-use Rattle.std.proofs.Common.{◌≡◌, ℕ, List, inl, inr, refl, sym, subst}
-use Rattle.lru_folder.specs.Files.{Files}
+use Rattle.std.proofs.Common.{◌≡◌, inl, inr, refl, sym, subst}
 use Rattle.lru_folder.specs.Meaning.{Meaning}
 use Rattle.lru_manifests.specs.Names.{frame_path, manifest_path, manifest_temp_path}
 use Rattle.lru_whole_files.proofs.Touched.{touches_then, touches_more}

@@ -1,12 +1,12 @@
-use Rattle.std.proofs.Common.{◌≡◌, ◌<◌, ◌^◌, inl, inr, ⊎_elim, ℕ, List, refl, sym, ◌∙◌, ap, subst}
-use Rattle.std.specs.Prelude.{Contains}
+use Rattle.std.proofs.Common.{◌≡◌, ◌<◌, inl, inr, ⊎_elim, ℕ, List, sym, ◌∙◌, subst}
+use Rattle.std.specs.Prelude.{AllPairs, Contains}
 use Rattle.lru_folder.specs.Files.{Files}
 use Rattle.lru_folder.specs.Meaning.{Meaning}
 use Rattle.lru_manifests.specs.declared.names.PartName.{PartName}
 use Rattle.lru_manifests.specs.declared.names.PartName.TheVariants.{Manifest}
 use Rattle.lru_manifests.specs.Listing.{HasParts, IsAbove}
 use Rattle.lru_whole_files.proofs.Touched.{touches_started, touches_then, touches_looked}
-use Rattle.lru_generations.specs.Newest.{HasAllManifests, IsNewest}
+use Rattle.lru_generations.specs.Newest.{AreGenerations, HasAllManifests, IsNewest}
 use Rattle.lru_generations.proofs.ForGood.{save_fault}
 use Rattle.lru_generations.proofs.survey.survey.Goals as goal
 
@@ -151,3 +151,29 @@ returns-in-Ok-sync_names-clause-found g c k =
       top = subst (λ (f : Files). IsNewest dir file_name f c.in-Ok-newest_whole.newest.generation) (second ∙ first) (c.in-Ok-newest_whole.ensures.newest k-2 all);
       above = subst (λ (xs : List PartName). IsAbove xs c.in-Some.generation) c.deref.ensures.value c.in-Some.ensures.0;
     }
+
+pub returns-in-Ok-sync_names-clause-passed : goal.returns-in-Ok-sync_names-clause-passed
+returns-in-Ok-sync_names-clause-passed g c k =
+    let m : Meaning _ = g.F.Folder.meaning in
+    let dir = c.args.dir.now in
+    let file_name = c.args.file_name.now in
+    let start = c.args.folder.now in
+    let one = c.claim.new.folder in
+    let two = c.parts_of.new.folder in
+    let k-1 = c.claim.ensures.kept.0 k in
+    let k-2 = c.parts_of.ensures.kept.0 k-1 in
+    let first : m.files one ≡ m.files start = (c.claim.ensures.time k).leaves in
+    let second : m.files two ≡ m.files one = c.parts_of.ensures.files k-1 in
+    let listed = subst (λ (f : Files). HasParts dir file_name f c.in-Ok.parts.items) first (c.in-Ok.ensures.parts k-1) in
+    let among = λ (number : ℕ) (there : Contains c.deref-3.result.now number).
+    subst (λ (xs : List PartName). Contains xs (Manifest number)) c.deref-2.ensures.value
+    ((c.in-Ok-generations_of.ensures.found number).0 (subst (λ (xs : List ℕ). Contains xs number) c.deref-3.ensures.value there)) in
+    let are : AreGenerations dir file_name (m.files start) c.deref-3.result.now = record {
+      found = λ number. (
+        λ there. let small = listed.fits (Manifest number) (among number there) in (small, (listed.there (Manifest number) small).0 (among number there)),
+        λ has. subst (λ (xs : List ℕ). Contains xs number) (sym c.deref-3.ensures.value)
+            ((c.in-Ok-generations_of.ensures.found number).1 (subst (λ (xs : List PartName). Contains xs (Manifest number)) (sym c.deref-2.ensures.value) ((listed.there (Manifest number) has.0).1 has.1))),
+      );
+      falling = subst (λ (xs : List ℕ). AllPairs (λ first later. later < first) xs) (sym c.deref-3.ensures.value) c.in-Ok-generations_of.ensures.falling;
+    } in
+    (two, (c.newest_whole.new.folder, (second ∙ first, (c.deref-3.result.now, (are, c.in-Ok-newest_whole.ensures.passed k-2)))))

@@ -1,5 +1,5 @@
 use Rattle.std.proofs.Common.{sym, ◌∙◌, ap, map, Some}
-use Rattle.lru_operations.proofs.Verdicts.{of_lines}
+use Rattle.lru_operations.proofs.Lines.{of_lines}
 use Rattle.lru_operations.proofs.saving.save_lines.Goals as goal
 
 pub returns-in-Ok-clause-outcome : goal.returns-in-Ok-clause-outcome

@@ -1,0 +1,58 @@
+//! Files whose bytes are made by hand: a manifest that claims too much, and files of the older format.
+use crate::fixture::{are_passed, empty, found_in, load_newest, save_next, two, with_other};
+use crate::frame_damage_tests::sealed;
+use lru_checkpoints::errors::{CheckpointError, CheckpointFile};
+use lru_frames::errors::Part;
+use lru_memory_folder::memory_folder::MemoryFolder;
+use std::alloc::Global;
+use std::test::Fail;
+
+const MOST: u64 = 1 << 62;
+
+// The numbers of manifests with a right check that claim 2^62 shards: length, parts, part, generation, rows. One claims as many
+// rows too, which are not there, and one has none.
+#[rattlefmt::skip]
+static CLAIMS: [[u64; 5]; 2] = [
+    [64, MOST + 1, MOST, 1, MOST],
+    [64, MOST + 1, MOST, 1, 0],
+];
+
+// Whether such a manifest is refused, and the checkpoint before it loaded and kept by the next save.
+fn is_refused(alloc: Global, numbers: &[u64]) -> Result<bool, CheckpointError> {
+    let bytes = sealed(alloc, 2, numbers)?;
+    let mut folder = with_other(alloc, &two(alloc)?, "d/c.1.manifest", Some(&bytes))?;
+    let file = CheckpointFile::Manifest;
+    let part = Part::Rows;
+    let wanted = [(1, CheckpointError::Damaged { file, part })];
+    let loaded = load_newest(alloc, &mut folder)?;
+    let saved = save_next(alloc, &mut folder, 12)?;
+    Ok(
+        found_in(&loaded) == Some((0, 10))
+            && are_passed(&loaded.passed, &wanted)
+            && saved.kept == Some(0),
+    )
+}
+
+#[test]
+fn a_manifest_that_claims_too_many_shards(rt: HostRuntime) -> Result<(), Fail> {
+    let are_refused = CLAIMS.map(|numbers| is_refused(rt.alloc(), &numbers));
+    assert_eq!(rt; are_refused, [Ok(true), Ok(true)]);
+    Ok(())
+}
+
+// A folder with a checkpoint of version 1: one shard with a row, and the manifest, whose name has no number.
+fn of_version_one(alloc: Global) -> Result<MemoryFolder, CheckpointError> {
+    let frame = sealed(alloc, 1, &[88, 2, 0, 0, 1, 5, 9, 3])?;
+    let manifest = sealed(alloc, 1, &[88, 2, 1, 0, 1, 1, 7, 88])?;
+    let folder = empty(alloc)?.with("d/c.0.0", &frame)?;
+    Ok(folder.with("d/c.manifest", &manifest)?)
+}
+
+#[test]
+fn files_of_version_one_are_none(rt: HostRuntime) -> Result<(), Fail> {
+    let mut folder = of_version_one(rt.alloc())?;
+    let loaded = load_newest(rt.alloc(), &mut folder)?;
+    let found = (loaded.newest.is_none(), loaded.passed.len());
+    assert_eq!(rt; found, (true, 0));
+    Ok(())
+}
