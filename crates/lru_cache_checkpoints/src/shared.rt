@@ -1,5 +1,5 @@
 //! A cache that threads share, saved and loaded.
-ghost use Rattle.std.specs.Prelude.{◌≡◌, ◌↔◌, ◌⊎◌, ◌≤◌, ℕ, List, false, None, IfErr, IfOk, OnOk};
+ghost use Rattle.std.specs.Prelude.{◌≡◌, ◌↔◌, ◌⊎◌, ◌≤◌, ℕ, List, false, None, Some, IfErr, IfOk, OnOk};
 ghost use Rattle.std.specs.FinMap.{get};
 ghost use Rattle.lru_folder.specs.Names.{has_slash};
 ghost use Rattle.lru_manifests.specs.declared.names.PartName.{PartName};
@@ -10,7 +10,7 @@ ghost use Rattle.lru_checkpoints.specs.Checkpoints.{Shards, AreHandedOut, most_s
 ghost use Rattle.lru_checkpoints.specs.Loads.{IsFault, IsRefused, IsRefusedFrame};
 ghost use Rattle.lru_generations.specs.Faults.{IsFailed, IsUnlisted};
 ghost use Rattle.lru_generations.specs.Newest.{AreGenerations, ArePassed, IsNewest};
-ghost use Rattle.lru_generations.specs.Saving.{IsForGood, IsOlder, IsUnsaved, IsUnused, SavesNext};
+ghost use Rattle.lru_generations.specs.Saving.{IsForGood, IsOlder, IsUnsaved, IsUnused, SavesNext, TellsPassed};
 ghost use Rattle.lru_cache_checkpoints.specs.Restores.{IfUnloaded, MayRestore};
 
 use crate::restored::{RestoreError, Restored};
@@ -48,11 +48,11 @@ pub fn save_shared<F: SyncedFolder, K: Hash + Clone + Stored, V: Clone + Stored,
     ensures for_good { F.meaning.keeps folder.old → IfOk result (λ saved. (shards : Shards K V) × (AreHandedOut (λ shard. MayCopy K.is_clone V.is_clone) N shards
         × IsForGood K.bytes_of K.is_value V.bytes_of V.is_value dir.now file_name.now F.meaning saved.generation shards folder.new)) }
 
-    // The one that is kept was the newest whole one, and what was below it is gone.
+    // The one that is kept was the newest whole one, those above it are told, and what was below it is gone.
     ensures newest { F.meaning.keeps folder.old → IfOk result (λ saved. IsNewest dir.now file_name.now (F.meaning.files folder.old) saved.kept) }
-
-    ensures gone { F.meaning.keeps folder.old → IfOk result (λ saved. OnOk saved.removed ((part : PartName) → IsPart part → IsOlder saved.kept part
-        → get (F.meaning.files folder.new) (part_path dir.now file_name.now part) ≡ None)) }
+    ensures passed { F.meaning.keeps folder.old → IfOk result (λ saved. TellsPassed F.meaning dir.now file_name.now (F.meaning.files folder.old) saved.kept saved.passed.items) }
+    ensures gone { F.meaning.keeps folder.old → IfOk result (λ saved. OnOk saved.removed ((part : PartName) (bytes : List ℕ) → IsPart part → IsOlder saved.kept part
+        → get (F.meaning.files folder.old) (part_path dir.now file_name.now part) ≡ Some bytes → get (F.meaning.files folder.new) (part_path dir.now file_name.now part) ≡ None)) }
 
     // Where neither memory nor the device failed, nothing was done.
     ensures error { F.meaning.keeps folder.old → IfErr result IsUnsaved }

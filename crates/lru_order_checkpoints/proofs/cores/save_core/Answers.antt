@@ -1,4 +1,0 @@
-use Rattle.lru_order_checkpoints.proofs.cores.save_core.Goals as goal
-
-pub returns-clause-gone : goal.returns-clause-gone
-returns-clause-gone g c = c.save.ensures.gone
