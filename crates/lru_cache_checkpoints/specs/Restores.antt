@@ -5,6 +5,7 @@ use Rattle.lru_frames.specs.declared.row.Row.{Row}
 use Rattle.lru_frames.specs.Copies.{AreEach, IsEntryCopy}
 use Rattle.lru_cache.specs.declared.cache.Refused as cached
 use Rattle.lru_cache.specs.Cache.{Cached, parts_of}
+use Rattle.lru_checkpoints.specs.declared.errors.CheckpointError.{CheckpointError}
 use Rattle.lru_checkpoints.specs.Checkpoints.{Shards, HasCheckpoint}
 use Rattle.lru_checkpoints.specs.Loads.{IsFault}
 use Rattle.lru_generations.specs.declared.loading.Checkpoint.{Checkpoint}
@@ -13,6 +14,11 @@ use Rattle.lru_cache_captures.specs.Captures.{PutsShards, MayPutShards}
 use Rattle.lru_cache_checkpoints.specs.declared.restored.Restored.{Restored}
 use Rattle.lru_cache_checkpoints.specs.declared.restored.RestoreError.{RestoreError}
 use Rattle.lru_cache_checkpoints.specs.declared.restored.RestoreError.TheVariants.{Unloaded, Refused}
+
+-- so it is of the error where none was loaded
+abbrev pub IfUnloaded : {K V : Type 0} → (CheckpointError → Type 0) → RestoreError K V → Type 0
+IfUnloaded P (Unloaded error) = P error
+IfUnloaded P (Refused refused) = Unit {0}
 
 -- rows are the copies of the entries of a cache, most recent first
 abbrev pub IsCopyOf : {K V : Type 0} → (K → K → Type 0) → (V → V → Type 0) → Cached K V → List (Row K V) → Type 0

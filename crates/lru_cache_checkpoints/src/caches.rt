@@ -1,12 +1,16 @@
 //! A cache of one owner saved and loaded.
-ghost use Rattle.std.specs.Prelude.{◌≡◌, ◌↔◌, ℕ, List, false, IfErr, IfOk, OnOk};
+ghost use Rattle.std.specs.Prelude.{◌≡◌, ◌↔◌, ◌⊎◌, ℕ, List, false, None, Some, IfErr, IfOk, OnOk};
+ghost use Rattle.std.specs.FinMap.{get};
 ghost use Rattle.lru_folder.specs.Names.{has_slash};
+ghost use Rattle.lru_manifests.specs.declared.names.PartName.{PartName};
+ghost use Rattle.lru_manifests.specs.Names.{IsPart, part_path};
 ghost use Rattle.lru_whole_files.specs.Touching.{TouchesNothing};
 ghost use Rattle.lru_checkpoints.specs.Checkpoints.{Shards, AreHandedOut};
-ghost use Rattle.lru_checkpoints.specs.Loads.{IsFault};
-ghost use Rattle.lru_generations.specs.Newest.{IsNewest};
-ghost use Rattle.lru_generations.specs.Saving.{IsForGood, IsUnsaved, IsUnused, SavesNext};
-ghost use Rattle.lru_cache_checkpoints.specs.Restores.{IsCopyOf, Restores};
+ghost use Rattle.lru_checkpoints.specs.Loads.{IsFault, IsRefused, IsRefusedFrame};
+ghost use Rattle.lru_generations.specs.Faults.{IsFailed, IsUnlisted};
+ghost use Rattle.lru_generations.specs.Newest.{AreGenerations, ArePassed, IsNewest};
+ghost use Rattle.lru_generations.specs.Saving.{IsForGood, IsOlder, IsUnsaved, IsUnused, SavesNext, TellsPassed};
+ghost use Rattle.lru_cache_checkpoints.specs.Restores.{IfUnloaded, IsCopyOf, Restores};
 
 use crate::restored::{RestoreError, Restored};
 use lru_cache::cache::Cache;
@@ -38,7 +42,12 @@ pub fn save_cache<F: SyncedFolder, K: Hash + Clone + Stored, V: Clone + Stored>(
     ensures next { F.meaning.keeps folder.old → IfOk result (λ saved. IsUnused dir.now file_name.now (F.meaning.files folder.old) saved.generation) }
     ensures for_good { F.meaning.keeps folder.old → IfOk result (λ saved. (shards : Shards K V) × (AreHandedOut (λ shard. IsCopyOf K.is_clone V.is_clone cache.now) 1 shards
         × IsForGood K.bytes_of K.is_value V.bytes_of V.is_value dir.now file_name.now F.meaning saved.generation shards folder.new)) }
+
+    // The one that is kept was the newest whole one, those above it are told, and what was below it is gone.
     ensures newest { F.meaning.keeps folder.old → IfOk result (λ saved. IsNewest dir.now file_name.now (F.meaning.files folder.old) saved.kept) }
+    ensures passed { F.meaning.keeps folder.old → IfOk result (λ saved. TellsPassed F.meaning dir.now file_name.now (F.meaning.files folder.old) saved.kept saved.passed.items) }
+    ensures gone { F.meaning.keeps folder.old → IfOk result (λ saved. OnOk saved.removed ((part : PartName) (bytes : List ℕ) → IsPart part → IsOlder saved.kept part
+        → get (F.meaning.files folder.old) (part_path dir.now file_name.now part) ≡ Some bytes → get (F.meaning.files folder.new) (part_path dir.now file_name.now part) ≡ None)) }
 
     // Where neither memory nor the device failed, nothing was done.
     ensures error { F.meaning.keeps folder.old → IfErr result IsUnsaved }
@@ -63,8 +72,20 @@ pub fn load_cache<F: Folder, K: Hash + Default + Stored, V: Stored>(
     ensures restores { F.meaning.keeps folder.old → Restores K.bytes_of K.is_value K.is_same V.bytes_of V.is_value V.is_same
         dir.now file_name.now (F.meaning.files folder.old) K.eq cache.old result cache.new }
 
+    // Of the generations that have a manifest, those above it were passed over.
+    ensures passed { F.meaning.keeps folder.old → IfOk result (λ restored. (generations : List ℕ)
+        × (AreGenerations dir.now file_name.now (F.meaning.files folder.old) generations
+        × ArePassed (λ generation error. IsRefused F.meaning (IsRefusedFrame F.meaning K.bytes_of K.is_value V.bytes_of V.is_value dir.now file_name.now)
+        dir.now file_name.now generation folder.old folder.new error)
+        generations restored.generation restored.passed.items)) }
+
+    // Where none was loaded, the folder was not listed, memory was refused or a call failed.
+    ensures reason { F.meaning.keeps folder.old → IfErr result (IfUnloaded (λ error. IsUnlisted F.meaning dir.now folder.old folder.new error
+        ⊎ IsFailed F.meaning folder.old folder.new error)) }
+
     ensures touches { F.meaning.keeps folder.old → TouchesNothing F.meaning folder.old folder.new }
     ensures files { F.meaning.keeps folder.old → F.meaning.files folder.new ≡ F.meaning.files folder.old }
+    ensures faults { F.meaning.keeps folder.old → OnOk result (F.meaning.faults folder.new ≡ F.meaning.faults folder.old) }
     ensures places { F.meaning.keeps folder.old → F.meaning.folders folder.new ≡ F.meaning.folders folder.old }
     ensures kept { F.meaning.keeps folder.old ↔ F.meaning.keeps folder.new }
 {

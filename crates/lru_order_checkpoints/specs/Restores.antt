@@ -4,6 +4,7 @@ use Rattle.lru_folder.specs.Files.{Files}
 use Rattle.lru_frames.specs.declared.row.Row.{Row}
 use Rattle.lru_shard.specs.declared.unit.Refused as row
 use Rattle.lru_cores.specs.Core.{Core, list_at}
+use Rattle.lru_checkpoints.specs.declared.errors.CheckpointError.{CheckpointError}
 use Rattle.lru_checkpoints.specs.Checkpoints.{Shards, HasCheckpoint}
 use Rattle.lru_checkpoints.specs.Loads.{IsFault}
 use Rattle.lru_generations.specs.declared.loading.Checkpoint.{Checkpoint}
@@ -19,6 +20,11 @@ IsWord n = n < 2 ^ 64
 
 abbrev pub IsSameWord : ℕ → ℕ → Type 0
 IsSameWord m n = m ≡ n
+
+-- so it is of the error where none was loaded
+abbrev pub IfUnloaded : {V : Type 0} → (CheckpointError → Type 0) → RestoreError V → Type 0
+IfUnloaded P (Unloaded error) = P error
+IfUnloaded P (Refused refused) = Unit {0}
 
 -- rows are the copies of those of a shard of a core
 abbrev pub IsCopyOf : {V : Type 0} → (V → V → Type 0) → Core (ℕ × V) → ℕ → List (Row ℕ V) → Type 0

@@ -1,14 +1,18 @@
 //! An order that threads share, saved and loaded.
-ghost use Rattle.std.specs.Prelude.{◌≡◌, ◌↔◌, ◌≤◌, ℕ, List, false, IfErr, IfOk, OnOk};
+ghost use Rattle.std.specs.Prelude.{◌≡◌, ◌↔◌, ◌⊎◌, ◌≤◌, ℕ, List, false, None, Some, IfErr, IfOk, OnOk};
+ghost use Rattle.std.specs.FinMap.{get};
 ghost use Rattle.lru_folder.specs.Names.{has_slash};
 ghost use Rattle.lru_frames.specs.Words.{word};
+ghost use Rattle.lru_manifests.specs.declared.names.PartName.{PartName};
+ghost use Rattle.lru_manifests.specs.Names.{IsPart, part_path};
 ghost use Rattle.lru_whole_files.specs.Touching.{TouchesNothing};
 ghost use Rattle.lru_order_captures.specs.Captures.{MayCopy};
 ghost use Rattle.lru_checkpoints.specs.Checkpoints.{Shards, AreHandedOut, most_shards};
-ghost use Rattle.lru_checkpoints.specs.Loads.{IsFault};
-ghost use Rattle.lru_generations.specs.Newest.{IsNewest};
-ghost use Rattle.lru_generations.specs.Saving.{IsForGood, IsUnsaved, IsUnused, SavesNext};
-ghost use Rattle.lru_order_checkpoints.specs.Restores.{IsSameWord, IsWord, MayRestore};
+ghost use Rattle.lru_checkpoints.specs.Loads.{IsFault, IsRefused, IsRefusedFrame};
+ghost use Rattle.lru_generations.specs.Faults.{IsFailed, IsUnlisted};
+ghost use Rattle.lru_generations.specs.Newest.{AreGenerations, ArePassed, IsNewest};
+ghost use Rattle.lru_generations.specs.Saving.{IsForGood, IsOlder, IsUnsaved, IsUnused, SavesNext, TellsPassed};
+ghost use Rattle.lru_order_checkpoints.specs.Restores.{IfUnloaded, IsSameWord, IsWord, MayRestore};
 
 use crate::restored::{RestoreError, Restored};
 use lru_checkpoints::errors::CheckpointError;
@@ -43,7 +47,12 @@ pub fn save_lru<F: SyncedFolder, V: Clone + Stored, const N: usize>(
     ensures next { F.meaning.keeps folder.old → IfOk result (λ saved. IsUnused dir.now file_name.now (F.meaning.files folder.old) saved.generation) }
     ensures for_good { F.meaning.keeps folder.old → IfOk result (λ saved. (shards : Shards ℕ V) × (AreHandedOut (λ shard. MayCopy N shard V.is_clone) N shards
         × IsForGood word IsWord V.bytes_of V.is_value dir.now file_name.now F.meaning saved.generation shards folder.new)) }
+
+    // The one that is kept was the newest whole one, those above it are told, and what was below it is gone.
     ensures newest { F.meaning.keeps folder.old → IfOk result (λ saved. IsNewest dir.now file_name.now (F.meaning.files folder.old) saved.kept) }
+    ensures passed { F.meaning.keeps folder.old → IfOk result (λ saved. TellsPassed F.meaning dir.now file_name.now (F.meaning.files folder.old) saved.kept saved.passed.items) }
+    ensures gone { F.meaning.keeps folder.old → IfOk result (λ saved. OnOk saved.removed ((part : PartName) (bytes : List ℕ) → IsPart part → IsOlder saved.kept part
+        → get (F.meaning.files folder.old) (part_path dir.now file_name.now part) ≡ Some bytes → get (F.meaning.files folder.new) (part_path dir.now file_name.now part) ≡ None)) }
 
     // Where neither memory nor the device failed, nothing was done.
     ensures error { F.meaning.keeps folder.old → IfErr result IsUnsaved }
@@ -69,8 +78,20 @@ pub fn load_lru<F: Folder, V: Stored, const N: usize>(
     ensures restores { F.meaning.keeps folder.old → MayRestore word IsWord IsSameWord V.bytes_of V.is_value V.is_same
         dir.now file_name.now (F.meaning.files folder.old) N result }
 
+    // Of the generations that have a manifest, those above it were passed over.
+    ensures passed { F.meaning.keeps folder.old → IfOk result (λ restored. (generations : List ℕ)
+        × (AreGenerations dir.now file_name.now (F.meaning.files folder.old) generations
+        × ArePassed (λ generation error. IsRefused F.meaning (IsRefusedFrame F.meaning word IsWord V.bytes_of V.is_value dir.now file_name.now)
+        dir.now file_name.now generation folder.old folder.new error)
+        generations restored.generation restored.passed.items)) }
+
+    // Where none was loaded, the folder was not listed, memory was refused or a call failed.
+    ensures reason { F.meaning.keeps folder.old → IfErr result (IfUnloaded (λ error. IsUnlisted F.meaning dir.now folder.old folder.new error
+        ⊎ IsFailed F.meaning folder.old folder.new error)) }
+
     ensures touches { F.meaning.keeps folder.old → TouchesNothing F.meaning folder.old folder.new }
     ensures files { F.meaning.keeps folder.old → F.meaning.files folder.new ≡ F.meaning.files folder.old }
+    ensures faults { F.meaning.keeps folder.old → OnOk result (F.meaning.faults folder.new ≡ F.meaning.faults folder.old) }
     ensures places { F.meaning.keeps folder.old → F.meaning.folders folder.new ≡ F.meaning.folders folder.old }
     ensures kept { F.meaning.keeps folder.old ↔ F.meaning.keeps folder.new }
 {
