@@ -60,6 +60,13 @@ fn is_right(is_saved: bool, left: Left) -> bool {
     }
 }
 
+// How a save is cut short.
+#[derive(Clone, Copy, Debug, PartialEq, Eq)]
+enum Cut {
+    Stop,
+    Loss,
+}
+
 // Whether a stop at this call is right, and whether the save was done.
 fn stops_right(alloc: Global, call: u64) -> Result<(bool, bool), CheckpointError> {
     let mut are_right = true;
@@ -83,15 +90,16 @@ fn loses_right(alloc: Global, call: u64) -> Result<(bool, bool), CheckpointError
     Ok((are_right, is_saved))
 }
 
-// The first call at which something is wrong, or else the last one. At the first call no save is done, and behind the last call
-// each is.
-fn first_wrong<F: Fn(u64) -> Result<(bool, bool), CheckpointError> + Drop>(
-    goes_right: F,
-) -> Result<Option<u64>, CheckpointError> {
+// The first call at which a cut leaves something wrong. At the first call no save is done, and at the last one each is.
+fn first_wrong(alloc: Global, cut: Cut) -> Result<Option<u64>, CheckpointError> {
     for call in 0..=CALLS {
-        let (is_right, is_saved) = goes_right(call)?;
-        let is_told = (is_saved || call < CALLS) && (!is_saved || call > 0);
-        if !(is_right & is_told) {
+        let (is_right, is_saved) = match cut {
+            Cut::Stop => stops_right(alloc, call)?,
+            Cut::Loss => loses_right(alloc, call)?,
+        };
+        let is_early = is_saved & (call == 0);
+        let is_late = !is_saved & (call == CALLS);
+        if !is_right | is_early | is_late {
             return Ok(Some(call));
         }
     }
@@ -100,16 +108,14 @@ fn first_wrong<F: Fn(u64) -> Result<(bool, bool), CheckpointError> + Drop>(
 
 #[test]
 fn a_stop_at_each_call(rt: HostRuntime) -> Result<(), Fail> {
-    let alloc = rt.alloc();
-    let wrong = first_wrong(move |call| stops_right(alloc, call))?;
+    let wrong = first_wrong(rt.alloc(), Cut::Stop)?;
     assert_eq!(rt; wrong, None);
     Ok(())
 }
 
 #[test]
 fn a_loss_of_power_after_each_call(rt: HostRuntime) -> Result<(), Fail> {
-    let alloc = rt.alloc();
-    let wrong = first_wrong(move |call| loses_right(alloc, call))?;
+    let wrong = first_wrong(rt.alloc(), Cut::Loss)?;
     assert_eq!(rt; wrong, None);
     Ok(())
 }

@@ -86,12 +86,21 @@ pub(crate) fn load_newest(
     load_as(alloc, folder, "c")
 }
 
+// Whether a shard has one row, which is that of this key with this number.
+fn is_shard(rows: &[Row<u64, u64>], key: u64, number: u64) -> bool {
+    match rows {
+        [row] => (row.key == key) & (row.data == number) & (row.weight == 1),
+        _ => false,
+    }
+}
+
 // The number that all rows of the shards have as their data, where they are whole.
 fn number_in(shards: &Shards) -> Option<u64> {
     let number = shards.first()?.first()?.data;
-    let is_whole = (shards.len() == 2)
-        && shards.iter().zip(0u64..).all(|(rows, key)| (rows.len() == 1)
-            && rows.iter().all(|row| (row.key == key) & (row.data == number) & (row.weight == 1)));
+    let is_whole = match shards.as_slice() {
+        [first, second] => is_shard(first, 0, number) & is_shard(second, 1, number),
+        _ => false,
+    };
     if is_whole { Some(number) } else { None }
 }
 

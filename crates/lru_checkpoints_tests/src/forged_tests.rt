@@ -7,14 +7,17 @@ use lru_memory_folder::memory_folder::MemoryFolder;
 use std::alloc::Global;
 use std::test::Fail;
 
-const MOST: u64 = 1 << 62;
+// 2^62, and the parts of a checkpoint of so many shards.
+const MANY: u64 = 0x4000_0000_0000_0000;
+
+const PARTS: u64 = 0x4000_0000_0000_0001;
 
 // The numbers of manifests with a right check that claim 2^62 shards: length, parts, part, generation, rows. One claims as many
 // rows too, which are not there, and one has none.
 #[rattlefmt::skip]
 static CLAIMS: [[u64; 5]; 2] = [
-    [64, MOST + 1, MOST, 1, MOST],
-    [64, MOST + 1, MOST, 1, 0],
+    [64, PARTS, MANY, 1, MANY],
+    [64, PARTS, MANY, 1, 0],
 ];
 
 // Whether such a manifest is refused, and the checkpoint before it loaded and kept by the next save.

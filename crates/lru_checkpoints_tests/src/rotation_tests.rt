@@ -5,9 +5,8 @@ use crate::fixture::{
 };
 use lru_checkpoints::errors::{CheckpointError, CheckpointFile};
 use lru_frames::errors::Part;
-use lru_generations::newest::Passed;
 use lru_memory_folder::memory_folder::MemoryFolder;
-use std::alloc::{AllocError, Global};
+use std::alloc::Global;
 use std::test::Fail;
 
 // Saves five checkpoints. Whether each is told as the next generation, with the one before kept and what is older removed.
