@@ -11,10 +11,11 @@ use Rattle.lru_checkpoints.specs.Checkpoints.{Shards, AreHandedOut}
 use Rattle.lru_checkpoints.specs.Loads.{IsFault, IsRefused, IsRefusedFrame}
 use Rattle.lru_generations.specs.declared.checking.Told.{Told}
 use Rattle.lru_generations.specs.declared.loading.Loaded.{Loaded}
+use Rattle.lru_generations.specs.declared.newest.Passed.{Passed}
 use Rattle.lru_generations.specs.Faults.{IsFailed, IsUnlisted}
 use Rattle.lru_generations.specs.Loaded.{IsLoaded, number_of}
-use Rattle.lru_generations.specs.Newest.{AreGenerations, ArePassed}
-use Rattle.lru_generations.specs.Saving.{IsForGood, IsUnsaved, IsUnused, SavesNext}
+use Rattle.lru_generations.specs.Newest.{AreGenerations, ArePassed, IsNewest}
+use Rattle.lru_generations.specs.Saving.{IsForGood, IsUnsaved, IsUnused, SavesNext, TellsPassed}
 use Rattle.lru_generations.specs.Told.{AreAll, IsTold}
 use Rattle.lru_operations.specs.declared.outcome.Outcome.{Outcome}
 use Rattle.lru_operations.specs.declared.outcome.Outcome.TheVariants as outcome
@@ -45,10 +46,15 @@ module _ {F : Type 0} (meaning : Meaning F) (dir file_name : List ℕ) where
   IsUnread old new error = IsFault error × (IsUnlisted meaning dir old new error ⊎ IsFailed meaning old new error)
 
   -- the rows are, for good, a checkpoint in a generation of which there was no file
-  abbrev pub IsSavedNext : List (Row ℕ ℕ) → ℕ → F → F → Type 0
-  IsSavedNext rows generation old new = IsUnused dir file_name (meaning.files old) generation
+  abbrev pub IsSavedAs : List (Row ℕ ℕ) → ℕ → F → F → Type 0
+  IsSavedAs rows generation old new = IsUnused dir file_name (meaning.files old) generation
       × ((held : Held) × (AreShardsOf rows held × ((shards : Shards ℕ ℕ) × (AreHandedOut (HandsOut held) (length held) shards
       × IsForGood word IsWord word IsWord dir file_name meaning generation shards new))))
+
+  -- and what is told is each generation above the newest one that was whole
+  abbrev pub IsSavedNext : List (Row ℕ ℕ) → ℕ → List Passed → F → F → Type 0
+  IsSavedNext rows generation passed old new = IsSavedAs rows generation old new
+      × ((kept : Option ℕ) × (IsNewest dir file_name (meaning.files old) kept × TellsPassed meaning dir file_name (meaning.files old) kept passed))
 
   -- a save was refused; where neither memory nor the device failed, nothing was done
   abbrev pub IsSaveRefused : F → F → CheckpointError → Type 0
@@ -56,7 +62,7 @@ module _ {F : Type 0} (meaning : Meaning F) (dir file_name : List ℕ) where
 
   -- what comes of the rows of an input
   abbrev pub ComesOfRows : List (Row ℕ ℕ) → F → F → Outcome → Type 0
-  ComesOfRows rows old new (outcome.Saved generation count passed) = (count ≡ length rows) × (meaning.keeps old → IsSavedNext rows generation old new)
+  ComesOfRows rows old new (outcome.Saved generation count passed) = (count ≡ length rows) × (meaning.keeps old → IsSavedNext rows generation passed.items old new)
   ComesOfRows rows old new outcome.Memory = new ≡ old
   ComesOfRows rows old new (outcome.Refused error) = meaning.keeps old → IsSaveRefused old new error
   ComesOfRows rows old new outcome.Helped = ⊥
@@ -71,7 +77,7 @@ module _ {F : Type 0} (meaning : Meaning F) (dir file_name : List ℕ) where
   ComesOfInput bytes old new (outcome.BadLine number) = input.IsFirstBad (input.rows_of bytes) number × (new ≡ old)
   ComesOfInput bytes old new outcome.Memory = new ≡ old
   ComesOfInput bytes old new (outcome.Saved generation count passed) = (rows : List (Row ℕ ℕ)) × ((input.rows_of bytes ≡ map (λ row. Some row) rows)
-      × ((count ≡ length rows) × (meaning.keeps old → IsSavedNext rows generation old new)))
+      × ((count ≡ length rows) × (meaning.keeps old → IsSavedNext rows generation passed.items old new)))
   ComesOfInput bytes old new (outcome.Refused error) = meaning.keeps old → IsSaveRefused old new error
   ComesOfInput bytes old new outcome.Helped = ⊥
   ComesOfInput bytes old new (outcome.Misused misuse) = ⊥

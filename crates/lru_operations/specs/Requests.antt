@@ -74,7 +74,7 @@ IsPossible (Misused misuse) = Unit {0}
 IsPossible NoMemory = Unit {0}
 
 -- what is asked for where the words may not have been read
-abbrev pub asked_of : Result (Vec String Global) WordsError → Asked
+abbrev pub asked_of : Result (Vec (String Global) Global) WordsError → Asked
 asked_of (Ok words) = request_of (map string_bytes words.items)
 asked_of (Err words.Memory) = NoMemory
 asked_of (Err words.NoText) = Misused NoText

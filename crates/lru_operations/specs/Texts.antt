@@ -68,8 +68,11 @@ abbrev pub damaged_text : ℕ → CheckpointError → List ℕ
 damaged_text generation error = codes "generation " ++ (decimal generation ++ (codes " damaged: " ++ line (error_text error)))
 
 -- a line for each generation that was passed over
+abbrev pub passed_line : Passed → List ℕ
+passed_line passed = damaged_text passed.generation passed.error
+
 abbrev pub passed_text : List Passed → List ℕ
-passed_text passed = flat_map (λ one. damaged_text one.generation one.error) passed
+passed_text passed = flat_map passed_line passed
 
 -- a generation without a manifest was never finished; one of which something else is wrong is damaged
 abbrev pub verdict_on : CheckpointError → Verdict

@@ -111,9 +111,10 @@ pub(crate) fn load_before<F: Folder>(
     ensures kept { F.meaning.keeps folder.old ↔ F.meaning.keeps folder.new }
 {
     let loaded = load(alloc, folder, dir, file_name)?;
-    let Some(newest) = &loaded.newest else {
-        return Ok(loaded);
+    let newest = match &loaded.newest {
+        None => return Ok(loaded),
+        Some(newest) => newest.generation,
     };
     let generations = generations_in(alloc, folder, dir, file_name)?;
-    load_below(alloc, folder, dir, file_name, newest.generation, &generations)
+    load_below(alloc, folder, dir, file_name, newest, &generations)
 }

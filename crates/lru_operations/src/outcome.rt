@@ -1,6 +1,7 @@
 //! What came of a request, and the status that tells it.
 ghost use Rattle.std.specs.Prelude.{◌≡◌};
-ghost use Rattle.lru_operations.specs.Texts.{checked_status, shown_status, status_of, verdict_of, verdict_on};
+ghost use Rattle.std.specs.List.{list_any};
+ghost use Rattle.lru_operations.specs.Texts.{checked_status, is_damaged, is_whole, shown_status, status_of, verdict_of, verdict_on};
 
 use crate::requests::Misuse;
 use lru_checkpoints::errors::{CheckpointError, CheckpointFile};
@@ -82,19 +83,49 @@ pub fn verdict_of(told: &Told) -> Verdict
     }
 }
 
+fn is_damaged(told: &Told) -> bool
+    ensures { result ≡ is_damaged (verdict_of told.now) }
+{
+    match verdict_of(told) {
+        Verdict::Whole => false,
+        Verdict::Unfinished => false,
+        Verdict::Damaged(_) => true,
+    }
+}
+
+fn is_whole(told: &Told) -> bool
+    ensures { result ≡ is_whole (verdict_of told.now) }
+{
+    match verdict_of(told) {
+        Verdict::Whole => true,
+        Verdict::Unfinished => false,
+        Verdict::Damaged(_) => false,
+    }
+}
+
+fn has_damaged(told: &[Told]) -> bool
+    ensures { result ≡ list_any (λ one. is_damaged (verdict_of one)) told.now }
+{
+    told.iter().any(|one| is_damaged(one))
+}
+
+fn has_whole(told: &[Told]) -> bool
+    ensures { result ≡ list_any (λ one. is_whole (verdict_of one)) told.now }
+{
+    told.iter().any(|one| is_whole(one))
+}
+
 // 0 where one is whole and none is damaged, and else 1.
 fn checked_status(told: &[Told]) -> u8
     ensures { result ≡ checked_status told.now }
 {
-    let mut status = 1;
-    for one in told {
-        match verdict_of(one) {
-            Verdict::Whole => status = 0,
-            Verdict::Unfinished => {}
-            Verdict::Damaged(_) => return 1,
-        }
+    if has_damaged(told) {
+        1
+    } else if has_whole(told) {
+        0
+    } else {
+        1
     }
-    status
 }
 
 // 0 where there is a checkpoint, and else 1.

@@ -5,7 +5,7 @@ ghost use Rattle.std.specs.Io.KnownBytes.{Appends};
 ghost use Rattle.lru_folder.specs.TextsFault.{fault_text};
 ghost use Rattle.lru_frames.specs.Errors.{part_text};
 ghost use Rattle.lru_checkpoints.specs.Texts.{file_text, error_text};
-ghost use Rattle.lru_operations.specs.Texts.{heading, refusal_text, misuse_text, row_line, generation_line, rows_text, saved_text, damaged_text, passed_text, told_text, no_checkpoint_text, checked_text, shown_text, bad_line_text, outcome_text, help_text};
+ghost use Rattle.lru_operations.specs.Texts.{heading, line, refusal_text, misuse_text, row_line, generation_line, rows_text, saved_text, damaged_text, passed_line, passed_text, told_text, no_checkpoint_text, checked_text, shown_text, bad_line_text, outcome_text, help_text};
 
 use crate::outcome::{Outcome, Verdict, verdict_of};
 use crate::requests::Misuse;
@@ -152,6 +152,15 @@ fn write_refusal<W: Output>(writer: &mut W, error: &CheckpointError) -> io::Resu
     write_pieces(writer, &[Piece::Text("\n")])
 }
 
+// Why a generation is not whole, to the end of its line.
+fn write_reason<W: Output>(writer: &mut W, error: CheckpointError) -> io::Result<()>
+    ensures text { OnOk result (Appends (W.contents writer.old) (W.contents writer.new) (line (error_text error))) }
+    ensures failed { OnErr result (W.has_failed writer.new) }
+{
+    write_error(writer, error)?;
+    write_pieces(writer, &[Piece::Text("\n")])
+}
+
 // The line of a generation that is not whole.
 fn write_damaged<W: Output>(
     writer: &mut W,
@@ -169,8 +178,14 @@ fn write_damaged<W: Output>(
             Piece::Text(" damaged: "),
         ],
     )?;
-    write_error(writer, error)?;
-    write_pieces(writer, &[Piece::Text("\n")])
+    write_reason(writer, error)
+}
+
+fn write_passed_line<W: Output>(writer: &mut W, passed: &Passed) -> io::Result<()>
+    ensures text { OnOk result (Appends (W.contents writer.old) (W.contents writer.new) (passed_line passed.now)) }
+    ensures failed { OnErr result (W.has_failed writer.new) }
+{
+    write_damaged(writer, passed.generation, passed.error)
 }
 
 // A line for each generation that was passed over.
@@ -179,7 +194,7 @@ fn write_passed<W: Output>(writer: &mut W, passed: &[Passed]) -> io::Result<()>
     ensures failed { OnErr result (W.has_failed writer.new) }
 {
     for one in passed {
-        write_damaged(writer, one.generation, one.error)?;
+        write_passed_line(writer, one)?;
     }
     Ok(())
 }
@@ -318,13 +333,8 @@ fn write_help<W: Output>(writer: &mut W) -> io::Result<()>
     )
 }
 
-fn write_saved<W: Output>(
-    writer: &mut W,
-    generation: u64,
-    rows: u64,
-    passed: &[Passed],
-) -> io::Result<()>
-    ensures text { OnOk result (Appends (W.contents writer.old) (W.contents writer.new) (saved_text generation rows ++ passed_text passed.now)) }
+fn write_saved_line<W: Output>(writer: &mut W, generation: u64, rows: u64) -> io::Result<()>
+    ensures text { OnOk result (Appends (W.contents writer.old) (W.contents writer.new) (saved_text generation rows)) }
     ensures failed { OnErr result (W.has_failed writer.new) }
 {
     write_pieces(
@@ -336,7 +346,20 @@ fn write_saved<W: Output>(
             Piece::Number(rows),
             Piece::Text("\n"),
         ],
-    )?;
+    )
+}
+
+// A checkpoint that was saved, and then the generations that were passed over.
+fn write_saved<W: Output>(
+    writer: &mut W,
+    generation: u64,
+    rows: u64,
+    passed: &[Passed],
+) -> io::Result<()>
+    ensures text { OnOk result (Appends (W.contents writer.old) (W.contents writer.new) (saved_text generation rows ++ passed_text passed.now)) }
+    ensures failed { OnErr result (W.has_failed writer.new) }
+{
+    write_saved_line(writer, generation, rows)?;
     write_passed(writer, passed)
 }
 

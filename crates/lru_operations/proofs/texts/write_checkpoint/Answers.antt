@@ -2,7 +2,7 @@ use Rattle.std.proofs.Common.{◌++◌, ap}
 use Rattle.lru_streams.proofs.WriteLaws.{on_ok_then}
 use Rattle.lru_operations.specs.Texts.{generation_line, rows_text}
 use Rattle.lru_operations.proofs.Told.{told_as}
-use Rattle.lru_operations.proofs.texts.write_shown.Goals as goal
+use Rattle.lru_operations.proofs.texts.write_checkpoint.Goals as goal
 
 pub returns-clause-text : goal.returns-clause-text
 returns-clause-text g c =
