@@ -10,7 +10,7 @@ use lru_frames::row::Row;
 use lru_frames::source::Source;
 use lru_frames::stored::Stored;
 use lru_generations::generations::save;
-use lru_generations::loading::load;
+use lru_generations::loading::{Loaded, load};
 use lru_locks::lru::Lru;
 use lru_memory_folder::memory_folder::MemoryFolder;
 use lru_order_captures::locks::LruSource;
@@ -80,10 +80,11 @@ fn saves_while_called<S: Source<u64, u64>>(
         return Ok(false);
     }
     save(alloc, &mut folder, "d", "c", source)?;
-    let Some(loaded) = load(alloc, &mut folder, "d", "c")?.newest else {
+    let Loaded { newest, .. } = load(alloc, &mut folder, "d", "c")?;
+    let Some(checkpoint) = newest else {
         return Ok(false);
     };
-    match loaded.shards.as_slice() {
+    match checkpoint.shards.as_slice() {
         [first, second] => Ok(has_row(first, 0, 7) & has_row(second, 3, 8)),
         _ => Ok(false),
     }

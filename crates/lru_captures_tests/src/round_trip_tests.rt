@@ -11,7 +11,7 @@ use lru_frames::row::Row;
 use lru_frames::source::Source;
 use lru_frames::stored::Stored;
 use lru_generations::generations::save;
-use lru_generations::loading::load;
+use lru_generations::loading::{Loaded, load};
 use lru_locks::lru::Lru;
 use lru_memory_folder::memory_folder::MemoryFolder;
 use lru_order_captures::{cores, locks, snapshots};
@@ -32,7 +32,8 @@ fn saved_and_loaded<K: Stored, V: Stored, S: Source<K, V>>(
         return Err(CheckpointError::Memory);
     }
     save(alloc, &mut folder, "d", "c", source)?;
-    match load(alloc, &mut folder, "d", "c")?.newest {
+    let Loaded { newest, .. } = load(alloc, &mut folder, "d", "c")?;
+    match newest {
         Some(checkpoint) => Ok(checkpoint.shards),
         None => Ok(Vec::new(alloc)),
     }

@@ -7,7 +7,7 @@ use lru_folder::folder::Folder;
 use lru_frames::row::Row;
 use lru_frames::source::Source;
 use lru_generations::generations::save;
-use lru_generations::loading::load;
+use lru_generations::loading::{Loaded, load};
 use lru_memory_folder::memory_folder::MemoryFolder;
 use std::alloc::{AllocError, Global};
 use std::io;
@@ -46,7 +46,8 @@ pub fn is_saved<S: Source<u64, String>>(
 
 // The shards that were saved last; none where nothing was.
 fn loaded_once(alloc: Global, folder: &mut MemoryFolder) -> Result<Shards, CheckpointError> {
-    match load(alloc, folder, "d", "c")?.newest {
+    let Loaded { newest, .. } = load(alloc, folder, "d", "c")?;
+    match newest {
         Some(checkpoint) => Ok(checkpoint.shards),
         None => Ok(Vec::new(alloc)),
     }
