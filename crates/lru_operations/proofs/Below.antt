@@ -1,9 +1,8 @@
 -- What is highest below the newest checkpoint is the one before it.
-use Rattle.std.proofs.Common.{◌≡◌, inl, inr, ℕ, ◌<◌, List, Some, None, arith}
+use Rattle.std.proofs.Common.{inl, inr, ℕ, ◌<◌, List, Some, None, arith}
 use Rattle.std.proofs.lemmas.Bool.{cases_lt}
 use Rattle.std.specs.Prelude.{Option}
 use Rattle.lru_folder.specs.Files.{Files}
-use Rattle.lru_generations.specs.declared.loading.Checkpoint.{Checkpoint}
 use Rattle.lru_generations.specs.Newest.{IsHighest}
 use Rattle.lru_operations.specs.Before.{CanShow, CanShowBefore, CanShowBelow}
 

@@ -23,5 +23,5 @@ line_more text items i default from mid to within before here =
     let one = get_or items i default in
     let lines = flat_map text (take i items) in
     let is : flat_map text (take (i + 1) items) ≡ lines ++ text one =
-        ap (flat_map text) (take_more items i default within) ∙ flat_map-append text (take i items) (one ∷ []) ∙ ap (λ (ws : List ℕ). lines ++ ws) (append-nil (text one)) in
+    ap (flat_map text) (take_more items i default within) ∙ flat_map-append text (take i items) (one ∷ []) ∙ ap (λ (ws : List ℕ). lines ++ ws) (append-nil (text one)) in
     subst (λ (ws : List ℕ). Appends from to ws) (sym is) (appends_then from mid to lines (text one) before here)

@@ -1,8 +1,6 @@
 -- What may come of a request.
-use Rattle.std.specs.Prelude.{◌≡◌, ◌⊎◌, ◌<◌, ◌^◌, ◌%◌, ◌==◌, ℕ, List, [], ◌∷◌, length, map, filter, reverse, slice_get, Option, Some, None, IfSome, Contains, Vec}
-use Rattle.std.specs.declared.alloc.Global.{Global}
+use Rattle.std.specs.Prelude.{◌≡◌, ◌⊎◌, ◌%◌, ◌==◌, ℕ, List, [], ◌∷◌, length, map, filter, reverse, slice_get, Option, Some, IfSome, Contains}
 use Rattle.std.specs.Io.KnownBytes.{Appends}
-use Rattle.lru_folder.specs.Files.{Files}
 use Rattle.lru_folder.specs.Meaning.{Meaning}
 use Rattle.lru_frames.specs.declared.row.Row.{Row}
 use Rattle.lru_frames.specs.Words.{word}

@@ -24,12 +24,7 @@ pub fn show<F: Folder>(alloc: Global, folder: &mut F, dir: &str, file_name: &str
 }
 
 /// Loads the newest checkpoint below that one, whole, or tells that there is none. All files are as they were.
-pub fn show_before<F: Folder>(
-    alloc: Global,
-    folder: &mut F,
-    dir: &str,
-    file_name: &str,
-) -> Outcome
+pub fn show_before<F: Folder>(alloc: Global, folder: &mut F, dir: &str, file_name: &str) -> Outcome
     requires { has_slash file_name.now ≡ false }
     ensures outcome { F.meaning.keeps folder.old → ComesOfShowBefore F.meaning dir.now file_name.now folder.old folder.new result }
     ensures files { F.meaning.keeps folder.old → F.meaning.files folder.new ≡ F.meaning.files folder.old }

@@ -73,10 +73,7 @@ pub fn run<F: SyncedFolder, R: Input, W: Output>(
 
 /// Writes what came of a request through a buffer. Answers the status, and the writer beneath, which has taken all that was
 /// written. Where a write fails the status is 1 and there is no writer; what it took is a beginning of the text.
-pub fn tell_buffered<W: Write + Drop>(
-    outcome: &Outcome,
-    writer: BufWriter<W>,
-) -> (u8, Option<W>)
+pub fn tell_buffered<W: Write + Drop>(outcome: &Outcome, writer: BufWriter<W>) -> (u8, Option<W>)
     ensures told { IfSome result.1 (λ written. (result.0 ≡ status_of outcome.now)
         × Appends (writer_contents W.contents writer) (W.contents written) (outcome_text outcome.now)) }
     ensures written { result.0 ≢ 1 → IsSome result.1 }

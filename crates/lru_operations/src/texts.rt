@@ -29,8 +29,7 @@ const SAVE: &str =
 const SHOW: &str =
     "show DIR FILE   writes the rows of the newest whole checkpoint, most recent first, shard by shard\n";
 
-const BEFORE: &str =
-    "show --before DIR FILE  writes those of the next whole one below it\n";
+const BEFORE: &str = "show --before DIR FILE  writes those of the next whole one below it\n";
 
 const CHECK: &str =
     "check DIR FILE  tells of each generation in the folder whether it is whole, highest first\n";
@@ -286,10 +285,7 @@ fn write_shards<W: Output>(writer: &mut W, shards: &[Vec<Row<u64, u64>>]) -> io:
     Ok(())
 }
 
-fn write_checkpoint<W: Output>(
-    writer: &mut W,
-    checkpoint: &Checkpoint<u64, u64>,
-) -> io::Result<()>
+fn write_checkpoint<W: Output>(writer: &mut W, checkpoint: &Checkpoint<u64, u64>) -> io::Result<()>
     ensures text { OnOk result (Appends (W.contents writer.old) (W.contents writer.new) (generation_line checkpoint.now.generation ++ rows_text checkpoint.now.shards.items)) }
     ensures failed { OnErr result (W.has_failed writer.new) }
 {

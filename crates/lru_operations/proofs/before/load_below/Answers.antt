@@ -1,4 +1,4 @@
-use Rattle.std.proofs.Common.{◌≡◌, ℕ, ◌<◌, List, get_or, sym, ◌∙◌, subst}
+use Rattle.std.proofs.Common.{ℕ, List, get_or, sym, ◌∙◌, subst}
 use Rattle.std.specs.Prelude.{Contains}
 use Rattle.lru_folder.specs.Files.{Files}
 use Rattle.lru_folder.specs.Meaning.{Meaning}
