@@ -145,6 +145,9 @@ fn an_output_that_is_full_is_told_on_the_other_stream(rt: HostRuntime) -> Result
     );
     let shown = other_run(alloc, &mut folder, &SHOWN)?;
     assert!(rt; (ended.code == ExitCode::from(1)) & ended.written.is_none());
-    assert_eq!(rt; (errors.as_slice(), shown), (b"failed: the output was not written\n".as_slice(), None));
+    assert_eq!(rt;
+        (errors.as_slice(), shown),
+        (b"failed: the output was not written\n".as_slice(), None)
+    );
     Ok(())
 }
