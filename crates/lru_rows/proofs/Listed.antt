@@ -34,20 +34,20 @@ by_value {T} {P} values p none some = from (value_at values p) refl
 
 module _ {K T : Type 0} where
   -- the rows without a place's, by the two cases of the first
-  by_row : (i : ℕ) (r : Placed K T) (rs : List (Placed K T)) (P : List (Placed K T) → Type 0) → (r.place ≡ i → P (without rs i)) → (r.place ≢ i → P (r ∷ without rs i)) → P (without (r ∷ rs) i)
+  pub by_row : (i : ℕ) (r : Placed K T) (rs : List (Placed K T)) (P : List (Placed K T) → Type 0) → (r.place ≡ i → P (without rs i)) → (r.place ≢ i → P (r ∷ without rs i)) → P (without (r ∷ rs) i)
   by_row i r rs P here other =
       cond_both (not (eqb r.place i)) (r ∷ without rs i) (without rs i) P (λ e. other (eqb-false _ _ (not-true _ e))) (λ e. here (eqb-true _ _ (not-false _ e)))
 
-  without_here : (i : ℕ) (r : Placed K T) (rs : List (Placed K T)) → r.place ≡ i → without (r ∷ rs) i ≡ without rs i
+  pub without_here : (i : ℕ) (r : Placed K T) (rs : List (Placed K T)) → r.place ≡ i → without (r ∷ rs) i ≡ without rs i
   without_here i r rs e = by_row i r rs (λ xs. xs ≡ without rs i) (λ f. refl) (λ ne. absurd (ne e))
 
-  without_other : (i : ℕ) (r : Placed K T) (rs : List (Placed K T)) → r.place ≢ i → without (r ∷ rs) i ≡ r ∷ without rs i
+  pub without_other : (i : ℕ) (r : Placed K T) (rs : List (Placed K T)) → r.place ≢ i → without (r ∷ rs) i ≡ r ∷ without rs i
   without_other i r rs ne = by_row i r rs (λ xs. xs ≡ r ∷ without rs i) (λ f. absurd (ne f)) (λ _. refl)
 
-  row_at_here : (r : Placed K T) (rs : List (Placed K T)) (p : ℕ) → r.place ≡ p → row_at (r ∷ rs) p ≡ Some r
+  pub row_at_here : (r : Placed K T) (rs : List (Placed K T)) (p : ℕ) → r.place ≡ p → row_at (r ∷ rs) p ≡ Some r
   row_at_here r rs p e = ap (λ b. cond b (Some r) (row_at rs p)) (eq-eqb r.place p e)
 
-  row_at_other : (r : Placed K T) (rs : List (Placed K T)) (p : ℕ) → r.place ≢ p → row_at (r ∷ rs) p ≡ row_at rs p
+  pub row_at_other : (r : Placed K T) (rs : List (Placed K T)) (p : ℕ) → r.place ≢ p → row_at (r ∷ rs) p ≡ row_at rs p
   row_at_other r rs p ne = ap (λ b. cond b (Some r) (row_at rs p)) (ne_eqb r.place p ne)
 
   module _ (weights : List ℕ) (values : List (Option T)) where

@@ -46,14 +46,14 @@ kept_none {K = K} eq hash order index weights values none numbered empty room wi
     }
 
 -- how many pairs are left without a place's
-without_length : {K : Type 0} (ps : List (ℕ × K)) (i : ℕ) → times i (indices_of ps) + length (list_without ps i) ≡ length ps
+pub without_length : {K : Type 0} (ps : List (ℕ × K)) (i : ℕ) → times i (indices_of ps) + length (list_without ps i) ≡ length ps
 without_length [] i = refl
 without_length (p ∷ ps) i =
     by_place i p ps (λ rest. times i (p.0 ∷ indices_of ps) + length rest ≡ length (p ∷ ps))
     (λ e. omega (arith, without_length ps i, subst (λ z. times z (p.0 ∷ indices_of ps) ≡ 1 + times z (indices_of ps)) e (times_here p.0 (indices_of ps))))
     (λ ne. omega (arith, without_length ps i, times_other i p.0 (indices_of ps) ne))
 
-without_times : {K : Type 0} (ps : List (ℕ × K)) (i : ℕ) → times i (indices_of (list_without ps i)) ≡ 0
+pub without_times : {K : Type 0} (ps : List (ℕ × K)) (i : ℕ) → times i (indices_of (list_without ps i)) ≡ 0
 without_times [] i = refl
 without_times (p ∷ ps) i =
     by_place i p ps (λ rest. times i (indices_of rest) ≡ 0) (λ e. without_times ps i) (λ ne. times_other i p.0 (indices_of (list_without ps i)) ne ∙ without_times ps i)

@@ -1,0 +1,30 @@
+use Rattle.std.proofs.Common.{rules, ◌≡◌, ◌+◌, ◌<◌, ◌≤◌, ◌==◌, ◌∷◌, ◌++◌, [], Some, IsSome, IfOk, OnOk, OnErr, not, length, map, nat_lt, if◌then◌else◌, ℕ, ◌-◌, ◌*◌, ◌/◌, ◌%◌, Bool, true, false, nat_eq, List, slice_index_or, slice_set, bit_and, bit_or, Fits, w8, w32, w64, Bor, MutBor}
+use Rattle.std.specs.Option.{option_map}
+use Rattle.lru_rows.specs.Rows.{recency, row_at, IsAt, placed, taken, without, promoted, demoted, with_weight, first_row, last_row, Pushes, MakesVacancy, UpdatesAt}
+use Rattle.lru_pairs.specs.Pairs.{with_entry}
+use Rattle.lru_pairs.specs.Representation.Nodes.{laid, IsLaid, with_rows, keys_at}
+use Rattle.lru_pairs.proofs.nodes.Nodes.make_free.Goals as goal
+
+-- src/nodes.rt:267:42
+pub returns-in-Err-Memory-clause-valid : goal.returns-in-Err-Memory-clause-valid
+returns-in-Err-Memory-clause-valid g c = ?
+
+-- src/nodes.rt:268:40
+pub returns-in-Err-Full-clause-makes : goal.returns-in-Err-Full-clause-makes
+returns-in-Err-Full-clause-makes g c = ?
+
+-- src/nodes.rt:268:40
+pub returns-in-Err-Full-clause-valid : goal.returns-in-Err-Full-clause-valid
+returns-in-Err-Full-clause-valid g c = ?
+
+-- src/nodes.rt:259:5
+pub invariant_of-self-2 : goal.invariant_of-self-2
+invariant_of-self-2 g c = ?
+
+-- src/nodes.rt:259:5
+pub returns-clause-makes : goal.returns-clause-makes
+returns-clause-makes g c = ?
+
+-- src/nodes.rt:259:5
+pub returns-clause-valid : goal.returns-clause-valid
+returns-clause-valid g c = ?

@@ -1,0 +1,38 @@
+use Rattle.std.proofs.Common.{rules, ◌≡◌, ◌+◌, ◌<◌, ◌≤◌, ◌==◌, ◌∷◌, ◌++◌, [], Some, IsSome, IfOk, OnOk, OnErr, not, length, map, nat_lt, if◌then◌else◌, ℕ, ◌-◌, ◌*◌, ◌/◌, ◌%◌, Bool, true, false, nat_eq, List, slice_index_or, slice_set, bit_and, bit_or, Fits, w8, w32, w64, Bor, MutBor}
+use Rattle.std.specs.Option.{option_map}
+use Rattle.lru_rows.specs.Rows.{recency, row_at, IsAt, placed, taken, without, promoted, demoted, with_weight, first_row, last_row, Pushes, MakesVacancy, UpdatesAt}
+use Rattle.lru_pairs.specs.Pairs.{with_entry}
+use Rattle.lru_pairs.specs.Representation.Nodes.{laid, IsLaid, with_rows, keys_at}
+use Rattle.lru_pairs.proofs.nodes.Nodes.push.Goals as goal
+
+-- src/nodes.rt:242:17
+pub index_mut-requires : goal.index_mut-requires
+index_mut-requires g c = ?
+
+-- src/nodes.rt:243:27
+pub overflow_cast-result : goal.overflow_cast-result
+overflow_cast-result g c = ?
+
+-- src/nodes.rt:243:17
+pub invariant_of-self : goal.invariant_of-self
+invariant_of-self g c = ?
+
+-- src/nodes.rt:243:17
+pub returns-in-Ok-clause-pushes : goal.returns-in-Ok-clause-pushes
+returns-in-Ok-clause-pushes g c = ?
+
+-- src/nodes.rt:243:17
+pub returns-in-Ok-clause-valid : goal.returns-in-Ok-clause-valid
+returns-in-Ok-clause-valid g c = ?
+
+-- src/nodes.rt:222:5
+pub invariant_of-self-2 : goal.invariant_of-self-2
+invariant_of-self-2 g c = ?
+
+-- src/nodes.rt:222:5
+pub returns-clause-pushes : goal.returns-clause-pushes
+returns-clause-pushes g c = ?
+
+-- src/nodes.rt:222:5
+pub returns-clause-valid : goal.returns-clause-valid
+returns-clause-valid g c = ?

@@ -1,0 +1,326 @@
+//! Pairs by their places, and the order that they stand in, apart from any index.
+ghost use Rattle.std.specs.Prelude.{◌≡◌, ◌+◌, ◌<◌, ◌≤◌, ◌==◌, ◌∷◌, ◌++◌, [], Some, IsSome, IfOk, OnOk, OnErr, not, length, map, nat_lt, if◌then◌else◌};
+ghost use Rattle.std.specs.Option.{option_map};
+ghost use Rattle.lru_rows.specs.Rows.{recency, row_at, IsAt, placed, taken, without, promoted, demoted, with_weight, first_row, last_row, Pushes, MakesVacancy, UpdatesAt};
+ghost use Rattle.lru_pairs.specs.Pairs.{with_entry};
+ghost use Rattle.lru_pairs.specs.Representation.Nodes.{laid, IsLaid, with_rows, keys_at};
+
+use lru_index::keys::Keys;
+use lru_list::linked_list::{LinkedList, LinkedListEntries, LinkedListIter, PushError};
+use lru_rows::rows::{NoPlace, Place, Taken, Unpushed};
+use std::alloc::{AllocError, Global};
+use std::marker::Model;
+
+// A list has two places that are no pair's, its sentinels, before the others.
+const SENTINELS: usize = 2;
+
+/// A list of pairs, and a column of their weights. A freed place of the list holds none.
+#[derive(Drop)]
+pub(crate) struct Nodes<K, V> {
+    list: LinkedList<Option<(K, V)>>,
+    weights: Vec<usize>,
+}
+
+impl<K, V> Model for Nodes<K, V> {
+    ghost use Rattle.lru_pairs.specs.Representation.Nodes.{Laid, laid_code, laid_in, IsHeld};
+
+    ghost Value = { Laid K V };
+
+    ghost coded = { laid_code K.code V.code };
+
+    ghost view = { λ n. laid_in n.weights.items n.list };
+
+    ghost invariant = { λ n. IsHeld n.weights.items n.list };
+}
+
+impl<K, V> Keys<K> for Nodes<K, V> {
+    ghost key_of = { λ nodes p. keys_at nodes.held.rows p };
+
+    #[inline(always)]
+    fn is_live(&self, place: u32) -> bool {
+        self.list.is_live(place as usize)
+    }
+
+    #[inline(always)]
+    fn key_at(&self, place: u32) -> &K {
+        &self.pair_at(place).0
+    }
+}
+
+impl<K, V> Nodes<K, V> {
+    /// How many pairs there are.
+    #[inline(always)]
+    pub(crate) fn len(&self) -> usize
+        ensures len { result ≡ length self.now.held.rows }
+        ensures valid { IsLaid self.now }
+    {
+        self.list.len()
+    }
+
+    /// Whether a place is free that had a pair before.
+    #[inline(always)]
+    pub(crate) fn has_free(&self) -> bool
+        ensures { result ≡ not (self.now.held.free == 0) }
+    {
+        self.list.has_freed()
+    }
+
+    /// Whether there is room in the column for a pair more.
+    #[inline(always)]
+    pub(crate) fn has_room(&self) -> bool
+        ensures { result ≡ nat_lt (length self.now.held.rows + 2) self.now.room }
+    {
+        self.list.len() + SENTINELS < self.weights.len()
+    }
+
+    /// The place of the pair that was used last.
+    #[inline(always)]
+    pub(crate) fn first(&self) -> Option<Place>
+        ensures { result ≡ option_map (λ r. r.place) (first_row self.now.held.rows) }
+    {
+        let place = self.list.head()?;
+        Some(place as u32)
+    }
+
+    /// The place of the pair that was used longest ago.
+    #[inline(always)]
+    pub(crate) fn last(&self) -> Option<Place>
+        ensures { result ≡ option_map (λ r. r.place) (last_row self.now.held.rows) }
+    {
+        let place = self.list.tail()?;
+        Some(place as u32)
+    }
+
+    // The key and the value of a place.
+    #[inline(always)]
+    fn pair_at(&self, place: Place) -> &(K, V)
+        requires { IsAt self.now.held.rows place }
+        ensures { option_map (λ r. (r.key, r.value)) (row_at self.now.held.rows place) ≡ Some result.now }
+    {
+        match self.list.peek(place as usize) {
+            Some(node) => match node {
+                Some(pair) => pair,
+                None => unreachable!(),
+            },
+            None => unreachable!(),
+        }
+    }
+
+    /// The value of a place's pair.
+    #[inline(always)]
+    pub(crate) fn value_at(&self, place: Place) -> &V
+        requires { IsAt self.now.held.rows place }
+        ensures { option_map (λ r. r.value) (row_at self.now.held.rows place) ≡ Some result.now }
+    {
+        &self.pair_at(place).1
+    }
+
+    /// The weight of a place's pair.
+    #[inline(always)]
+    pub(crate) fn weight_at(&self, place: Place) -> usize
+        requires { IsAt self.now.held.rows place }
+        ensures { option_map (λ r. r.weight) (row_at self.now.held.rows place) ≡ Some result }
+    {
+        self.weights[place as usize]
+    }
+
+    /// Puts a place's pair first.
+    #[inline(always)]
+    pub(crate) fn promote(&mut self, place: Place)
+        requires { IsAt self.old.held.rows place }
+        ensures rows { self.new ≡ with_rows self.old (promoted self.old.held.rows place) }
+        ensures valid { IsLaid self.new }
+    {
+        self.list.promote(place as usize);
+    }
+
+    /// Puts a place's pair last.
+    #[inline(always)]
+    pub(crate) fn demote(&mut self, place: Place)
+        requires { IsAt self.old.held.rows place }
+        ensures rows { self.new ≡ with_rows self.old (demoted self.old.held.rows place) }
+        ensures valid { IsLaid self.new }
+    {
+        self.list.demote(place as usize);
+    }
+
+    /// Gives a place's pair another weight.
+    #[inline(always)]
+    pub(crate) fn set_weight(&mut self, place: Place, weight: usize)
+        requires { IsAt self.old.held.rows place }
+        ensures rows { self.new ≡ with_rows self.old (with_weight self.old.held.rows place weight) }
+        ensures valid { IsLaid self.new }
+    {
+        self.weights[place as usize] = weight;
+    }
+
+    /// Makes room for `additional` more pairs in the list and the column. Nothing else changes, also where it is refused.
+    pub(crate) fn reserve(&mut self, additional: usize) -> Result<(), AllocError>
+        requires { length self.old.held.rows + additional + 2 ≤ 4294967295 }
+        ensures { self.new ≡ self.old }
+    {
+        let places = self.list.len() + additional + SENTINELS;
+        self.weights
+            .reserve_exact(places.saturating_sub(self.weights.len()))?;
+        self.list.reserve(additional)
+    }
+}
+
+impl<K, V> Nodes<K, V> {
+    /// Lends the value of a place's pair to `update`, with its weight, and answers what `update` does.
+    #[inline(always)]
+    pub(crate) fn update<R, U: FnOnce(&mut V, usize) -> R + Drop>(
+        &mut self,
+        place: Place,
+        update: U,
+    ) -> R
+        requires at { IsAt self.old.held.rows place }
+        requires callable { U.IsAlwaysCallable update }
+        ensures updates { UpdatesAt (U.post update) self.old.held place result self.new.held }
+        ensures room { self.new.room ≡ self.old.room }
+        ensures valid { IsLaid self.new }
+    {
+        let weight = self.weights[place as usize];
+        match self.list.peek_mut(place as usize) {
+            Some(node) => match node {
+                Some(pair) => update(&mut pair.1, weight),
+                None => unreachable!(),
+            },
+            None => unreachable!(),
+        }
+    }
+}
+
+impl<K: Drop, V: Drop> Nodes<K, V> {
+    /// No pairs, with room for `capacity`.
+    pub(crate) fn with_capacity(alloc: Global, capacity: usize) -> Result<Self, AllocError>
+        requires { capacity ≤ 4294967293 }
+        ensures empty { IfOk result (λ nodes. nodes ≡ laid (recency [] 0) 2) }
+        ensures valid { IfOk result IsLaid }
+    {
+        let list = LinkedList::with_capacity(alloc, capacity)?;
+        let mut weights = Vec::with_capacity(alloc, capacity + SENTINELS)?;
+        weights.resize(SENTINELS, 0)?;
+        Ok(Nodes { list, weights })
+    }
+
+    /// Makes the column one place longer. Where there is no memory for that, nothing changes.
+    pub(crate) fn lengthen(&mut self) -> Result<(), AllocError>
+        requires { self.old.room < 4294967295 }
+        ensures done { OnOk result (self.new ≡ laid self.old.held (self.old.room + 1)) }
+        ensures refused { OnErr result (self.new ≡ self.old) }
+        ensures valid { IsLaid self.new }
+    {
+        push_tight(&mut self.weights, 0)
+    }
+
+    /// Puts a pair last, or else first, at a place that the column has, and answers the place.
+    ///
+    /// # Errors
+    ///
+    /// There is no place for it. The key and the value are handed back, and nothing changes.
+    #[inline(always)]
+    pub(crate) fn push(
+        &mut self,
+        key: K,
+        value: V,
+        weight: usize,
+        last: bool,
+    ) -> Result<Place, Unpushed<K, V>>
+        requires { length self.old.held.rows + 2 < self.old.room }
+        ensures pushes { Pushes (λ r. if last then self.old.held.rows ++ r ∷ [] else r ∷ self.old.held.rows) self.old.held key value weight result self.new.held }
+        ensures room { self.new.room ≡ self.old.room }
+        ensures valid { IsLaid self.new }
+    {
+        let pushed = if last {
+            self.list.push_tail(Some((key, value)))
+        } else {
+            self.list.push_head(Some((key, value)))
+        };
+        let (cause, node) = match pushed {
+            Ok(place) => {
+                self.weights[place] = weight;
+                return Ok(place as u32);
+            }
+            Err(PushError::Memory(node)) => (NoPlace::Memory, node),
+            Err(PushError::Full(node)) => (NoPlace::Full, node),
+        };
+        match node {
+            Some((key, value)) => Err(Unpushed { cause, key, value }),
+            None => unreachable!(),
+        }
+    }
+
+    /// Makes a place that is free, where none is.
+    ///
+    /// # Errors
+    ///
+    /// There is no place for a pair more. Nothing changes.
+    pub(crate) fn make_free(&mut self) -> Result<(), NoPlace>
+        requires { length self.old.held.rows + 2 < self.old.room }
+        ensures makes { MakesVacancy self.old.held result self.new.held }
+        ensures room { self.new.room ≡ self.old.room }
+        ensures valid { IsLaid self.new }
+    {
+        let place = match self.list.push_head(None) {
+            Ok(place) => place,
+            Err(PushError::Memory(_)) => return Err(NoPlace::Memory),
+            Err(PushError::Full(_)) => return Err(NoPlace::Full),
+        };
+        self.list.remove(place);
+        Ok(())
+    }
+
+    /// Takes a place's pair out. The place is free then.
+    #[inline(always)]
+    pub(crate) fn take(&mut self, place: Place) -> Taken<K, V>
+        requires { IsAt self.old.held.rows place }
+        ensures taken { option_map taken (row_at self.old.held.rows place) ≡ Some result }
+        ensures rows { self.new ≡ laid (recency (without self.old.held.rows place) (self.old.held.free + 1)) self.old.room }
+        ensures valid { IsLaid self.new }
+    {
+        let weight = self.weights[place as usize];
+        match self.list.remove(place as usize) {
+            Some((key, value)) => Taken { key, value, weight },
+            None => unreachable!(),
+        }
+    }
+
+    /// Puts another key, another value and another weight at a place, and answers what stood there.
+    #[inline(always)]
+    pub(crate) fn exchange(&mut self, place: Place, key: K, value: V, weight: usize) -> Taken<K, V>
+        requires { IsAt self.old.held.rows place }
+        ensures taken { option_map taken (row_at self.old.held.rows place) ≡ Some result }
+        ensures rows { self.new ≡ with_rows self.old (with_entry self.old.held.rows place key value weight) }
+        ensures valid { IsLaid self.new }
+    {
+        let was = self.weights[place as usize];
+        self.weights[place as usize] = weight;
+        match self.list.peek_mut(place as usize) {
+            Some(node) => match node.replace((key, value)) {
+                Some((key, value)) => Taken {
+                    key,
+                    value,
+                    weight: was,
+                },
+                None => unreachable!(),
+            },
+            None => unreachable!(),
+        }
+    }
+}
+
+// Pushes where a column that is full grows by an eighth, so that little memory stands empty.
+fn push_tight(column: &mut Vec<usize>, item: usize) -> Result<(), AllocError>
+    ensures done { OnOk result (column.new.items ≡ column.old.items ++ item ∷ []) }
+    ensures refused { OnErr result (column.new.items ≡ column.old.items) }
+{
+    let len = column.len();
+    if len == column.capacity() {
+        column.reserve_exact(len / 8 + 1)?;
+    }
+    match column.push(item) {
+        Ok(()) => Ok(()),
+        Err(_) => Err(AllocError),
+    }
+}
