@@ -12,6 +12,11 @@ use Rattle.lru_index.proofs.Tables.{kept, shown, empty_table, longer_table}
 use Rattle.lru_index.proofs.Walked.{cell_within, has_link, split, tail_is, has_found}
 use Rattle.lru_index.proofs.Indexed.{length_homes, zero_free, room_is, put_keeps, cut_keeps, no_key, absent, put_index, cut_index, grown_index}
 
+-- ---- the home of a hash that was handed in is that of the key
+pub home_is : {K S : Type 0} (hash : S → K → ℕ) (cells : List ℕ) (heads shift : ℕ) (hash_builder : S) (index : Index S) → index_of cells heads shift hash_builder ≡ index → (key : K) (hashed : ℕ) → hashed ≡ hash index.hash_builder key → (b : ℕ) → b ≡ hashed / 2 ^ shift → b ≡ hash hash_builder key / 2 ^ shift
+home_is hash cells heads shift hash_builder index view key hashed given b home =
+    home ∙ ap (λ n. n / 2 ^ shift) (given ∙ ap (λ i. hash i.hash_builder key) (sym view))
+
 -- ---- where a walk has ended
 module _ {K Q : Type 0} (eq : K → Q → Bool) (keys : ℕ → Option K) (key : Q) (cells : List ℕ) (heads shift : ℕ) (keeps : IsKept cells heads shift) (b cell : ℕ) (low : b < 2 ^ (64 - shift)) (given : List ℕ) (same : given ≡ cells) (reached : Reaches eq keys key given heads b cell) where
   low_is : b < heads

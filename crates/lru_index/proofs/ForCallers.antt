@@ -1,9 +1,16 @@
 -- What a caller's proof needs of an index and its keys.
-use Rattle.std.proofs.Common.{◌≡◌, ℕ, Bool, ap, ◌∙◌, Option, None}
+use Rattle.std.proofs.Common.{◌≡◌, ℕ, Bool, List, ap, ◌∙◌, Option, None}
 use Rattle.std.specs.Option.{option_map}
 use Rattle.std.specs.Prelude.{◌/◌, ◌^◌}
+use Rattle.std.specs.declared.hash.Hasher as hasher
+use Rattle.std.specs.declared.hash.BuildHasher as builder
+use Rattle.lru_index.specs.Hashing.{hash_by, key_hash}
 use Rattle.lru_index.specs.Index.{Index, IsEmpty, IsFree, Indexes}
 use Rattle.lru_index.proofs.Tables.{none_is}
+
+-- what stands for a key has that key's hash
+pub same_hash : {S H K Q : Type 0} (b : builder.Ghosts S H) (h : hasher.Ghosts H) (writes : K → List (List ℕ)) (asked : Q → List (List ℕ)) (hash_builder : S) (key : K) (query : Q) → writes key ≡ asked query → key_hash b h writes hash_builder key ≡ key_hash b h asked hash_builder query
+same_hash b h writes asked hash_builder key query alike = ap (hash_by b h hash_builder) alike
 
 module _ {K S : Type 0} (eq : K → K → Bool) (hash : S → K → ℕ) (index : Index S) where
   -- an empty index is that of no keys

@@ -164,18 +164,18 @@ pub(crate) fn fill<S: BuildHasher, K: Hash, T: Keys<K>>(
     let heads = heads_of(shift);
     for place in 1..room {
         if keys.is_live(place) {
-            let home = home_of(hash_builder, shift, keys.key_at(place));
+            let home = home_of(shift, hash_of(hash_builder, keys.key_at(place)));
             put_first(cells, heads, home, place);
         }
     }
 }
 
-/// The home of a key: the top bits of its hash.
+/// The home of a hash: its top bits.
 #[inline(always)]
-pub(crate) fn home_of<S: BuildHasher, K: Hash>(hash_builder: &S, shift: u32, key: &K) -> usize
+pub(crate) fn home_of(shift: u32, hash: u64) -> usize
     requires most { shift ≤ 63 }
-    ensures home { result ≡ key_hash S.BuildHasher S.Hasher.Hasher K.hash_input hash_builder.now key.now / 2 ^ shift }
+    ensures home { result ≡ hash / 2 ^ shift }
     ensures few { result < 2 ^ (64 - shift) }
 {
-    (hash_of(hash_builder, key) >> shift) as usize
+    (hash >> shift) as usize
 }

@@ -10,7 +10,7 @@ use crate::cells::{
     MOST_SHIFT, cell_before, cell_of, empty_cells, fill, heads_of, home_of, lengthen, links_for,
     put_first, shift_for,
 };
-use crate::hashing::SeededHashes;
+use crate::hashing::{SeededHashes, hash_of};
 use crate::keys::{Keys, Query};
 use std::alloc::{AllocError, Global};
 use std::hash::{BuildHasher, Hash};
@@ -107,6 +107,15 @@ impl<S: BuildHasher> PlaceIndex<S> {
         (self.cells.len() - self.heads) as u32
     }
 
+    /// The hash of a key, or of a query for one, with which the calls below can be asked. A query that stands for a key has
+    /// that key's hash, so one hash serves a look-up and the calls after it.
+    #[inline(always)]
+    pub fn hash_of<Q: Hash>(&self, query: &Q) -> u64
+        ensures { result ≡ key_hash S.BuildHasher S.Hasher.Hasher Q.hash_input self.now.hash_builder query.now }
+    {
+        hash_of(&self.hash_builder, query)
+    }
+
     /// The place of a key, if it has one.
     #[inline(always)]
     pub fn find<K: Hash, T: Keys<K>>(&self, keys: &T, key: &K) -> Option<u32>
@@ -122,7 +131,23 @@ impl<S: BuildHasher> PlaceIndex<S> {
         requires { Indexes K.eq (key_hash S.BuildHasher S.Hasher.Hasher K.hash_input) self.now (T.key_of keys.now) }
         ensures { Finds Q.stands_for (T.key_of keys.now) query result }
     {
-        let home = home_of(&self.hash_builder, self.shift, &query);
+        let hash = self.hash_of(&query);
+        self.find_hashed(keys, query, hash)
+    }
+
+    /// `find_by`, where the query's hash is known.
+    #[inline(always)]
+    pub fn find_hashed<K: Hash, Q: Query<K>, T: Keys<K>>(
+        &self,
+        keys: &T,
+        query: Q,
+        hash: u64,
+    ) -> Option<u32>
+        requires indexed { Indexes K.eq (key_hash S.BuildHasher S.Hasher.Hasher K.hash_input) self.now (T.key_of keys.now) }
+        requires hash { hash ≡ key_hash S.BuildHasher S.Hasher.Hasher Q.hash_input self.now.hash_builder query }
+        ensures { Finds Q.stands_for (T.key_of keys.now) query result }
+    {
+        let home = home_of(self.shift, hash);
         let cell = cell_of(&self.cells, self.heads, home, keys, &query);
         let found = self.cells[cell];
         if found == 0 {
@@ -140,7 +165,21 @@ impl<S: BuildHasher> PlaceIndex<S> {
         ensures indexes { Inserts K.eq (key_hash S.BuildHasher S.Hasher.Hasher K.hash_input) self.old key.now place self.new }
         ensures room_same { room_of self.new ≡ room_of self.old }
     {
-        let home = home_of(&self.hash_builder, self.shift, key);
+        let hash = self.hash_of(key);
+        self.insert_hashed(key, hash, place);
+    }
+
+    /// `insert`, where the key's hash is known. The key is not read.
+    #[inline(always)]
+    pub fn insert_hashed<K: Hash>(&mut self, key: &K, hash: u64, place: u32)
+        requires hash { hash ≡ key_hash S.BuildHasher S.Hasher.Hasher K.hash_input self.old.hash_builder key.now }
+        requires place { 0 < place }
+        requires room { place < room_of self.old }
+        requires free { IsFree self.old place }
+        ensures indexes { Inserts K.eq (key_hash S.BuildHasher S.Hasher.Hasher K.hash_input) self.old key.now place self.new }
+        ensures room_same { room_of self.new ≡ room_of self.old }
+    {
+        let home = home_of(self.shift, hash);
         put_first(&mut self.cells, self.heads, home, place);
     }
 
@@ -163,7 +202,25 @@ impl<S: BuildHasher> PlaceIndex<S> {
         ensures indexes { Indexes K.eq (key_hash S.BuildHasher S.Hasher.Hasher K.hash_input) self.new (gone_at (T.key_of keys.now) result) }
         ensures room { room_of self.new ≡ room_of self.old }
     {
-        let home = home_of(&self.hash_builder, self.shift, &query);
+        let hash = self.hash_of(&query);
+        self.remove_hashed(keys, query, hash)
+    }
+
+    /// `remove_by`, where the query's hash is known.
+    #[inline(always)]
+    pub fn remove_hashed<K: Hash, Q: Query<K>, T: Keys<K>>(
+        &mut self,
+        keys: &T,
+        query: Q,
+        hash: u64,
+    ) -> Option<u32>
+        requires indexed { Indexes K.eq (key_hash S.BuildHasher S.Hasher.Hasher K.hash_input) self.old (T.key_of keys.now) }
+        requires hash { hash ≡ key_hash S.BuildHasher S.Hasher.Hasher Q.hash_input self.old.hash_builder query }
+        ensures finds { Finds Q.stands_for (T.key_of keys.now) query result }
+        ensures indexes { Indexes K.eq (key_hash S.BuildHasher S.Hasher.Hasher K.hash_input) self.new (gone_at (T.key_of keys.now) result) }
+        ensures room { room_of self.new ≡ room_of self.old }
+    {
+        let home = home_of(self.shift, hash);
         let cell = cell_of(&self.cells, self.heads, home, keys, &query);
         let place = self.cells[cell];
         if place == 0 {
@@ -181,7 +238,7 @@ impl<S: BuildHasher> PlaceIndex<S> {
         ensures room { room_of self.new ≡ room_of self.old }
     {
         let next = self.cells[self.heads + place as usize];
-        let home = home_of(&self.hash_builder, self.shift, key);
+        let home = home_of(self.shift, self.hash_of(key));
         let cell = cell_before(&self.cells, self.heads, home, place);
         self.cells[cell] = next;
     }

@@ -1,4 +1,4 @@
-use Rattle.std.proofs.Common.{◌≡◌, ◌<◌, length, get_or, set, replicate, ◌+◌, ◌-◌, ◌^◌, Some, None, arith, sym, ap, ◌∙◌, subst}
+use Rattle.std.proofs.Common.{◌≡◌, ◌<◌, length, get_or, set, replicate, ◌+◌, ◌-◌, ◌^◌, ◌/◌, Some, None, arith, sym, ap, ◌∙◌, subst}
 use Rattle.lru_index.specs.Hashing.{key_hash}
 use Rattle.lru_index.specs.Index.{known_of}
 use Rattle.lru_index.specs.Representation.Cells.{IsTable, below}
@@ -22,7 +22,7 @@ loop-place-preserved g c =
     let heads = 2 ^ (64 - c.args.shift) in
     elim c.if-is_live.branch [
       | then-is_live w ↦
-          let has : home c.loop-place.place ≡ Some w.home_of-home.result = known_some hash c.args.shift keys c.loop-place.place w.key_at.result.now w.home_of-home.result w.key_at.ensures w.home_of-home.ensures.home in
+          let has : home c.loop-place.place ≡ Some w.home_of-home.result = known_some hash c.args.shift keys c.loop-place.place w.key_at.result.now w.home_of-home.result w.key_at.ensures (w.home_of-home.ensures.home ∙ ap (λ n. n / 2 ^ c.args.shift) w.hash_of.ensures) in
           let within : heads + c.loop-place.place < length c.loop-place.cells = omega (arith, c.requires.fits, c.loop-place-test.true, c.loop-place.auto.cells, c.fill.ensures.len) in
           let table = fill_put c.loop-place.cells heads home c.loop-place.place w.home_of-home.result c.loop-place.invariant has w.home_of-home.ensures.few c.loop-place.auto.place within in
           let cells_are = w.cells-is ∙ w.put_first.ensures ∙ ap (λ h. set (set c.loop-place.cells (h + c.loop-place.place) (get_or c.loop-place.cells w.home_of-home.result 0)) w.home_of-home.result c.loop-place.place) c.heads_of-heads.ensures.heads in

@@ -1,7 +1,7 @@
 use Rattle.std.proofs.Common.{◌<◌, ◌+◌, ap, sym, subst}
 use Rattle.lru_index.specs.Hashing.{hash_by, key_hash}
-use Rattle.lru_index.proofs.Calls.{within_is, found_is, absent_is, link_is, cut_kept, cut_indexes}
-use Rattle.lru_index.proofs.place_index.PlaceIndex.remove_by.Goals as goal
+use Rattle.lru_index.proofs.Calls.{home_is, within_is, found_is, absent_is, link_is, cut_kept, cut_indexes}
+use Rattle.lru_index.proofs.place_index.PlaceIndex.remove_hashed.Goals as goal
 
 pub index-place-requires : goal.index-place-requires
 index-place-requires g c =
@@ -27,7 +27,7 @@ returns-then-place-eq0-clause-finds g c =
     let i = c.self.inside in
     absent_is g.Q.Query.stands_for (g.T.Keys.key_of c.args.keys.now) c.args.query i.cells.items i.heads i.shift c.self.invariant c.home_of-home.result c.cell_of-cell.result c.home_of-home.ensures.few c.deref.result.now c.deref.ensures.value c.cell_of-cell.ensures
     c.index-place.result.now c.index-place.ensures g.K.PartialEq.eq g.met.K.Eq.laws (key_hash g.S.BuildHasher g.S.Hasher.Hasher g.K.Hash.hash_input)
-    (λ s x y e. ap (hash_by g.S.BuildHasher g.S.Hasher.Hasher s) (g.met.K.Hash.respects_eq x y e)) i.hash_builder c.args.self.now c.self.view_is c.requires (key_hash g.S.BuildHasher g.S.Hasher.Hasher g.Q.Hash.hash_input i.hash_builder c.args.query) (λ k e. ap (hash_by g.S.BuildHasher g.S.Hasher.Hasher i.hash_builder) (g.met.Q.Query.respects_hash c.args.query k e)) c.home_of-home.ensures.home c.if-place-eq0.true
+    (λ s x y e. ap (hash_by g.S.BuildHasher g.S.Hasher.Hasher s) (g.met.K.Hash.respects_eq x y e)) i.hash_builder c.args.self.now c.self.view_is c.requires.indexed (key_hash g.S.BuildHasher g.S.Hasher.Hasher g.Q.Hash.hash_input i.hash_builder c.args.query) (λ k e. ap (hash_by g.S.BuildHasher g.S.Hasher.Hasher i.hash_builder) (g.met.Q.Query.respects_hash c.args.query k e)) (home_is (key_hash g.S.BuildHasher g.S.Hasher.Hasher g.Q.Hash.hash_input) i.cells.items i.heads i.shift i.hash_builder c.args.self.now c.self.view_is c.args.query c.args.hash c.requires.hash c.home_of-home.result c.home_of-home.ensures.home) c.if-place-eq0.true
 
 pub returns-clause-finds : goal.returns-clause-finds
 returns-clause-finds g c =
@@ -46,4 +46,4 @@ returns-clause-indexes g c =
     let i = c.self.inside in
     cut_indexes g.Q.Query.stands_for (g.T.Keys.key_of c.args.keys.now) c.args.query i.cells.items i.heads i.shift c.self.invariant c.home_of-home.result c.cell_of-cell.result c.home_of-home.ensures.few c.deref.result.now c.deref.ensures.value c.cell_of-cell.ensures
     c.index-place.result.now c.index-place.ensures c.if-place-eq0.false c.index.result.now c.index.ensures g.K.PartialEq.eq g.met.K.Eq.laws (key_hash g.S.BuildHasher g.S.Hasher.Hasher g.K.Hash.hash_input)
-    (λ s x y e. ap (hash_by g.S.BuildHasher g.S.Hasher.Hasher s) (g.met.K.Hash.respects_eq x y e)) i.hash_builder (g.T.Keys.key_of c.args.keys.now) c.args.self.now c.self.view_is c.requires
+    (λ s x y e. ap (hash_by g.S.BuildHasher g.S.Hasher.Hasher s) (g.met.K.Hash.respects_eq x y e)) i.hash_builder (g.T.Keys.key_of c.args.keys.now) c.args.self.now c.self.view_is c.requires.indexed

@@ -3,8 +3,8 @@ use Rattle.std.proofs.lemmas.List.{with_items_is}
 use Rattle.lru_index.specs.Hashing.{hash_by, key_hash}
 use Rattle.lru_index.specs.Index.{Indexes, put}
 use Rattle.lru_index.specs.Representation.Cells.{IsKept, index_of}
-use Rattle.lru_index.proofs.Calls.{put_fits, put_kept, put_indexes}
-use Rattle.lru_index.proofs.place_index.PlaceIndex.insert.Goals as goal
+use Rattle.lru_index.proofs.Calls.{home_is, put_fits, put_kept, put_indexes}
+use Rattle.lru_index.proofs.place_index.PlaceIndex.insert_hashed.Goals as goal
 
 pub put_first-requires-clause-place : goal.put_first-requires-clause-place
 put_first-requires-clause-place g c =
@@ -28,4 +28,4 @@ returns-clause-indexes g c = λ keys new of.
     ∙ c.put_first.ensures ∙ ap (λ xs. set (set xs (i.heads + c.args.place) (get_or xs c.home_of-home.result 0)) c.home_of-home.result c.args.place) c.deref_mut.ensures.value in
     subst (λ xs. Indexes g.K.PartialEq.eq hash (index_of xs i.heads i.shift i.hash_builder) (put keys c.args.place c.args.key.now)) (sym wrote)
     (put_indexes i.cells.items i.heads i.shift i.hash_builder c.self.invariant c.args.self.now c.self.view_is c.args.place c.requires.room c.requires.place c.requires.free c.home_of-home.result c.home_of-home.ensures.few
-    g.K.PartialEq.eq g.met.K.Eq.laws hash (λ s x y e. ap (hash_by g.S.BuildHasher g.S.Hasher.Hasher s) (g.met.K.Hash.respects_eq x y e)) c.args.key.now c.home_of-home.ensures.home keys new of)
+    g.K.PartialEq.eq g.met.K.Eq.laws hash (λ s x y e. ap (hash_by g.S.BuildHasher g.S.Hasher.Hasher s) (g.met.K.Hash.respects_eq x y e)) c.args.key.now (home_is hash i.cells.items i.heads i.shift i.hash_builder c.args.self.now c.self.view_is c.args.key.now c.args.hash c.requires.hash c.home_of-home.result c.home_of-home.ensures.home) keys new of)
