@@ -1,14 +1,14 @@
 -- Laws of the rows that a list of pairs and its column stand for.
 use Rattle.std.proofs.Common.{◌≡◌, ◌≢◌, ℕ, ◌+◌, ◌<◌, ◌≤◌, true, false, cond, eqb, List, [], ◌∷◌, ◌++◌, length, map, get_or, set, Some, None, refl, sym, ap, ◌∙◌, subst, inl, inr, arith}
-use Rattle.std.specs.Prelude.{Option, Bool, is_some, IsSome, count_by, ◌==◌}
-use Rattle.std.specs.Option.{option_map, option_map_or, option_copied}
-use Rattle.std.specs.Borrow.{Bor}
+use Rattle.std.specs.Prelude.{Option, Bool, is_some, IsSome, count_by, ◌==◌, ◌&&◌, nat_le, nat_lt}
+use Rattle.std.specs.Option.{option_map, option_map_or, option_copied, option_copied_mut}
+use Rattle.std.specs.Borrow.{Bor, MutBor}
 use Rattle.std.specs.List.{cons_option}
 use Rattle.std.proofs.lemmas.Bool.{cases_eq, eq-eqb, ne_eqb, false≢true}
 use Rattle.std.proofs.lemmas.List.{get_or-set_same, get_or-set_other}
 use Rattle.std.proofs.lemmas.List.Elements.{filter_map-append}
 use Rattle.std.proofs.lemmas.List.Sums.{sum_by-cons}
-use Rattle.lru_list.specs.Linked.{Linked, item_of, item_at, indices_of, times, without as list_without, written}
+use Rattle.lru_list.specs.Linked.{Linked, item_of, item_at, indices_of, times, without as list_without, written, with_item, made, IsNumbered}
 use Rattle.lru_list.proofs.Chains.{times_here, times_other, times-cons}
 use Rattle.lru_list.proofs.LinkedLaws.{item_of_same, item_of_other, item_of-append}
 use Rattle.lru_rows.specs.Rows.{Placed, placed, row_at, IsAt, without, promoted, demoted, with_weight, with_value}
@@ -189,25 +189,83 @@ module _ {K V : Type 0} where
           ]
 
   -- a pair is written, and a weight
-  pub rows-written : (weights : List ℕ) (i : ℕ) (k : K) (v : V) (w : ℕ) → i < length weights → (ps : List (ℕ × Option (K × V))) → AreHeld ps → rows_in (set weights i w) (written ps i (Some (k, v))) ≡ with_entry (rows_in weights ps) i k v w
-  rows-written weights i k v w within [] h = refl
-  rows-written weights i k v w within (p ∷ ps) h =
+  pub rows-written : (weights weights' : List ℕ) (i : ℕ) (k : K) (v : V) (w : ℕ) → get_or weights' i 0 ≡ w → ((q : ℕ) → q ≢ i → get_or weights' q 0 ≡ get_or weights q 0) →
+      (ps : List (ℕ × Option (K × V))) → AreHeld ps → rows_in weights' (written ps i (Some (k, v))) ≡ with_entry (rows_in weights ps) i k v w
+  rows-written weights weights' i k v w here others [] h = refl
+  rows-written weights weights' i k v w here others (p ∷ ps) h =
       let e = some_is p.1 h.0 in
-      ap (λ rs. cons_option (row_in (set weights i w) (p.0, cond (eqb p.0 i) (Some (k, v)) p.1)) rs) (rows-written weights i k v w within ps h.1)
+      ap (λ rs. cons_option (row_in weights' (p.0, cond (eqb p.0 i) (Some (k, v)) p.1)) rs) (rows-written weights weights' i k v w here others ps h.1)
       ∙ elim (cases_eq p.0 i) [
         | inl same ↦
-            ap (λ b. cons_option (row_in (set weights i w) (p.0, cond b (Some (k, v)) p.1)) (with_entry (rows_in weights ps) i k v w)) (eq-eqb p.0 i same)
-            ∙ ap (λ q. placed q k v (get_or (set weights i w) q 0) ∷ with_entry (rows_in weights ps) i k v w) same
-            ∙ ap (λ n. placed i k v n ∷ with_entry (rows_in weights ps) i k v w) (get_or-set_same weights i w 0 within)
+            ap (λ b. cons_option (row_in weights' (p.0, cond b (Some (k, v)) p.1)) (with_entry (rows_in weights ps) i k v w)) (eq-eqb p.0 i same)
+            ∙ ap (λ q. placed q k v (get_or weights' q 0) ∷ with_entry (rows_in weights ps) i k v w) same
+            ∙ ap (λ n. placed i k v n ∷ with_entry (rows_in weights ps) i k v w) here
             ∙ ap (λ r. r ∷ with_entry (rows_in weights ps) i k v w) (sym (ap (λ b. cond b (placed i k v w) (placed p.0 e.0.0 e.0.1 (get_or weights p.0 0))) (eq-eqb p.0 i same)))
             ∙ ap (λ rs. with_entry rs i k v w) (sym (rows-cons weights p ps e.0 e.1))
         | inr ne ↦
-            ap (λ b. cons_option (row_in (set weights i w) (p.0, cond b (Some (k, v)) p.1)) (with_entry (rows_in weights ps) i k v w)) (ne_eqb p.0 i ne)
-            ∙ ap (λ n. cons_option (option_map (λ (x : K × V). placed p.0 x.0 x.1 n) p.1) (with_entry (rows_in weights ps) i k v w)) (get_or-set_other weights i p.0 w 0 ne)
+            ap (λ b. cons_option (row_in weights' (p.0, cond b (Some (k, v)) p.1)) (with_entry (rows_in weights ps) i k v w)) (ne_eqb p.0 i ne)
+            ∙ ap (λ n. cons_option (option_map (λ (x : K × V). placed p.0 x.0 x.1 n) p.1) (with_entry (rows_in weights ps) i k v w)) (others p.0 ne)
             ∙ ap (λ o. cons_option (option_map (λ (x : K × V). placed p.0 x.0 x.1 (get_or weights p.0 0)) o) (with_entry (rows_in weights ps) i k v w)) e.1
             ∙ ap (λ r. r ∷ with_entry (rows_in weights ps) i k v w) (sym (ap (λ b. cond b (placed i k v w) (placed p.0 e.0.0 e.0.1 (get_or weights p.0 0))) (ne_eqb p.0 i ne)))
             ∙ ap (λ rs. with_entry rs i k v w) (sym (rows-cons weights p ps e.0 e.1))
       ]
+
+  -- the places stay where items are written
+  pub indices-written : (ps : List (ℕ × Option (K × V))) (i : ℕ) (x : Option (K × V)) → indices_of (written ps i x) ≡ indices_of ps
+  indices-written [] i x = refl
+  indices-written (p ∷ ps) i x = ap (λ is. p.0 ∷ is) (indices-written ps i x)
+
+  pub length-written : (ps : List (ℕ × Option (K × V))) (i : ℕ) (x : Option (K × V)) → length (written ps i x) ≡ length ps
+  length-written [] i x = refl
+  length-written (p ∷ ps) i x = omega (arith, length-written ps i x)
+
+  pub numbered_written : (l : Linked (Option (K × V))) (i : ℕ) (x : Option (K × V)) → IsNumbered l → IsNumbered (with_item l i x)
+  numbered_written l i x numbered j =
+      let many : made l ≡ made (with_item l i x) = omega (arith, length-written l.live i x, length-written l.freed i x) in
+      ap (λ is. times j (is ++ indices_of (written l.freed i x))) (indices-written l.live i x)
+      ∙ ap (λ is. times j (indices_of l.live ++ is)) (indices-written l.freed i x)
+      ∙ numbered j ∙ ap {B = ℕ} (λ n. cond (nat_le 2 j && nat_lt j (n + 2)) 1 0) many
+
+  -- the row of a place has the same key and the same weight still
+  abbrev AgreeAt : ℕ → K → ℕ → List (Placed K V) → Type 0
+  AgreeAt i k w [] = Unit {0}
+  AgreeAt i k w (r ∷ rs) = (r.place ≡ i → (r.key ≡ k) × (r.weight ≡ w)) × AgreeAt i k w rs
+
+  none_agree : (i : ℕ) (k : K) (w : ℕ) (rs : List (Placed K V)) → count_by (λ (r : Placed K V). r.place == i) rs ≡ 0 → AgreeAt i k w rs
+  none_agree i k w [] none = tt
+  none_agree i k w (r ∷ rs) none =
+      let sum = sum_by-cons (λ (x : Placed K V). cond (eqb x.place i) 1 0) r rs in (
+        λ e. absurd (omega (arith, none, sum, ap {B = ℕ} (λ b. cond b 1 0) (eq-eqb r.place i e))),
+        none_agree i k w rs (omega (arith, none, sum)),
+      )
+
+  agree_at : (i : ℕ) (k : K) (v : V) (w : ℕ) (rs : List (Placed K V)) → count_by (λ (r : Placed K V). r.place == i) rs ≤ 1 → row_at rs i ≡ Some (placed i k v w) → AgreeAt i k w rs
+  agree_at i k v w [] once found = tt
+  agree_at i k v w (r ∷ rs) once found =
+      let sum = sum_by-cons (λ (x : Placed K V). cond (eqb x.place i) 1 0) r rs in
+      elim (cases_eq r.place i) [
+        | inl e ↦
+            let is : r ≡ placed i k v w = some_of r (placed i k v w) (sym (row_at_here r rs i e) ∙ found) in
+            (λ _. (ap (λ (x : Placed K V). x.key) is, ap (λ (x : Placed K V). x.weight) is), none_agree i k w rs (omega (arith, once, sum, ap {B = ℕ} (λ b. cond b 1 0) (eq-eqb r.place i e))))
+        | inr ne ↦ (λ e. absurd (ne e), agree_at i k v w rs (omega (arith, once, sum)) (sym (row_at_other r rs i ne) ∙ found))
+      ]
+
+  entry_value : (i : ℕ) (k : K) (d : V) (w : ℕ) (rs : List (Placed K V)) → AgreeAt i k w rs → with_entry rs i k d w ≡ with_value rs i d
+  entry_value i k d w [] agree = refl
+  entry_value i k d w (r ∷ rs) agree =
+      ap (λ xs. cond (eqb r.place i) (placed i k d w) r ∷ xs) (entry_value i k d w rs agree.1)
+      ∙ ap (λ x. x ∷ with_value rs i d)
+      (elim (cases_eq r.place i) [
+        | inl e ↦
+            ap (λ b. cond b (placed i k d w) r) (eq-eqb r.place i e)
+            ∙ ap (λ p. placed p k d w) (sym e) ∙ ap (λ x. placed r.place x d w) (sym (agree.0 e).0) ∙ ap (λ n. placed r.place r.key d n) (sym (agree.0 e).1)
+            ∙ sym (ap (λ b. cond b (placed r.place r.key d r.weight) r) (eq-eqb r.place i e))
+        | inr ne ↦ ap (λ b. cond b (placed i k d w) r) (ne_eqb r.place i ne) ∙ sym (ap (λ b. cond b (placed r.place r.key d r.weight) r) (ne_eqb r.place i ne))
+      ])
+
+  -- where the key and the weight are those that stood there, only the value is another
+  pub only_value : (i : ℕ) (k : K) (v d : V) (w : ℕ) (rs : List (Placed K V)) → count_by (λ (r : Placed K V). r.place == i) rs ≤ 1 → row_at rs i ≡ Some (placed i k v w) → with_entry rs i k d w ≡ with_value rs i d
+  only_value i k v d w rs once found = entry_value i k d w rs (agree_at i k v w rs once found)
 
   -- what is read of a live node
   pub seen_node : (l : Linked (Option (K × V))) (i : ℕ) (e : K × V) (o : Option (Bor (Option (K × V)))) (b : Bor (Option (K × V))) → item_of l.live i ≡ Some (Some e) → option_copied o ≡ item_at l i → o ≡ Some b → b.now ≡ Some e
@@ -215,3 +273,10 @@ module _ {K V : Type 0} where
 
   pub not_unseen : (l : Linked (Option (K × V))) (i : ℕ) (e : K × V) (o : Option (Bor (Option (K × V)))) → item_of l.live i ≡ Some (Some e) → option_copied o ≡ item_at l i → o ≡ None → ⊥
   not_unseen l i e o found seen is = false≢true (ap is_some (sym (ap option_copied is) ∙ seen ∙ item_of-append l.live l.freed i (Some e) found))
+
+  -- and of one that is lent
+  pub lent_node : (l : Linked (Option (K × V))) (i : ℕ) (e : K × V) (o : Option (MutBor (Option (K × V)))) (b : MutBor (Option (K × V))) → item_of l.live i ≡ Some (Some e) → option_copied_mut o ≡ item_at l i → o ≡ Some b → b.now ≡ Some e
+  lent_node l i e o b found seen is = some_of b.now (Some e) (sym (ap option_copied_mut is) ∙ seen ∙ item_of-append l.live l.freed i (Some e) found)
+
+  pub not_unlent : (l : Linked (Option (K × V))) (i : ℕ) (e : K × V) (o : Option (MutBor (Option (K × V)))) → item_of l.live i ≡ Some (Some e) → option_copied_mut o ≡ item_at l i → o ≡ None → ⊥
+  not_unlent l i e o found seen is = false≢true (ap is_some (sym (ap option_copied_mut is) ∙ seen ∙ item_of-append l.live l.freed i (Some e) found))

@@ -1,2 +1,4 @@
 pub mod Laid
 pub mod Seen
+pub mod Shown
+pub mod Kept

@@ -1,12 +1,13 @@
 //! Pairs by their places, and the order that they stand in, apart from any index.
 ghost use Rattle.std.specs.Prelude.{◌≡◌, ◌+◌, ◌<◌, ◌≤◌, ◌==◌, ◌∷◌, ◌++◌, [], Some, IsSome, IfOk, OnOk, OnErr, not, length, map, nat_lt, if◌then◌else◌};
 ghost use Rattle.std.specs.Option.{option_map};
-ghost use Rattle.lru_rows.specs.Rows.{recency, row_at, IsAt, placed, taken, without, promoted, demoted, with_weight, first_row, last_row, Pushes, MakesVacancy, UpdatesAt};
+ghost use Rattle.lru_rows.specs.Rows.{recency, row_at, IsAt, placed, taken, entry_of, without, promoted, demoted, with_weight, first_row, last_row, Pushes, MakesVacancy, UpdatesAt};
 ghost use Rattle.lru_pairs.specs.Pairs.{with_entry};
 ghost use Rattle.lru_pairs.specs.Representation.Nodes.{laid, IsLaid, with_rows, keys_at};
 
+use crate::iter::{PairsEntries, PairsKeys};
 use lru_index::keys::Keys;
-use lru_list::linked_list::{LinkedList, LinkedListEntries, LinkedListIter, PushError};
+use lru_list::linked_list::{LinkedList, PushError};
 use lru_rows::rows::{NoPlace, Place, Taken, Unpushed};
 use std::alloc::{AllocError, Global};
 use std::marker::Model;
@@ -124,6 +125,25 @@ impl<K, V> Nodes<K, V> {
         self.weights[place as usize]
     }
 
+    /// The pairs, most recent first.
+    pub(crate) fn entries(&self) -> PairsEntries<'_, K, V>
+        ensures { result ≡ map entry_of self.now.held.rows }
+    {
+        PairsEntries {
+            nodes: self.list.entries(),
+            weights: self.weights.as_slice(),
+        }
+    }
+
+    /// Their keys, most recent first.
+    pub(crate) fn keys(&self) -> PairsKeys<'_, K, V>
+        ensures { result ≡ map (λ r. r.key) self.now.held.rows }
+    {
+        PairsKeys {
+            nodes: self.list.iter(),
+        }
+    }
+
     /// Puts a place's pair first.
     #[inline(always)]
     pub(crate) fn promote(&mut self, place: Place)
@@ -214,40 +234,30 @@ impl<K: Drop, V: Drop> Nodes<K, V> {
         push_tight(&mut self.weights, 0)
     }
 
-    /// Puts a pair last, or else first, at a place that the column has, and answers the place.
+    /// Puts a pair first, at a place that the column has, and answers the place.
     ///
     /// # Errors
     ///
     /// There is no place for it. The key and the value are handed back, and nothing changes.
     #[inline(always)]
-    pub(crate) fn push(
+    pub(crate) fn push_first(
         &mut self,
         key: K,
         value: V,
         weight: usize,
-        last: bool,
     ) -> Result<Place, Unpushed<K, V>>
         requires { length self.old.held.rows + 2 < self.old.room }
-        ensures pushes { Pushes (λ r. if last then self.old.held.rows ++ r ∷ [] else r ∷ self.old.held.rows) self.old.held key value weight result self.new.held }
+        ensures pushes { Pushes (λ r. r ∷ self.old.held.rows) self.old.held key value weight result self.new.held }
         ensures room { self.new.room ≡ self.old.room }
         ensures valid { IsLaid self.new }
     {
-        let pushed = if last {
-            self.list.push_tail(Some((key, value)))
-        } else {
-            self.list.push_head(Some((key, value)))
-        };
-        let (cause, node) = match pushed {
+        match self.list.push_head(Some((key, value))) {
             Ok(place) => {
                 self.weights[place] = weight;
-                return Ok(place as u32);
+                Ok(place as u32)
             }
-            Err(PushError::Memory(node)) => (NoPlace::Memory, node),
-            Err(PushError::Full(node)) => (NoPlace::Full, node),
-        };
-        match node {
-            Some((key, value)) => Err(Unpushed { cause, key, value }),
-            None => unreachable!(),
+            Err(PushError::Memory(node)) => Err(unpushed(NoPlace::Memory, node)),
+            Err(PushError::Full(node)) => Err(unpushed(NoPlace::Full, node)),
         }
     }
 
@@ -307,6 +317,18 @@ impl<K: Drop, V: Drop> Nodes<K, V> {
             },
             None => unreachable!(),
         }
+    }
+}
+
+// What is handed back of a pair that the list refused.
+fn unpushed<K, V>(cause: NoPlace, node: Option<(K, V)>) -> Unpushed<K, V>
+    requires { IsSome node }
+    ensures cause { result.cause ≡ cause }
+    ensures pair { node ≡ Some (result.key, result.value) }
+{
+    match node {
+        Some((key, value)) => Unpushed { cause, key, value },
+        None => unreachable!(),
     }
 }
 

@@ -39,6 +39,19 @@ module _ {K V : Type 0} where
   AreHeld [] = Unit {0}
   AreHeld (p ∷ ps) = IsSome p.1 × AreHeld ps
 
+  -- and each place of them a weight
+  abbrev pub AreWeighed : List ℕ → List (ℕ × Option (K × V)) → Type 0
+  AreWeighed weights [] = Unit {0}
+  AreWeighed weights (p ∷ ps) = IsSome p.1 × ((p.0 < length weights) × AreWeighed weights ps)
+
+  -- items that are pairs, and their keys
+  abbrev pub ArePairs : List (Option (K × V)) → Type 0
+  ArePairs [] = Unit {0}
+  ArePairs (x ∷ xs) = IsSome x × ArePairs xs
+
+  abbrev pub keys_in : List (Option (K × V)) → List K
+  keys_in xs = filter_map (option_map (λ e. e.0)) xs
+
   -- what is kept: each live node has a pair, and each place a weight
   pub record IsHeld (weights : List ℕ) (list : Linked (Option (K × V))) : Type 0 where
     pub numbered : IsNumbered list

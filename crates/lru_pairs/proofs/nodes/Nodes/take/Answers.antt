@@ -1,34 +1,30 @@
-use Rattle.std.proofs.Common.{rules, ◌≡◌, ◌+◌, ◌<◌, ◌≤◌, ◌==◌, ◌∷◌, ◌++◌, [], Some, IsSome, IfOk, OnOk, OnErr, not, length, map, nat_lt, if◌then◌else◌, ℕ, ◌-◌, ◌*◌, ◌/◌, ◌%◌, Bool, true, false, nat_eq, List, slice_index_or, slice_set, bit_and, bit_or, Fits, w8, w32, w64, Bor, MutBor}
-use Rattle.std.specs.Option.{option_map}
-use Rattle.lru_rows.specs.Rows.{recency, row_at, IsAt, placed, taken, without, promoted, demoted, with_weight, first_row, last_row, Pushes, MakesVacancy, UpdatesAt}
-use Rattle.lru_pairs.specs.Pairs.{with_entry}
-use Rattle.lru_pairs.specs.Representation.Nodes.{laid, IsLaid, with_rows, keys_at}
+use Rattle.std.proofs.Common.{ap, sym, subst, ◌<◌, ◌∙◌}
+use Rattle.std.specs.Prelude.{is_some}
+use Rattle.std.proofs.lemmas.Bool.{false≢true}
+use Rattle.std.proofs.lemmas.Grind.{get_or_default_zero}
+use Rattle.lru_pairs.proofs.Seen.{live, weighed, node_is, held_out, view_out, taken_is, laid_well}
 use Rattle.lru_pairs.proofs.nodes.Nodes.take.Goals as goal
 
--- src/nodes.rt:282:22
 pub index-weight-requires : goal.index-weight-requires
-index-weight-requires g c = ?
+index-weight-requires g c = subst (λ n. c.args.place < n) (sym c.self.inside.weights.ok.0) (weighed c.self.inside.weights.items c.self.inside.list c.self.invariant c.args.self.now c.self.view_is c.args.place c.requires)
 
--- src/nodes.rt:283:15
 pub remove-requires : goal.remove-requires
-remove-requires g c = ?
+remove-requires g c = live c.self.inside.weights.items c.self.inside.list c.self.invariant c.args.self.now c.self.view_is c.args.place c.requires
 
--- src/nodes.rt:285:21
 pub unreachable-requires : goal.unreachable-requires
-unreachable-requires g c = ?
+unreachable-requires g c = false≢true (ap is_some (sym c.in-None.is ∙ node_is c.self.inside.weights.items c.self.inside.list c.self.invariant c.args.self.now c.self.view_is c.args.place c.requires _ c.remove.result c.remove.new.self c.remove.ensures.removes c.remove.ensures.numbered))
 
--- src/nodes.rt:275:5
 pub invariant_of-self : goal.invariant_of-self
-invariant_of-self g c = ?
+invariant_of-self g c = held_out c.self.inside.weights.items c.self.inside.list c.self.invariant c.args.self.now c.self.view_is c.args.place c.requires _ c.remove.result c.remove.new.self c.remove.ensures.removes c.remove.ensures.numbered
 
--- src/nodes.rt:275:5
 pub returns-clause-taken : goal.returns-clause-taken
-returns-clause-taken g c = ?
+returns-clause-taken g c =
+    taken_is c.self.inside.weights.items c.self.inside.list c.self.invariant c.args.self.now c.self.view_is c.args.place c.requires (c.in-Some.key, c.in-Some.value)
+    (sym (node_is c.self.inside.weights.items c.self.inside.list c.self.invariant c.args.self.now c.self.view_is c.args.place c.requires _ c.remove.result c.remove.new.self c.remove.ensures.removes c.remove.ensures.numbered) ∙ c.in-Some.is)
+    c.index-weight.result.now (c.index-weight.ensures ∙ get_or_default_zero c.self.inside.weights.items c.args.place c.index-weight.result.now (weighed c.self.inside.weights.items c.self.inside.list c.self.invariant c.args.self.now c.self.view_is c.args.place c.requires))
 
--- src/nodes.rt:275:5
 pub returns-clause-rows : goal.returns-clause-rows
-returns-clause-rows g c = ?
+returns-clause-rows g c = view_out c.self.inside.weights.items c.self.inside.list c.self.invariant c.args.self.now c.self.view_is c.args.place c.requires _ c.remove.result c.remove.new.self c.remove.ensures.removes c.remove.ensures.numbered
 
--- src/nodes.rt:275:5
 pub returns-clause-valid : goal.returns-clause-valid
-returns-clause-valid g c = ?
+returns-clause-valid g c = laid_well c.self.inside.weights.items c.remove.new.self (held_out c.self.inside.weights.items c.self.inside.list c.self.invariant c.args.self.now c.self.view_is c.args.place c.requires _ c.remove.result c.remove.new.self c.remove.ensures.removes c.remove.ensures.numbered)

@@ -1,30 +1,43 @@
-use Rattle.std.proofs.Common.{rules, ◌≡◌, ◌+◌, ◌<◌, ◌≤◌, ◌==◌, ◌∷◌, ◌++◌, [], Some, IsSome, IfOk, OnOk, OnErr, not, length, map, nat_lt, if◌then◌else◌, ℕ, ◌-◌, ◌*◌, ◌/◌, ◌%◌, Bool, true, false, nat_eq, List, slice_index_or, slice_set, bit_and, bit_or, Fits, w8, w32, w64, Bor, MutBor}
-use Rattle.std.specs.Option.{option_map}
-use Rattle.lru_rows.specs.Rows.{recency, row_at, IsAt, placed, taken, without, promoted, demoted, with_weight, first_row, last_row, Pushes, MakesVacancy, UpdatesAt}
-use Rattle.lru_pairs.specs.Pairs.{with_entry}
-use Rattle.lru_pairs.specs.Representation.Nodes.{laid, IsLaid, with_rows, keys_at}
+use Rattle.std.proofs.Common.{ap, sym, subst, get_or, ◌<◌, ◌∙◌, Some, refl, rules, ◌≡◌}
+use Rattle.std.specs.Prelude.{is_some}
+use Rattle.std.proofs.lemmas.Bool.{false≢true}
+use Rattle.std.proofs.lemmas.Grind.{get_or_default_zero}
+use Rattle.lru_list.specs.Linked.{with_item}
+use Rattle.lru_rows.specs.Rows.{placed}
+use Rattle.lru_rows.proofs.Listed.{some_of}
+use Rattle.lru_pairs.specs.Representation.Nodes.{Laid}
+use Rattle.lru_pairs.proofs.Laid.{lent_node, not_unlent}
+use Rattle.lru_pairs.proofs.Seen.{node, row, weighed, held_entry, view_value, laid_well}
 use Rattle.lru_pairs.proofs.nodes.Nodes.update.Goals as goal
 
--- src/nodes.rt:183:22
 pub index-weight-requires : goal.index-weight-requires
-index-weight-requires g c = ?
+index-weight-requires g c = subst (λ n. c.args.place < n) (sym c.self.inside.weights.ok.0) (weighed c.self.inside.weights.items c.self.inside.list c.self.invariant c.args.self.now c.self.view_is c.args.place c.requires.at)
 
--- src/nodes.rt:187:25
 pub unreachable-requires : goal.unreachable-requires
-unreachable-requires g c = ?
+unreachable-requires g c =
+    let s = node c.self.inside.weights.items c.self.inside.list c.self.invariant c.args.self.now c.self.view_is c.args.place c.requires.at in
+    false≢true (ap is_some (sym c.in-None-node.is ∙ lent_node c.self.inside.list c.args.place s.pair c.peek_mut.result c.in-Some.node s.found c.peek_mut.ensures.value c.in-Some.is))
 
--- src/nodes.rt:189:21
 pub unreachable-requires-in-None : goal.unreachable-requires-in-None
-unreachable-requires-in-None g c = ?
+unreachable-requires-in-None g c =
+    let s = node c.self.inside.weights.items c.self.inside.list c.self.invariant c.args.self.now c.self.view_is c.args.place c.requires.at in
+    not_unlent c.self.inside.list c.args.place s.pair c.peek_mut.result s.found c.peek_mut.ensures.value c.in-None.is
 
--- src/nodes.rt:171:5
 pub invariant_of-self : goal.invariant_of-self
-invariant_of-self g c = ?
+invariant_of-self g c = held_entry c.self.inside.weights.items c.self.inside.list c.self.invariant c.args.self.now c.self.view_is c.args.place c.requires.at c.in-Some-node.pair.0 c.update.new.arg2 (get_or c.self.inside.weights.items c.args.place 0) (with_item c.self.inside.list c.args.place (Some (c.in-Some-node.pair.0, c.update.new.arg2))) refl c.self.inside.weights.items refl refl (λ q ne. refl)
 
--- src/nodes.rt:171:5
 pub returns-clause-updates : goal.returns-clause-updates
-returns-clause-updates g c = ?
+returns-clause-updates g c =
+    let s = node c.self.inside.weights.items c.self.inside.list c.self.invariant c.args.self.now c.self.view_is c.args.place c.requires.at in
+    let pair : s.pair ≡ c.in-Some-node.pair = some_of s.pair c.in-Some-node.pair (sym (lent_node c.self.inside.list c.args.place s.pair c.peek_mut.result c.in-Some.node s.found c.peek_mut.ensures.value c.in-Some.is) ∙ c.in-Some-node.is) in
+    let weight = c.index-weight.ensures ∙ get_or_default_zero c.self.inside.weights.items c.args.place c.index-weight.result.now (weighed c.self.inside.weights.items c.self.inside.list c.self.invariant c.args.self.now c.self.view_is c.args.place c.requires.at) in (
+      placed c.args.place c.in-Some-node.pair.0 c.in-Some-node.pair.1 c.index-weight.result.now,
+      row c.self.inside.weights.items c.self.inside.list c.self.invariant c.args.self.now c.self.view_is c.args.place c.requires.at ∙ ap (λ x. Some (placed c.args.place x.0 x.1 (get_or c.self.inside.weights.items c.args.place 0))) pair
+          ∙ ap (λ n. Some (placed c.args.place c.in-Some-node.pair.0 c.in-Some-node.pair.1 n)) (sym weight),
+      c.update.new.arg2,
+      search rules,
+      ap (λ (x : Laid g.row.K.Denot g.row.V.Denot). x.held) (view_value c.self.inside.weights.items c.self.inside.list c.self.invariant c.args.self.now c.self.view_is c.args.place c.requires.at c.update.new.arg2 (with_item c.self.inside.list c.args.place (Some (c.in-Some-node.pair.0, c.update.new.arg2))) (ap (λ x. with_item c.self.inside.list c.args.place (Some (x.0, c.update.new.arg2))) (sym pair))),
+    )
 
--- src/nodes.rt:171:5
 pub returns-clause-valid : goal.returns-clause-valid
-returns-clause-valid g c = ?
+returns-clause-valid g c = laid_well c.self.inside.weights.items (with_item c.self.inside.list c.args.place (Some (c.in-Some-node.pair.0, c.update.new.arg2))) (held_entry c.self.inside.weights.items c.self.inside.list c.self.invariant c.args.self.now c.self.view_is c.args.place c.requires.at c.in-Some-node.pair.0 c.update.new.arg2 (get_or c.self.inside.weights.items c.args.place 0) (with_item c.self.inside.list c.args.place (Some (c.in-Some-node.pair.0, c.update.new.arg2))) refl c.self.inside.weights.items refl refl (λ q ne. refl))

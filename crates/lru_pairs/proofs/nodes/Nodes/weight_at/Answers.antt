@@ -1,14 +1,14 @@
-use Rattle.std.proofs.Common.{rules, ◌≡◌, ◌+◌, ◌<◌, ◌≤◌, ◌==◌, ◌∷◌, ◌++◌, [], Some, IsSome, IfOk, OnOk, OnErr, not, length, map, nat_lt, if◌then◌else◌, ℕ, ◌-◌, ◌*◌, ◌/◌, ◌%◌, Bool, true, false, nat_eq, List, slice_index_or, slice_set, bit_and, bit_or, Fits, w8, w32, w64, Bor, MutBor}
+use Rattle.std.proofs.Common.{ap, sym, subst, ◌<◌, ◌∙◌, Some}
 use Rattle.std.specs.Option.{option_map}
-use Rattle.lru_rows.specs.Rows.{recency, row_at, IsAt, placed, taken, without, promoted, demoted, with_weight, first_row, last_row, Pushes, MakesVacancy, UpdatesAt}
-use Rattle.lru_pairs.specs.Pairs.{with_entry}
-use Rattle.lru_pairs.specs.Representation.Nodes.{laid, IsLaid, with_rows, keys_at}
+use Rattle.std.proofs.lemmas.Grind.{get_or_default_zero}
+use Rattle.lru_rows.specs.Rows.{Placed}
+use Rattle.lru_pairs.proofs.Seen.{weighed, row}
 use Rattle.lru_pairs.proofs.nodes.Nodes.weight_at.Goals as goal
 
--- src/nodes.rt:124:9
 pub index-requires : goal.index-requires
-index-requires g c = ?
+index-requires g c = subst (λ n. c.args.place < n) (sym c.self.inside.weights.ok.0) (weighed c.self.inside.weights.items c.self.inside.list c.self.invariant c.args.self.now c.self.view_is c.args.place c.requires)
 
--- src/nodes.rt:119:5
 pub returns : goal.returns
-returns g c = ?
+returns g c =
+    ap (option_map (λ (r : Placed g.row.K.Denot g.row.V.Denot). r.weight)) (row c.self.inside.weights.items c.self.inside.list c.self.invariant c.args.self.now c.self.view_is c.args.place c.requires)
+    ∙ ap Some (sym (c.index.ensures ∙ get_or_default_zero c.self.inside.weights.items c.args.place c.index.result.now (weighed c.self.inside.weights.items c.self.inside.list c.self.invariant c.args.self.now c.self.view_is c.args.place c.requires)))
