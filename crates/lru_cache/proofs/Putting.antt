@@ -9,11 +9,17 @@ use Rattle.lru_entries.specs.declared.entry.Entry.{Entry}
 use Rattle.lru_cache.specs.declared.cache.Refused.{Refused}
 use Rattle.lru_cache.specs.declared.cache.Cause.{Cause}
 use Rattle.lru_cache.specs.declared.cache.Cause.TheVariants.{TooHeavy, Full, Memory}
-use Rattle.lru_cache.specs.Cache.{Cached, entry_of, without, Fit, IsCache, HasPlace, MakesPlace, MayRefuse, Leaves, PutsFirst, Puts, with_entries, used}
+use Rattle.lru_cache.specs.Cache.{Cached, entry_of, without, Fit, IsCache, HasPlace, MakesPlace, MayRefuse, Leaves, PutsFirst, Puts, Settles, with_entries, used}
 use Rattle.lru_entries.specs.Entries.{entry, weight_of}
 use Rattle.lru_rows.specs.Rows.{Recency}
 use Rattle.lru_cache.specs.Representation.{cached_in}
 use Rattle.lru_entries.proofs.Rows.{by_bool}
+
+same_head : {A : Type 0} (a b : A) (xs ys : List A) → a ∷ xs ≡ b ∷ ys → a ≡ b
+same_head a b xs ys e = cc
+
+same_tail : {A : Type 0} (a b : A) (xs ys : List A) → a ∷ xs ≡ b ∷ ys → xs ≡ ys
+same_tail a b xs ys e = cc
 
 pub none_is : {A : Type 0} (o : Option A) → is_some o ≡ false → o ≡ None
 none_is None e = refl
@@ -181,6 +187,46 @@ module _ {K V : Type 0} (eq : K → K → Bool) where
       refuses Step visit v cause new made r cause_is key_is value_is =
           let told = refuse cause new (subst (λ c. MakesPlace c w (Err cause) new) unremoved made) in
           (subst (MayRefuse eq old key w) (sym cause_is) told.0, (key_is, (value_is, told.1)))
+
+  -- an entry that was put in place of its key's, and the others go that have to
+  module _ (old : Cached K V) (valid : IsCache eq old) (key : K) (v : V) (w u : ℕ) (m : Cached K V) (m_is : m ≡ with_entries old (entry key v u ∷ without eq old.entries key)) (e : Entry K V) (had : entry_of eq old.entries key ≡ Some e) where
+    one_fewer : length (without eq old.entries key) + 1 ≤ length old.entries
+    one_fewer = one_less old.entries key (ap is_some had)
+
+    entries_now : m.entries ≡ entry key v u ∷ without eq old.entries key
+    entries_now = ap (λ (c : Cached K V). c.entries) m_is
+
+    pub some_put : 0 < length m.entries
+    some_put = omega (arith, ap length entries_now)
+
+    same_places : (es : List (Entry K V)) → with_entries m es ≡ with_entries old es
+    same_places es =
+        ap (λ (c : Cached K V). with_entries c es) m_is
+        ∙ ap (λ n. record { entries = es; places = n; most_weight = old.most_weight; most_entries = old.most_entries }) (omega (arith, valid.placed, one_fewer))
+
+    pub settled_puts : {F : Type 0} (Step : F → Entry K V → F → Type 0) (visit : F) (new : Cached K V) → (w ≤ old.most_weight) × (0 < old.most_entries) → Settles Step visit m w new → Puts eq Step visit old key v w (Ok (Some e)) new
+    settled_puts Step visit new fits (x, (rest, (is, (front, (gone, (l, (shown, new_is))))))) =
+        let whole : x ∷ rest ≡ entry key v u ∷ without eq old.entries key = sym is ∙ entries_now in (
+          fits,
+          (
+            sym had,
+            (
+              front,
+              (
+                gone,
+                (
+                  subst (λ a. Leaves (a - w) (old.most_entries - 1) (without eq old.entries key) front gone) (ap (λ (c : Cached K V). c.most_weight) m_is)
+                      (subst (λ n. Leaves (m.most_weight - w) (n - 1) (without eq old.entries key) front gone) (ap (λ (c : Cached K V). c.most_entries) m_is)
+                      (subst (λ es. Leaves (m.most_weight - w) (m.most_entries - 1) es front gone) (same_tail x (entry key v u) rest (without eq old.entries key) whole) l)),
+                  (
+                    shown,
+                    new_is ∙ ap (λ (y : Entry K V). with_entries m (entry y.key y.value w ∷ front)) (same_head x (entry key v u) rest (without eq old.entries key) whole) ∙ same_places (entry key v w ∷ front),
+                  ),
+                ),
+              ),
+            ),
+          ),
+        )
 
   -- a key without an entry is used by nothing, and one is put of it
   module _ (old : Cached K V) (valid : IsCache eq old) (key : K) (none : entry_of eq old.entries key ≡ None) (m : Cached K V) (m_is : m ≡ with_entries old (used eq old.entries key)) where

@@ -4,13 +4,15 @@ use Rattle.std.specs.Prelude.{Option, Bool, is_some, max, count_by, ◌==◌}
 use Rattle.std.specs.Option.{option_map, option_map_or}
 use Rattle.std.proofs.lemmas.List.{map-append, length-append}
 use Rattle.lru_rows.specs.declared.rows.Taken.{Taken}
-use Rattle.lru_rows.specs.Rows.{last_row, placed, with_value, Updates, UpdatesAt, Placed, Recency, recency, row_at, row_of, IsAt, Finds, IsRecency, promoted, Removes as RowsRemoves, PopsLast as RowsPopsLast, PopsFirst as RowsPopsFirst, demoted as rows_demoted, entry_of as rows_entry_of, without as rows_without}
+use Rattle.lru_rows.specs.Rows.{last_row, placed, with_value, Updates, UpdatesAt, Placed, Recency, recency, row_at, row_of, IsAt, Finds, IsRecency, promoted, taken, Removes as RowsRemoves, PopsLast as RowsPopsLast, PopsFirst as RowsPopsFirst, demoted as rows_demoted, entry_of as rows_entry_of, without as rows_without}
 use Rattle.lru_entries.specs.declared.entry.Entry.{Entry}
 use Rattle.std.specs.Borrow.{MutBor}
 use Rattle.lru_cache.specs.Cache.{IsLast, UpdatesEntry, Cached, entry_of, without, used, demoted, parts_of, with_entries, IsCache, PopsLast, PopsFirst}
 use Rattle.lru_entries.specs.Entries.{entry, weight_of, entry_in, entries_in, weight_in}
 use Rattle.lru_cache.specs.Representation.{cached_in, IsKept}
 use Rattle.lru_entries.proofs.Rows.{last_told, none_told, row_last, some_of, with_value-without, with_value-first, row_first, row_place, weight-entries, length-entries, weight-cons, weight-append, weight-without, length-without}
+use Rattle.lru_pairs.specs.Pairs.{with_entry, SameKey}
+use Rattle.lru_pairs.proofs.Exchanged.{with_entry-first, with_entry-without, found_same}
 use Rattle.lru_cache.proofs.Entries.{row_there, entry-row, keyed-entries, entries-without, absent_without}
 
 -- the greater of two, where that is known
@@ -79,7 +81,7 @@ module _ {K V : Type 0} (eq : K → K → Bool) (r : Recency K V) (used_is most_
         )
 
   module _ (key : K) where
-    found_entry : entry_of eq c.entries key ≡ option_map entry_in (row_of eq r.rows key)
+    pub found_entry : entry_of eq c.entries key ≡ option_map entry_in (row_of eq r.rows key)
     found_entry = ap (λ es. entry_of eq es key) (sym entries_are) ∙ entry-row eq r.rows key
 
     -- what is found
@@ -228,6 +230,45 @@ module _ {K V : Type 0} (eq : K → K → Bool) (r : Recency K V) (used_is most_
               ),
             ),
           )
+
+        -- another pair of an equal key stands in its place
+        module _ (k : K) (v : V) (t : Taken K V) (r' r'' : Recency K V) (is : r' ≡ recency (promoted r.rows p) r.free) (was : option_map taken (row_at r'.rows p) ≡ Some t) (put : r'' ≡ recency (with_entry r'.rows p k v t.weight) r'.free) where
+          moved : r'.rows ≡ finds.0 ∷ rows_without r.rows p
+          moved = ap (λ (x : Recency K V). x.rows) is ∙ first
+
+          pub at_moved : row_at r'.rows p ≡ Some finds.0
+          at_moved = ap (λ rs. row_at rs p) moved ∙ row_first finds.0 (rows_without r.rows p) p place_is
+
+          taken_is : t ≡ taken finds.0
+          taken_is = some_of t (taken finds.0) (sym was ∙ ap (option_map taken) at_moved)
+
+          rows_put : r'' ≡ recency (placed p k v t.weight ∷ rows_without r.rows p) r.free
+          rows_put =
+              put ∙ ap (λ n. recency (with_entry r'.rows p k v t.weight) n) (ap (λ (x : Recency K V). x.free) is)
+              ∙ ap (λ rs. recency rs r.free)
+              (ap (λ rs. with_entry rs p k v t.weight) moved ∙ with_entry-first p k v t.weight finds.0 (rows_without r.rows p) place_is
+              ∙ ap (λ rs. placed p k v t.weight ∷ rs) (with_entry-without p k v t.weight r.rows))
+
+          pub kept_put : IsKept r'' used_is most_weight most_entries
+          kept_put = subst (λ x. IsKept x used_is most_weight most_entries) (sym rows_put) (record {
+            used_is = omega (arith, kept.used_is, as_heavy, weight-cons (placed p k v t.weight) (rows_without r.rows p), ap (λ (x : Taken K V). x.weight) taken_is);
+            light = kept.light;
+            few = omega (arith, kept.few, as_long);
+          })
+
+          pub view_put : cached_in r'' most_weight most_entries ≡ with_entries c (entry k v t.weight ∷ without eq c.entries key)
+          view_put =
+              ap (λ x. cached_in x most_weight most_entries) rows_put
+              ∙ with_rows (placed p k v t.weight ∷ rows_without r.rows p) r.free (omega (arith, as_long))
+              ∙ ap (λ es. with_entries c (entry k v t.weight ∷ es)) others
+
+          pub entry_put : entry_of eq c.entries key ≡ Some (entry t.key t.value t.weight)
+          entry_put = found_entry ∙ ap (option_map entry_in) finds.1 ∙ ap (λ (x : Taken K V). Some (entry x.key x.value x.weight)) (sym taken_is)
+
+        -- the key that stands there equals the one that was asked for
+        pub same_there : (r' : Recency K V) → r' ≡ recency (promoted r.rows p) r.free → SameKey eq r'.rows p key
+        same_there r' is =
+            (finds.0, ap (λ rs. row_at rs p) (ap (λ (x : Recency K V). x.rows) is ∙ first) ∙ row_first finds.0 (rows_without r.rows p) p place_is, found_same eq r.rows key finds.0 finds.1)
 
       -- the key's entry is taken out
       module _ (t : Taken K V) (r' : Recency K V) (removes : RowsRemoves eq r key (Some t) r') where

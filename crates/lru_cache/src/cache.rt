@@ -11,9 +11,9 @@ use lru_entries::keeping::{retain, retain_last};
 use lru_entries::shrinking::{fits, shrink};
 use lru_index::hashing::SeededHashes;
 use lru_index::keys::Query;
-use lru_list::linked_list::LinkedListIter;
-use lru_rows::iter::RowsEntries;
-use lru_rows::rows::{NoPlace, Rows};
+use lru_pairs::iter::{PairsEntries, PairsKeys};
+use lru_pairs::pairs::Pairs;
+use lru_rows::rows::NoPlace;
 use std::alloc::{AllocError, Global};
 use std::error::Error;
 use std::fmt;
@@ -87,7 +87,7 @@ pub enum NotPut<K, V, E> {
 /// is free take memory.
 #[derive(Drop)]
 pub struct Cache<K: Hash, V, S: BuildHasher = SeededHashes> {
-    rows: Rows<K, V, S>,
+    rows: Pairs<K, V, S>,
     weight: usize,
     most_weight: usize,
     most_entries: usize,
@@ -106,7 +106,7 @@ impl<K: Hash, V, S: BuildHasher> Model for Cache<K, V, S> {
     ghost invariant = { λ c. IsKept c.rows c.weight c.most_weight c.most_entries };
 }
 
-impl<K: Hash + Default + Drop, V: Drop> Cache<K, V, SeededHashes> {
+impl<K: Hash + Drop, V: Drop> Cache<K, V, SeededHashes> {
     /// A cache of no entries, of at most `most_entries`, which may weigh `most_weight` together. The seed of the hashes
     /// stays the same from run to run.
     ///
@@ -117,7 +117,7 @@ impl<K: Hash + Default + Drop, V: Drop> Cache<K, V, SeededHashes> {
         ensures { IfOk result (λ cache. cache ≡ empty most_weight most_entries) }
     {
         Ok(Cache {
-            rows: Rows::with_capacity(alloc, 0)?,
+            rows: Pairs::with_capacity(alloc, 0)?,
             weight: 0,
             most_weight,
             most_entries,
@@ -139,7 +139,7 @@ impl<K: Hash + Default + Drop, V: Drop> Cache<K, V, SeededHashes> {
         ensures { IfOk result (λ cache. cache ≡ empty most_weight most_entries) }
     {
         Ok(Cache {
-            rows: Rows::with_capacity_and_seed(alloc, 0, seed)?,
+            rows: Pairs::with_capacity_and_seed(alloc, 0, seed)?,
             weight: 0,
             most_weight,
             most_entries,
@@ -240,14 +240,14 @@ impl<K: Hash, V, S: BuildHasher> Cache<K, V, S> {
     }
 
     /// The keys, most recent first.
-    pub fn keys(&self) -> LinkedListIter<'_, K>
+    pub fn keys(&self) -> PairsKeys<'_, K, V>
         ensures { result ≡ map (λ e. e.key) self.now.entries }
     {
         self.rows.keys()
     }
 
     /// The key, the value and the weight of each entry, most recent first. None is used by that.
-    pub fn iter(&self) -> RowsEntries<'_, K, V>
+    pub fn iter(&self) -> PairsEntries<'_, K, V>
         ensures { result ≡ map parts_of self.now.entries }
     {
         self.rows.entries()
@@ -321,7 +321,7 @@ impl<K: Hash, V, S: BuildHasher> Cache<K, V, S> {
     }
 }
 
-impl<K: Hash + Default + Drop, V: Drop, S: BuildHasher> Cache<K, V, S> {
+impl<K: Hash + Drop, V: Drop, S: BuildHasher> Cache<K, V, S> {
     /// Puts an entry first, in place of its key's, and answers that one. Then the entries that were used longest ago go,
     /// as many as have to for the others to be within the limits, and each is handed to `visit`.
     ///
@@ -343,14 +343,21 @@ impl<K: Hash + Default + Drop, V: Drop, S: BuildHasher> Cache<K, V, S> {
         if weight > self.most_weight || self.most_entries == 0 {
             return Err(Refused::new(Cause::TooHeavy, key, value));
         }
-        let was = self.remove(&key);
-        if was.is_none() {
-            if let Err(cause) = self.make_place(weight) {
-                return Err(Refused::new(cause, key, value));
-            }
+        if let Some(place) = self.rows.find(&key) {
+            self.rows.promote(place);
+            let was = self.rows.exchange(place, key, value);
+            self.settle(weight, visit);
+            return Ok(Some(Entry {
+                key: was.key,
+                value: was.value,
+                weight: was.weight,
+            }));
+        }
+        if let Err(cause) = self.make_place(weight) {
+            return Err(Refused::new(cause, key, value));
         }
         self.put_first(key, value, weight, visit);
-        Ok(was)
+        Ok(None)
     }
 
     /// Puts an entry whose weight `weigh` tells by its key and its value, as `put` does.

@@ -8,7 +8,7 @@ ghost use Rattle.lru_deadlines.specs.Deadlines.{until, living, PromotesLiving, U
 use lru_cache::cache::{Cache, Entry, Refused};
 use lru_index::hashing::SeededHashes;
 use lru_index::keys::Query;
-use lru_rows::iter::RowsEntries;
+use lru_pairs::iter::PairsEntries;
 use std::alloc::{AllocError, Global};
 use std::hash::{BuildHasher, Hash};
 use std::marker::Model;
@@ -56,7 +56,7 @@ impl<K: Hash, V, S: BuildHasher> Model for DeadlineCache<K, V, S> {
     ghost view = { λ d. d.cache };
 }
 
-impl<K: Hash + Default + Drop, V: Drop> DeadlineCache<K, V, SeededHashes> {
+impl<K: Hash + Drop, V: Drop> DeadlineCache<K, V, SeededHashes> {
     /// A cache of no entries, of at most `most_entries`, which may weigh `most_weight` together. The seed of the hashes
     /// stays the same from run to run.
     ///
@@ -185,14 +185,14 @@ impl<K: Hash, V, S: BuildHasher> DeadlineCache<K, V, S> {
 
     /// The key, the value with its deadline, and the weight of each entry, most recent first, with those that are past their
     /// deadline. None is used by that.
-    pub fn iter(&self) -> RowsEntries<'_, K, Until<V>>
+    pub fn iter(&self) -> PairsEntries<'_, K, Until<V>>
         ensures { result ≡ map parts_of self.now.entries }
     {
         self.cache.iter()
     }
 }
 
-impl<K: Hash + Default + Drop, V: Drop, S: BuildHasher> DeadlineCache<K, V, S> {
+impl<K: Hash + Drop, V: Drop, S: BuildHasher> DeadlineCache<K, V, S> {
     /// Puts an entry first, in place of its key's, and answers that one, also where it was past its deadline. Then the
     /// entries that were used longest ago go, as many as have to for the others to be within the limits, and each is handed
     /// to `visit`. A deadline that is past already is taken as any other.

@@ -2,13 +2,13 @@
 ghost use Rattle.lru_entries.specs.Partings.{DrainsRows};
 
 use crate::entry::Entry;
-use lru_rows::rows::Rows;
+use lru_pairs::pairs::Pairs;
 use std::hash::{BuildHasher, Hash};
 
 /// Takes all rows out from the first on, and hands each to `visit`.
-pub fn drain<K, V, S, F>(rows: &mut Rows<K, V, S>, mut visit: F)
+pub fn drain<K, V, S, F>(rows: &mut Pairs<K, V, S>, mut visit: F)
 where
-    K: Hash + Default + Drop,
+    K: Hash + Drop,
     V: Drop,
     S: BuildHasher,
     F: FnMut(Entry<K, V>) + Drop,

@@ -4,13 +4,13 @@ ghost use Rattle.lru_entries.specs.Entries.{weight_in};
 ghost use Rattle.lru_entries.specs.Partings.{AsksLast, PutsBack, RetainsLastRows, RetainsRows};
 
 use crate::entry::Entry;
-use lru_rows::rows::Rows;
+use lru_pairs::pairs::Pairs;
 use std::hash::{BuildHasher, Hash};
 
 /// Asks `keep` of each row, the last first, takes out those for which it answers false, and answers what the others weigh.
-pub fn retain<K, V, S, F>(rows: &mut Rows<K, V, S>, used: usize, keep: F) -> usize
+pub fn retain<K, V, S, F>(rows: &mut Pairs<K, V, S>, used: usize, keep: F) -> usize
 where
-    K: Hash + Default + Drop,
+    K: Hash + Drop,
     V: Drop,
     S: BuildHasher,
     F: FnMut(&K, &V, usize) -> bool + Drop,
@@ -28,14 +28,14 @@ where
 /// Asks `keep` of the last rows, of `most` at most, the last first, takes out those for which it answers false, hands each
 /// to `visit`, and answers what the others weigh, which stay in their order.
 pub fn retain_last<K, V, S, F, G>(
-    rows: &mut Rows<K, V, S>,
+    rows: &mut Pairs<K, V, S>,
     used: usize,
     most: usize,
     keep: F,
     visit: G,
 ) -> usize
 where
-    K: Hash + Default + Drop,
+    K: Hash + Drop,
     V: Drop,
     S: BuildHasher,
     F: FnMut(&K, &V, usize) -> bool + Drop,
@@ -55,14 +55,14 @@ where
 // as they are asked of, so that no place in the order has to be remembered. It answers what all weigh then, and how many
 // went first.
 fn ask_last<K, V, S, F, G>(
-    rows: &mut Rows<K, V, S>,
+    rows: &mut Pairs<K, V, S>,
     used: usize,
     most: usize,
     mut keep: F,
     mut visit: G,
 ) -> (usize, usize)
 where
-    K: Hash + Default + Drop,
+    K: Hash + Drop,
     V: Drop,
     S: BuildHasher,
     F: FnMut(&K, &V, usize) -> bool + Drop,
@@ -101,9 +101,9 @@ where
 }
 
 // Puts the first rows last, so many, in their order.
-fn put_back<K, V, S>(rows: &mut Rows<K, V, S>, count: usize)
+fn put_back<K, V, S>(rows: &mut Pairs<K, V, S>, count: usize)
 where
-    K: Hash + Default + Drop,
+    K: Hash + Drop,
     V: Drop,
     S: BuildHasher,
     requires { count ≤ length rows.old.rows }

@@ -4,20 +4,20 @@ ghost use Rattle.lru_entries.specs.Entries.{weight_in};
 ghost use Rattle.lru_entries.specs.Partings.{Shrinks};
 
 use crate::entry::Entry;
-use lru_rows::rows::Rows;
+use lru_pairs::pairs::Pairs;
 use std::hash::{BuildHasher, Hash};
 
 /// Takes rows out from the last on, until they weigh at most `most_weight` and are at most `most_rows`, hands each to
 /// `visit`, and answers what the others weigh.
 pub fn shrink<K, V, S, F>(
-    rows: &mut Rows<K, V, S>,
+    rows: &mut Pairs<K, V, S>,
     used: usize,
     most_weight: usize,
     most_rows: usize,
     mut visit: F,
 ) -> usize
 where
-    K: Hash + Default + Drop,
+    K: Hash + Drop,
     V: Drop,
     S: BuildHasher,
     F: FnMut(Entry<K, V>) + Drop,

@@ -2,3 +2,4 @@ pub mod Laid
 pub mod Seen
 pub mod Shown
 pub mod Kept
+pub mod Exchanged

@@ -296,23 +296,18 @@ impl<K: Drop, V: Drop> Nodes<K, V> {
         }
     }
 
-    /// Puts another key, another value and another weight at a place, and answers what stood there.
+    /// Puts another key and another value at a place, and answers those that stood there, with the weight, which stays.
     #[inline(always)]
-    pub(crate) fn exchange(&mut self, place: Place, key: K, value: V, weight: usize) -> Taken<K, V>
+    pub(crate) fn exchange(&mut self, place: Place, key: K, value: V) -> Taken<K, V>
         requires { IsAt self.old.held.rows place }
         ensures taken { option_map taken (row_at self.old.held.rows place) ≡ Some result }
-        ensures rows { self.new ≡ with_rows self.old (with_entry self.old.held.rows place key value weight) }
+        ensures rows { self.new ≡ with_rows self.old (with_entry self.old.held.rows place key value result.weight) }
         ensures valid { IsLaid self.new }
     {
-        let was = self.weights[place as usize];
-        self.weights[place as usize] = weight;
+        let weight = self.weights[place as usize];
         match self.list.peek_mut(place as usize) {
             Some(node) => match node.replace((key, value)) {
-                Some((key, value)) => Taken {
-                    key,
-                    value,
-                    weight: was,
-                },
+                Some((key, value)) => Taken { key, value, weight },
                 None => unreachable!(),
             },
             None => unreachable!(),

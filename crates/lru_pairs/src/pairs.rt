@@ -333,14 +333,14 @@ impl<K: Hash + Drop, V: Drop, S: BuildHasher> Pairs<K, V, S> {
         Some(taken)
     }
 
-    /// Puts an equal key, another value and another weight at a place, and answers what stood there.
+    /// Puts an equal key and another value at a place, and answers those that stood there, with the weight, which stays.
     #[inline(always)]
-    pub fn exchange(&mut self, place: Place, key: K, value: V, weight: usize) -> Taken<K, V>
+    pub fn exchange(&mut self, place: Place, key: K, value: V) -> Taken<K, V>
         requires { SameKey K.eq self.old.rows place key }
         ensures old { option_map taken (row_at self.old.rows place) ≡ Some result }
-        ensures rows { self.new ≡ recency (with_entry self.old.rows place key value weight) self.old.free }
+        ensures rows { self.new ≡ recency (with_entry self.old.rows place key value result.weight) self.old.free }
     {
-        self.nodes.exchange(place, key, value, weight)
+        self.nodes.exchange(place, key, value)
     }
 }
 

@@ -9,4 +9,4 @@ pub invariant_of-self : goal.invariant_of-self
 invariant_of-self g c =
     let same = subst (λ r. SameKey g.K.PartialEq.eq r.rows c.args.place c.args.key) (sym c.self.view_is) c.requires in
     kept_entry g.K.PartialEq.eq (key_hash g.S.BuildHasher g.S.Hasher.Hasher g.K.Hash.hash_input) c.self.inside.nodes c.self.inside.index c.self.invariant g.met.K.Eq.laws (λ s x y e. ap (hash_by g.S.BuildHasher g.S.Hasher.Hasher s) (g.met.K.Hash.respects_eq x y e))
-    c.args.place c.args.key c.args.value c.args.weight same.0 same.1 same.2 c.exchange.new.self c.exchange.ensures.rows c.exchange.ensures.valid
+    c.args.place c.args.key c.args.value c.exchange.result.weight same.0 same.1 same.2 c.exchange.new.self c.exchange.ensures.rows c.exchange.ensures.valid
