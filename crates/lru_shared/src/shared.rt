@@ -56,7 +56,7 @@ impl<K: Hash, V, S: BuildHasher> Shard<K, V, S> {
     }
 }
 
-impl<K: Hash + Default + Drop, V: Drop, S: BuildHasher> Shard<K, V, S> {
+impl<K: Hash + Drop, V: Drop, S: BuildHasher> Shard<K, V, S> {
     // Puts what was made, and answers a clone of its value. Who waits for it is woken in any case.
     fn put_made<E: Drop, F>(
         &self,
@@ -128,7 +128,7 @@ pub struct SharedCache<K: Hash, V, const N: usize, S: BuildHasher = SeededHashes
 }
 
 // Shards without entries, each under its part of the limits.
-fn empty_shards<K: Hash + Default + Drop, V: Drop, const N: usize>(
+fn empty_shards<K: Hash + Drop, V: Drop, const N: usize>(
     alloc: Global,
     most_weight: usize,
     most_entries: usize,
@@ -148,7 +148,7 @@ fn empty_shards<K: Hash + Default + Drop, V: Drop, const N: usize>(
     Ok(shards)
 }
 
-impl<K: Hash + Default + Drop, V: Drop, const N: usize> SharedCache<K, V, N, SeededHashes> {
+impl<K: Hash + Drop, V: Drop, const N: usize> SharedCache<K, V, N, SeededHashes> {
     /// A cache of no entries, of at most `most_entries`, which may weigh `most_weight` together, each limit divided among
     /// the shards. The seed of the hashes stays the same from run to run.
     ///
@@ -350,7 +350,7 @@ impl<K: Hash, V, const N: usize, S: BuildHasher> SharedCache<K, V, N, S> {
     }
 }
 
-impl<K: Hash + Default + Drop, V: Drop, const N: usize, S: BuildHasher> SharedCache<K, V, N, S> {
+impl<K: Hash + Drop, V: Drop, const N: usize, S: BuildHasher> SharedCache<K, V, N, S> {
     /// Puts an entry first in the shard of its key, in place of its key's, and answers that one. Then the entries of that
     /// shard that were used longest ago go, as many as have to for the others to be within the shard's part of the limits,
     /// and each is handed to `visit`, under the lock.

@@ -18,7 +18,7 @@ pub(crate) struct Shelf<K: Hash, V, S: BuildHasher> {
     making: Vec<u64>,
 }
 
-impl<K: Hash + Default + Drop, V: Drop> Shelf<K, V, SeededHashes> {
+impl<K: Hash + Drop, V: Drop> Shelf<K, V, SeededHashes> {
     // One of `shards` shelves without entries, under its part of the limits.
     pub(crate) fn new(
         alloc: Global,
@@ -178,7 +178,7 @@ impl<K: Hash, V, S: BuildHasher> Shelf<K, V, S> {
     }
 }
 
-impl<K: Hash + Default + Drop, V: Drop, S: BuildHasher> Shelf<K, V, S> {
+impl<K: Hash + Drop, V: Drop, S: BuildHasher> Shelf<K, V, S> {
     // As `put` of a cache.
     pub(crate) fn put<F: FnMut(Entry<K, V>) + Drop>(
         &mut self,
