@@ -12,8 +12,7 @@ const SPREAD: u64 = 0x9e37_79b9_7f4a_7c15;
 pub struct Texts {
     alloc: Global,
     texts: Vec<String>,
-    // (a key has to have a default, which a text has not)
-    cache: Cache<Option<String>, u64>,
+    cache: Cache<String, u64>,
 }
 
 fn text_of(alloc: Global, number: u64) -> Result<String, AllocError> {
@@ -42,7 +41,7 @@ impl Order for Texts {
             return false;
         };
         match String::from_str(self.alloc, text) {
-            Ok(text) => self.cache.put(Some(text), key, 1, |_| {}).is_ok(),
+            Ok(text) => self.cache.put(text, key, 1, |_| {}).is_ok(),
             Err(_) => false,
         }
     }
@@ -54,8 +53,9 @@ impl Order for Texts {
     fn promote(&mut self, key: u64) -> bool {
         match self.texts.get(key as usize) {
             Some(text) => {
-                let query = Some(text.as_str());
-                self.cache.update_by(query, |value, _| *value).is_some()
+                self.cache
+                .update_by(text.as_str(), |value, _| *value)
+                .is_some()
             }
             None => false,
         }
@@ -63,21 +63,21 @@ impl Order for Texts {
 
     fn peek(&self, key: u64) -> bool {
         match self.texts.get(key as usize) {
-            Some(text) => self.cache.peek_by(Some(text.as_str())).is_some(),
+            Some(text) => self.cache.peek_by(text.as_str()).is_some(),
             None => false,
         }
     }
 
     fn peek_weight(&self, key: u64) -> bool {
         match self.texts.get(key as usize) {
-            Some(text) => self.cache.weight_by(Some(text.as_str())).is_some(),
+            Some(text) => self.cache.weight_by(text.as_str()).is_some(),
             None => false,
         }
     }
 
     fn remove(&mut self, key: u64) -> bool {
         match self.texts.get(key as usize) {
-            Some(text) => self.cache.remove_by(Some(text.as_str())).is_some(),
+            Some(text) => self.cache.remove_by(text.as_str()).is_some(),
             None => false,
         }
     }
