@@ -45,14 +45,19 @@ unfoldable pub blocks_mixed : SeededHasher → List ℕ → ℕ → SeededHasher
 blocks_mixed h bytes zero = h
 blocks_mixed h bytes (suc n) = mixed (blocks_mixed h bytes n) (number_at bytes (16 * n) 8) (number_at bytes (16 * n + 8) 8)
 
--- after a write: of up to eight bytes their word, twice, else all blocks that have bytes behind them, and then the last 16 bytes,
--- or where there are fewer the first eight and the last eight
+-- after two words of a number, each of which goes into both factors
+unfoldable pub mixed_across : SeededHasher → ℕ → ℕ → SeededHasher
+mixed_across h a b = let sum = (a + b) % 2 ^ 64 in mixed h (bit_xor a (rotate_left w64 sum 32)) sum
+
+-- after a write: of up to eight bytes their word, of up to sixteen the first eight and the last eight, else all blocks that
+-- have bytes behind them, and then the last sixteen
 unfoldable pub written : SeededHasher → List ℕ → SeededHasher
 written h bytes =
     let n = length bytes in
     let start = turned h n in
     if nat_le n 8 then mixed start (short_word bytes) (short_word bytes)
-    else mixed (blocks_mixed start bytes ((n - 1) / 16)) (number_at bytes (n - 16) 8) (number_at bytes (n - 8) 8)
+    else (if nat_le n 16 then mixed_across start (number_at bytes 0 8) (number_at bytes (n - 8) 8)
+    else mixed (blocks_mixed start bytes ((n - 1) / 16)) (number_at bytes (n - 16) 8) (number_at bytes (n - 8) 8))
 
 -- ---- seeds
 -- a number whose bits each hang on all bits of the one that is given, the last step of the generator SplitMix64

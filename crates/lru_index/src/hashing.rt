@@ -67,16 +67,17 @@ impl Hasher for SeededHasher {
     fn write(&mut self, bytes: &[u8]) {
         let len = bytes.len();
         self.turn(len);
-        let (first, second) = if len <= 8 {
-            // Were it in one factor alone, some seeds would give runs of numbers long chains.
+        // Each word of a number goes into both factors: else some seeds would give runs of numbers long chains.
+        let (first, second) = if len > 16 {
+            self.mix_blocks(bytes);
+            (read_word(bytes, len - 16), read_word(bytes, len - 8))
+        } else if len > 8 {
+            let low = read_word(bytes, 0);
+            let sum = low.wrapping_add(read_word(bytes, len - 8));
+            (low ^ sum.rotate_left(32), sum)
+        } else {
             let word = read_short(bytes);
             (word, word)
-        } else {
-            self.mix_blocks(bytes);
-            (
-                read_word(bytes, len.saturating_sub(16)),
-                read_word(bytes, len - 8),
-            )
         };
         self.mix(first, second);
     }
