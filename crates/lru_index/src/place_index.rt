@@ -1,9 +1,6 @@
 //! An index from keys to places.
 ghost use Rattle.std.specs.Prelude.{◌≡◌, ◌<◌, ◌≤◌, IfOk, IfErr};
-ghost use Rattle.std.specs.Hash as fed;
-ghost use Rattle.std.specs.Hash.FoldHasher as folding;
-ghost use Rattle.std.specs.List.{fold};
-ghost use Rattle.lru_index.specs.Hashing.{key_hash};
+ghost use Rattle.lru_index.specs.Hashing.{key_hash, seeded, unseeded};
 ghost use Rattle.lru_index.specs.Index.{room_of, IsEmpty, IsFree, Finds, Inserts, Knows, Drops, gone_at, Indexes};
 
 use crate::cells::{
@@ -53,7 +50,7 @@ impl PlaceIndex<SeededHashes> {
     pub fn with_capacity(alloc: Global, places: u32) -> Result<Self, AllocError>
         ensures empty { IfOk result IsEmpty }
         ensures room { IfOk result (λ index. places ≤ room_of index) }
-        ensures hashes { IfOk result (λ index. index.hash_builder.initial ≡ folding.initial) }
+        ensures hashes { IfOk result (λ index. index.hash_builder.initial ≡ unseeded) }
     {
         PlaceIndex::with_capacity_and_hasher(alloc, places, SeededHashes::fixed())
     }
@@ -66,7 +63,7 @@ impl PlaceIndex<SeededHashes> {
     pub fn with_capacity_and_seed(alloc: Global, places: u32, seed: u64) -> Result<Self, AllocError>
         ensures empty { IfOk result IsEmpty }
         ensures room { IfOk result (λ index. places ≤ room_of index) }
-        ensures hashes { IfOk result (λ index. index.hash_builder.initial ≡ fold folding.write folding.initial (fed.u64 seed)) }
+        ensures hashes { IfOk result (λ index. index.hash_builder.initial ≡ seeded seed) }
     {
         PlaceIndex::with_capacity_and_hasher(alloc, places, SeededHashes::with_seed(seed))
     }

@@ -3,6 +3,8 @@
 #![tactic(auto)]
 
 #[cfg(test)]
+mod hashing_tests;
+#[cfg(test)]
 mod iter_tests;
 #[cfg(test)]
 mod linked_list_tests;
