@@ -57,7 +57,7 @@ impl<'a, K: Hash + Clone + Stored, V: Clone + Stored> Source<K, V> for CacheSour
 }
 
 // Puts an entry, unless it is too heavy by itself; whether it is.
-fn is_left_out<K: Hash + Default + Drop, V: Drop, S: BuildHasher>(
+fn is_left_out<K: Hash + Drop, V: Drop, S: BuildHasher>(
     cache: &mut Cache<K, V, S>,
     row: Row<K, V>,
 ) -> Result<bool, Refused<K, V>>
@@ -78,7 +78,7 @@ fn is_left_out<K: Hash + Default + Drop, V: Drop, S: BuildHasher>(
 ///
 /// A refusal is that of `put` for want of memory, or of a place: key and value are handed back, the entries behind them are
 /// there, and those before are dropped.
-pub fn restore_cache<K: Hash + Default + Drop, V: Drop, S: BuildHasher>(
+pub fn restore_cache<K: Hash + Drop, V: Drop, S: BuildHasher>(
     cache: &mut Cache<K, V, S>,
     mut rows: Vec<Row<K, V>>,
 ) -> Result<usize, Refused<K, V>>
@@ -100,7 +100,7 @@ pub fn restore_cache<K: Hash + Default + Drop, V: Drop, S: BuildHasher>(
 /// left out, or the most that can be told where they are more.
 ///
 /// A refusal is that of `restore_cache`: the entries of the shards before are there, and those of the shards behind are dropped.
-pub fn restore_shards<K: Hash + Default + Drop, V: Drop, S: BuildHasher>(
+pub fn restore_shards<K: Hash + Drop, V: Drop, S: BuildHasher>(
     cache: &mut Cache<K, V, S>,
     shards: Vec<Vec<Row<K, V>>>,
 ) -> Result<usize, Refused<K, V>>

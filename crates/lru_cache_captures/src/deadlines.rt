@@ -3,7 +3,7 @@ ghost use Rattle.std.specs.Prelude.{IfOk, map, reverse};
 ghost use Rattle.lru_cache.specs.Cache.{parts_of};
 ghost use Rattle.lru_frames.specs.Copies.{AreEach};
 ghost use Rattle.lru_cache_captures.specs.Captures.{PutsEntries, PutsOrLeaves};
-ghost use Rattle.lru_cache_captures.specs.Deadlines.{IsDeadlineCopy, until_row};
+ghost use Rattle.lru_cache_captures.specs.Deadlines.{IsDeadlineCopy, PutsDeadlines, until_row};
 
 use lru_cache::cache::{Cause, Refused};
 use lru_deadlines::deadlines::{DeadlineCache, Until};
@@ -63,7 +63,7 @@ impl<'a, K: Hash + Clone + Stored, V: Clone + Stored> Source<K, (V, u64)>
 }
 
 // Puts an entry, unless it is too heavy by itself; whether it is.
-fn is_left_out<K: Hash + Default + Drop, V: Drop, S: BuildHasher>(
+fn is_left_out<K: Hash + Drop, V: Drop, S: BuildHasher>(
     cache: &mut DeadlineCache<K, V, S>,
     row: Row<K, (V, u64)>,
 ) -> Result<bool, Refused<K, Until<V>>>
@@ -80,7 +80,7 @@ fn is_left_out<K: Hash + Default + Drop, V: Drop, S: BuildHasher>(
 }
 
 /// Puts entries into the cache with their deadlines, the last first, as `restore_cache` does without them.
-pub fn restore_deadlines<K: Hash + Default + Drop, V: Drop, S: BuildHasher>(
+pub fn restore_deadlines<K: Hash + Drop, V: Drop, S: BuildHasher>(
     cache: &mut DeadlineCache<K, V, S>,
     mut rows: Vec<Row<K, (V, u64)>>,
 ) -> Result<usize, Refused<K, Until<V>>>
@@ -94,6 +94,24 @@ pub fn restore_deadlines<K: Hash + Default + Drop, V: Drop, S: BuildHasher>(
         if is_out {
             left_out += 1;
         }
+    }
+    Ok(left_out)
+}
+
+/// Puts the entries of each shard into the cache with their deadlines, one shard after the other, as `restore_deadlines` does. It
+/// answers how many were left out, or the most that can be told where they are more.
+///
+/// A refusal is that of `restore_deadlines`: the entries of the shards before are there, and those of the shards behind are dropped.
+pub fn restore_shards<K: Hash + Drop, V: Drop, S: BuildHasher>(
+    cache: &mut DeadlineCache<K, V, S>,
+    shards: Vec<Vec<Row<K, (V, u64)>>>,
+) -> Result<usize, Refused<K, Until<V>>>
+    ensures { PutsDeadlines K.eq cache.old shards.items 0 result cache.new }
+{
+    let mut left_out = 0usize;
+    let mut rest = shards.into_iter();
+    while let Some(rows) = rest.next() {
+        left_out = left_out.saturating_add(restore_deadlines(cache, rows)?);
     }
     Ok(left_out)
 }

@@ -59,7 +59,7 @@ impl<'a, R: Wait, K: Hash + Clone + Stored, V: Clone + Stored, const N: usize> S
 }
 
 // Puts an entry, unless it is too heavy by itself; whether it is.
-fn is_left_out<K: Hash + Default + Drop, V: Drop, const N: usize, S: BuildHasher>(
+fn is_left_out<K: Hash + Drop, V: Drop, const N: usize, S: BuildHasher>(
     rt: &impl Wait,
     cache: &SharedCache<K, V, N, S>,
     row: Row<K, V>,
@@ -81,7 +81,7 @@ fn is_left_out<K: Hash + Default + Drop, V: Drop, const N: usize, S: BuildHasher
 ///
 /// A refusal is that of `put` for want of memory, or of a place: key and value are handed back, the entries behind them are
 /// there, and those before are dropped.
-pub fn restore_shard<K: Hash + Default + Drop, V: Drop, const N: usize, S: BuildHasher>(
+pub fn restore_shard<K: Hash + Drop, V: Drop, const N: usize, S: BuildHasher>(
     rt: &impl Wait,
     cache: &SharedCache<K, V, N, S>,
     mut rows: Vec<Row<K, V>>,
@@ -104,7 +104,7 @@ pub fn restore_shard<K: Hash + Default + Drop, V: Drop, const N: usize, S: Build
 /// how many were left out, or the most that can be told where they are more.
 ///
 /// A refusal is that of `restore_shard`: the entries of the shards before are there, and those of the shards behind are dropped.
-pub fn restore_shards<K: Hash + Default + Drop, V: Drop, const N: usize, S: BuildHasher>(
+pub fn restore_shards<K: Hash + Drop, V: Drop, const N: usize, S: BuildHasher>(
     rt: &impl Wait,
     cache: &SharedCache<K, V, N, S>,
     shards: Vec<Vec<Row<K, V>>>,

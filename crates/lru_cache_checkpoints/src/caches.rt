@@ -19,7 +19,7 @@ use lru_checkpoints::errors::CheckpointError;
 use lru_folder::folder::Folder;
 use lru_frames::stored::Stored;
 use lru_generations::generations::{Saved, save};
-use lru_generations::loading::{Checkpoint, Loaded, load};
+use lru_generations::loading::{Loaded, load};
 use lru_synced_folder::synced_folder::SyncedFolder;
 use std::alloc::Global;
 use std::hash::Hash;
@@ -61,7 +61,7 @@ pub fn save_cache<F: SyncedFolder, K: Hash + Clone + Stored, V: Clone + Stored>(
 
 /// Loads the newest checkpoint into a cache: its entries are put, those of each shard the last first, so that what was saved of a
 /// cache stands in an empty one as it stood. Where there is no checkpoint, nothing is put.
-pub fn load_cache<F: Folder, K: Hash + Default + Stored, V: Stored>(
+pub fn load_cache<F: Folder, K: Hash + Stored, V: Stored>(
     alloc: Global,
     folder: &mut F,
     dir: &str,
@@ -89,11 +89,7 @@ pub fn load_cache<F: Folder, K: Hash + Default + Stored, V: Stored>(
     ensures places { F.meaning.keeps folder.old → F.meaning.folders folder.new ≡ F.meaning.folders folder.old }
     ensures kept { F.meaning.keeps folder.old ↔ F.meaning.keeps folder.new }
 {
-    let loaded = match load(alloc, folder, dir, file_name) {
-        Err(error) => return Err(RestoreError::Unloaded(error)),
-        Ok(loaded) => loaded,
-    };
-    let Loaded { newest, passed } = loaded;
+    let Loaded { newest, passed } = load(alloc, folder, dir, file_name)?;
     let Some(checkpoint) = newest else {
         return Ok(Restored {
             generation: None,
@@ -101,13 +97,10 @@ pub fn load_cache<F: Folder, K: Hash + Default + Stored, V: Stored>(
             passed,
         });
     };
-    let Checkpoint { generation, shards } = checkpoint;
-    match restore_shards(cache, shards) {
-        Err(refused) => Err(RestoreError::Refused(refused)),
-        Ok(left_out) => Ok(Restored {
-            generation: Some(generation),
-            left_out,
-            passed,
-        }),
-    }
+    let left_out = restore_shards(cache, checkpoint.shards)?;
+    Ok(Restored {
+        generation: Some(checkpoint.generation),
+        left_out,
+        passed,
+    })
 }

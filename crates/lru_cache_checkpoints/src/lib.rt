@@ -2,5 +2,6 @@
 #![tactic(auto)]
 
 pub mod caches;
+pub mod deadlines;
 pub mod restored;
 pub mod shared;

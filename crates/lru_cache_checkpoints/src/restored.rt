@@ -1,4 +1,6 @@
 //! What a load put back, or why it did not.
+ghost use Rattle.std.specs.Prelude.{◌≡◌};
+ghost use Rattle.lru_cache_checkpoints.specs.declared.restored.RestoreError.TheVariants as why;
 
 use lru_cache::cache::Refused;
 use lru_checkpoints::errors::CheckpointError;
@@ -23,4 +25,20 @@ pub enum RestoreError<K, V> {
     /// An entry was refused for want of memory, or of a place. Key and value are handed back; those that were put before it are
     /// there, and the others are dropped.
     Refused(Refused<K, V>),
+}
+
+impl<K, V> From<CheckpointError> for RestoreError<K, V> {
+    ghost from_gives = { λ error made. made ≡ why.Unloaded error };
+
+    fn from(error: CheckpointError) -> Self {
+        RestoreError::Unloaded(error)
+    }
+}
+
+impl<K, V> From<Refused<K, V>> for RestoreError<K, V> {
+    ghost from_gives = { λ refused made. made ≡ why.Refused refused };
+
+    fn from(refused: Refused<K, V>) -> Self {
+        RestoreError::Refused(refused)
+    }
 }

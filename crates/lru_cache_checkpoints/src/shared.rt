@@ -19,7 +19,7 @@ use lru_checkpoints::errors::CheckpointError;
 use lru_folder::folder::Folder;
 use lru_frames::stored::Stored;
 use lru_generations::generations::{Saved, save};
-use lru_generations::loading::{Checkpoint, Loaded, load};
+use lru_generations::loading::{Loaded, load};
 use lru_shared::shared::SharedCache;
 use lru_synced_folder::synced_folder::SyncedFolder;
 use std::alloc::Global;
@@ -66,7 +66,7 @@ pub fn save_shared<F: SyncedFolder, K: Hash + Clone + Stored, V: Clone + Stored,
 
 /// Loads the newest checkpoint into a shared cache: its entries are put into the shards of their keys, those of each saved shard
 /// the last first. Where there is no checkpoint, nothing is put.
-pub fn load_shared<F: Folder, K: Hash + Default + Stored, V: Stored, const N: usize>(
+pub fn load_shared<F: Folder, K: Hash + Stored, V: Stored, const N: usize>(
     rt: &impl Wait,
     alloc: Global,
     folder: &mut F,
@@ -95,11 +95,7 @@ pub fn load_shared<F: Folder, K: Hash + Default + Stored, V: Stored, const N: us
     ensures places { F.meaning.keeps folder.old → F.meaning.folders folder.new ≡ F.meaning.folders folder.old }
     ensures kept { F.meaning.keeps folder.old ↔ F.meaning.keeps folder.new }
 {
-    let loaded = match load(alloc, folder, dir, file_name) {
-        Err(error) => return Err(RestoreError::Unloaded(error)),
-        Ok(loaded) => loaded,
-    };
-    let Loaded { newest, passed } = loaded;
+    let Loaded { newest, passed } = load(alloc, folder, dir, file_name)?;
     let Some(checkpoint) = newest else {
         return Ok(Restored {
             generation: None,
@@ -107,13 +103,10 @@ pub fn load_shared<F: Folder, K: Hash + Default + Stored, V: Stored, const N: us
             passed,
         });
     };
-    let Checkpoint { generation, shards } = checkpoint;
-    match restore_shards(rt, cache, shards) {
-        Err(refused) => Err(RestoreError::Refused(refused)),
-        Ok(left_out) => Ok(Restored {
-            generation: Some(generation),
-            left_out,
-            passed,
-        }),
-    }
+    let left_out = restore_shards(rt, cache, checkpoint.shards)?;
+    Ok(Restored {
+        generation: Some(checkpoint.generation),
+        left_out,
+        passed,
+    })
 }

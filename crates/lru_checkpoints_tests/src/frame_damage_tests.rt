@@ -160,7 +160,7 @@ pub(crate) fn sealed(alloc: Global, version: u64, numbers: &[u64]) -> Result<Vec
 // Numbers of a frame, and the part that is told as damaged: length, shards, shard, generation, rows; key, data and weight of
 // each row.
 #[rattlefmt::skip]
-static SEALED: [(&[u64], Option<Part>); 6] = [
+static SEALED: [(&[u64], Option<Part>); 7] = [
     (&[88, 1, 0, 0, 1, 5, 9, 3], None),
     // a shard too great
     (&[88, 1, 1, 0, 1, 5, 9, 3], Some(Part::Header)),
@@ -170,6 +170,8 @@ static SEALED: [(&[u64], Option<Part>); 6] = [
     (&[88, 1, 0, 0, 2, 5, 9, 3], Some(Part::Rows)),
     (&[88, 1, 0, 0, 0, 5, 9, 3], Some(Part::Rows)),
     (&[88, 1, 0, 0, u64::MAX, 5, 9, 3], Some(Part::Rows)),
+    // more rows than there is memory for: none is asked for before they are read
+    (&[88, 1, 0, 0, 0x10_0000_0000, 5, 9, 3], Some(Part::Rows)),
 ];
 
 #[test]

@@ -43,6 +43,60 @@ fn smaller_numbers(rt: HostRuntime) -> Result<(), Fail> {
     Ok(())
 }
 
+// What is one below zero is stored as bytes of ones, and two below it as one less, whatever the number's own bytes.
+#[test]
+fn numbers_below_zero(rt: HostRuntime) -> Result<(), Fail> {
+    let bytes = [254, 255, 255, 255, 255, 255, 255, 255, b'a', b'b'];
+    assert!(rt;
+        is_stored_as(rt.alloc(), &-2i8, &bytes)? & is_stored_as(rt.alloc(), &-2i16, &bytes)?
+    );
+    assert!(rt;
+        is_stored_as(rt.alloc(), &-2i32, &bytes)? & is_stored_as(rt.alloc(), &-2i64, &bytes)?
+    );
+    assert!(rt; is_stored_as(rt.alloc(), &-2isize, &bytes)?);
+    let least = [0, 0, 0, 0, 0, 0, 0, 128, b'a', b'b'];
+    assert!(rt; is_stored_as(rt.alloc(), &i64::MIN, &least)?);
+    let small = [200, 0, 0, 0, 0, 0, 0, 0, b'a', b'b'];
+    assert!(rt; is_stored_as(rt.alloc(), &200i16, &small)?);
+    Ok(())
+}
+
+#[test]
+fn numbers_below_zero_come_back(rt: HostRuntime) -> Result<(), Fail> {
+    for number in [i8::MIN, -1, 0, i8::MAX] {
+        assert!(rt; comes_back(rt.alloc(), &number)?);
+    }
+    for number in [i16::MIN, -1, 0, i16::MAX] {
+        assert!(rt; comes_back(rt.alloc(), &number)?);
+    }
+    for number in [i32::MIN, -1, 0, i32::MAX] {
+        assert!(rt; comes_back(rt.alloc(), &number)?);
+    }
+    for number in [i64::MIN, -1, 0, i64::MAX] {
+        assert!(rt; comes_back(rt.alloc(), &number)?);
+    }
+    for number in [isize::MIN, -1, 0, isize::MAX] {
+        assert!(rt; comes_back(rt.alloc(), &number)?);
+    }
+    for number in [i128::MIN, -1, 0, i128::MAX] {
+        assert!(rt; comes_back(rt.alloc(), &number)?);
+    }
+    Ok(())
+}
+
+#[test]
+fn wide_numbers(rt: HostRuntime) -> Result<(), Fail> {
+    let value = 0x100f_0e0d_0c0b_0a09_0807_0605_0403_0201u128;
+    #[rattlefmt::skip]
+    let bytes = [1, 2, 3, 4, 5, 6, 7, 8, 9, 10, 11, 12, 13, 14, 15, 16, b'a', b'b'];
+    assert!(rt; is_stored_as(rt.alloc(), &value, &bytes)? & comes_back(rt.alloc(), &value)?);
+    assert!(rt; comes_back(rt.alloc(), &0u128)? & comes_back(rt.alloc(), &u128::MAX)?);
+    #[rattlefmt::skip]
+    let below = [254, 255, 255, 255, 255, 255, 255, 255, 255, 255, 255, 255, 255, 255, 255, 255, b'a', b'b'];
+    assert!(rt; is_stored_as(rt.alloc(), &-2i128, &below)?);
+    Ok(())
+}
+
 #[test]
 fn truths(rt: HostRuntime) -> Result<(), Fail> {
     let bytes = [1, 0, 0, 0, 0, 0, 0, 0, b'a', b'b'];
@@ -122,7 +176,21 @@ fn are_damaged(alloc: Global) -> [bool; 8] {
     ]
 }
 
+// Whether each of these is damage: one more and one less than the number's own bytes hold, and half of a wide number.
+fn are_damaged_below_zero(alloc: Global) -> [bool; 6] {
+    [
+        is_damaged::<i8>(alloc, &[128, 0, 0, 0, 0, 0, 0, 0]),
+        is_damaged::<i8>(alloc, &[127, 255, 255, 255, 255, 255, 255, 255]),
+        is_damaged::<i16>(alloc, &[0, 128, 0, 0, 0, 0, 0, 0]),
+        is_damaged::<i32>(alloc, &[255, 255, 255, 127, 255, 255, 255, 255]),
+        is_damaged::<i64>(alloc, &[1; 7]),
+        is_damaged::<i128>(alloc, &[1; 15]),
+    ]
+}
+
 #[test]
 fn what_is_no_value(rt: HostRuntime) {
     assert_eq!(rt; are_damaged(rt.alloc()), [true; 8]);
+    assert_eq!(rt; are_damaged_below_zero(rt.alloc()), [true; 6]);
+    assert!(rt; is_damaged::<u128>(rt.alloc(), &[1; 15]) & is_damaged::<u128>(rt.alloc(), &[1; 7]));
 }

@@ -3,3 +3,4 @@ pub mod Steps
 pub mod CrcLaws
 pub mod TableLaws
 pub mod LaneLaws
+pub mod WindowLaws

@@ -1,10 +1,16 @@
-// Four words at once. No word waits for the table of another one, so the tables are read side by side.
+// Bytes by tables, eight at a time, and four such words at once where there are many. No word waits for the table of another
+// one, so the tables are read side by side.
 ghost use Rattle.std.specs.Prelude.{◌≡◌, ℕ, length, bit_xor};
 ghost use Rattle.std.specs.List.{fold};
 ghost use Rattle.lru_crc64.specs.Crc.{step};
 ghost use Rattle.lru_crc64.specs.Lanes.{joined};
 
-use crate::words::{far, near, word};
+use crate::words::{far, near, stepped, word};
+
+// How many bytes are taken at once where there are many, and where there are few.
+const MANY: usize = 32;
+
+const FEW: usize = 8;
 
 // Words one behind the other, that the state is made of.
 #[derive(Clone, Copy)]
@@ -57,4 +63,35 @@ impl Lanes {
     {
         near(near(near(near(self.first) ^ self.second) ^ self.third) ^ self.fourth)
     }
+}
+
+// The state after the first bytes, and the bytes behind them.
+fn after_many(state: u64, bytes: &[u8]) -> (u64, &[u8])
+    ensures { fold step result.0 result.1.now ≡ fold step state bytes.now }
+{
+    if bytes.len() < MANY {
+        return (state, bytes);
+    }
+    let (front, mut rest) = bytes.split_at(MANY);
+    let mut lanes = Lanes::new(front);
+    lanes.first ^= state;
+    while rest.len() >= MANY {
+        let (front, back) = rest.split_at(MANY);
+        lanes = lanes.with(front);
+        rest = back;
+    }
+    (lanes.join(), rest)
+}
+
+// The state after the bytes.
+pub(crate) fn state_by_tables(state: u64, bytes: &[u8]) -> u64
+    ensures { result ≡ fold step state bytes.now }
+{
+    let (mut state, mut rest) = after_many(state, bytes);
+    while rest.len() >= FEW {
+        let (front, back) = rest.split_at(FEW);
+        state = near(state ^ word(front));
+        rest = back;
+    }
+    rest.iter().fold(state, |state, byte| stepped(state, *byte))
 }

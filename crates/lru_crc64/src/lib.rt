@@ -2,51 +2,30 @@
 #![tactic(auto)]
 
 ghost use Rattle.std.specs.Prelude.{◌≡◌};
-ghost use Rattle.std.specs.List.{fold};
-ghost use Rattle.lru_crc64.specs.Crc.{all_ones, step, crc_of};
+ghost use Rattle.lru_crc64.specs.Crc.{crc_of};
 
 mod lanes;
 pub mod laws;
 mod tables;
+mod windows;
 mod words;
 
-use crate::lanes::Lanes;
-use crate::words::{near, stepped, word};
+use crate::lanes::state_by_tables;
+use crate::windows::state_by_window;
 
-// How many bytes are taken at once where there are many, and where there are few.
-const MANY: usize = 32;
-
-const FEW: usize = 8;
-
-// The state after the first bytes, and the bytes behind them.
-fn after_many(bytes: &[u8]) -> (u64, &[u8])
-    ensures { fold step result.0 result.1.now ≡ fold step all_ones bytes.now }
-{
-    if bytes.len() < MANY {
-        return (u64::MAX, bytes);
-    }
-    let (front, mut rest) = bytes.split_at(MANY);
-    let mut lanes = Lanes::new(front);
-    lanes.first ^= u64::MAX;
-    while rest.len() >= MANY {
-        let (front, back) = rest.split_at(MANY);
-        lanes = lanes.with(front);
-        rest = back;
-    }
-    (lanes.join(), rest)
-}
+// From how many bytes on a window takes less time than tables.
+const MANY: usize = 4096;
 
 /// The check of all bytes.
+#[tactic(auto, unfolding(crate::specs::Crc::crc_of))]
 pub fn crc64(bytes: &[u8]) -> u64
     ensures { result ≡ crc_of bytes.now }
 {
-    let (mut state, mut rest) = after_many(bytes);
-    while rest.len() >= FEW {
-        let (front, back) = rest.split_at(FEW);
-        state = near(state ^ word(front));
-        rest = back;
+    if bytes.len() < MANY {
+        !state_by_tables(u64::MAX, bytes)
+    } else {
+        !state_by_window(bytes)
     }
-    !rest.iter().fold(state, |state, byte| stepped(state, *byte))
 }
 
 #[cfg(test)]
@@ -83,6 +62,24 @@ mod tests {
         for length in 0..140u64 {
             assert_eq!(rt; crc64(&bytes), plain(&bytes), "at a length of {length}");
             bytes.push((length.wrapping_mul(167) >> 1 & 0xff) as u8)?;
+        }
+        Ok(())
+    }
+
+    // As many bytes as tables take, as a window takes, and as go behind a window at once, and one more and less.
+    #[test]
+    fn many_as_bit_by_bit(rt: HostRuntime) -> Result<(), Fail> {
+        let mut bytes: Vec<u8> = Vec::new(rt.alloc());
+        for place in 0..20_000u64 {
+            bytes.push((place.wrapping_mul(place) >> 3 & 0xff) as u8)?;
+        }
+        for length in [
+            4095usize, 4096, 4097, 5240, 5241, 5242, 9336, 9337, 9338, 20_000,
+        ] {
+            let Some(front) = bytes.get(..length) else {
+                return Err(Fail::from("fewer bytes"));
+            };
+            assert_eq!(rt; crc64(front), plain(front), "at a length of {length}");
         }
         Ok(())
     }

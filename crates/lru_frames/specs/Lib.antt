@@ -1,5 +1,7 @@
 pub mod Words
 pub mod WordLaws
+pub mod Signed
+pub mod SignedLaws
 pub mod Envelope
 pub mod Errors
 pub mod StoredErrors

@@ -4,7 +4,9 @@ ghost use Rattle.lru_frames.specs.declared.stored.StoredError.TheVariants.{Damag
 
 mod holders;
 mod numbers;
+mod signed;
 mod values;
+mod wide;
 
 use std::alloc::{AllocError, AllocFailed, Global};
 use std::error::Error;

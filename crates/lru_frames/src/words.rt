@@ -1,6 +1,7 @@
-// Numbers in 8 bytes each, the lowest byte first, and bytes behind their count.
+// Numbers in 8 or 16 bytes each, the lowest byte first, and bytes behind their count.
 ghost use Rattle.std.specs.Prelude.{◌≡◌, ◌<◌, ◌^◌, ◌++◌, ℕ, List, length, OnOk, MatchOption};
 ghost use Rattle.lru_frames.specs.Words.{word, counted};
+ghost use Rattle.lru_frames.specs.Signed.{signed_word, wide_word};
 
 use std::alloc::AllocError;
 
@@ -48,5 +49,48 @@ pub(crate) fn take_counted(bytes: &[u8]) -> Option<(&[u8], &[u8])>
             }
             Some(rest.split_at(count as usize))
         }
+    }
+}
+
+// Adds a number that may be below zero at the end.
+pub(crate) fn put_signed(out: &mut Vec<u8>, number: i64) -> Result<(), AllocError>
+    ensures { OnOk result (out.new.items ≡ out.old.items ++ signed_word number) }
+{
+    put_word(out, number.cast_unsigned())
+}
+
+// Such a number at the front, and the bytes behind it.
+pub(crate) fn take_signed(bytes: &[u8]) -> Option<(i64, &[u8])>
+    ensures { MatchOption result (length bytes.now < 8) (λ found. bytes.now ≡ signed_word found.0 ++ found.1.now) }
+{
+    match take_word(bytes) {
+        None => None,
+        Some((number, rest)) => Some((number.cast_signed(), rest)),
+    }
+}
+
+// How many numbers there are of 8 bytes.
+const WORDS: u128 = 0x1_0000_0000_0000_0000;
+
+// Adds a number of 16 bytes at the end.
+pub(crate) fn put_wide(out: &mut Vec<u8>, number: u128) -> Result<(), AllocError>
+    ensures { OnOk result (out.new.items ≡ out.old.items ++ wide_word number) }
+{
+    put_word(out, (number % WORDS) as u64)?;
+    put_word(out, (number / WORDS) as u64)
+}
+
+// A number of 16 bytes at the front, and the bytes behind it.
+pub(crate) fn take_wide(bytes: &[u8]) -> Option<(u128, &[u8])>
+    ensures { MatchOption result
+        ((number : ℕ) (rest : List ℕ) → bytes.now ≡ wide_word number ++ rest → ⊥)
+        (λ found. bytes.now ≡ wide_word found.0 ++ found.1.now) }
+{
+    match take_word(bytes) {
+        None => None,
+        Some((low, rest)) => match take_word(rest) {
+            None => None,
+            Some((high, rest)) => Some((u128::from(high) * WORDS + u128::from(low), rest)),
+        },
     }
 }

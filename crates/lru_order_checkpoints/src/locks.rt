@@ -19,7 +19,7 @@ use lru_checkpoints::errors::CheckpointError;
 use lru_folder::folder::Folder;
 use lru_frames::stored::Stored;
 use lru_generations::generations::{Saved, save};
-use lru_generations::loading::{Checkpoint, Loaded, load};
+use lru_generations::loading::{Loaded, load};
 use lru_locks::lru::Lru;
 use lru_order_captures::locks::{LruSource, restore_shards};
 use lru_synced_folder::synced_folder::SyncedFolder;
@@ -95,23 +95,16 @@ pub fn load_lru<F: Folder, V: Stored, const N: usize>(
     ensures places { F.meaning.keeps folder.old → F.meaning.folders folder.new ≡ F.meaning.folders folder.old }
     ensures kept { F.meaning.keeps folder.old ↔ F.meaning.keeps folder.new }
 {
-    let loaded = match load(alloc, folder, dir, file_name) {
-        Err(error) => return Err(RestoreError::Unloaded(error)),
-        Ok(loaded) => loaded,
-    };
-    let Loaded { newest, passed } = loaded;
+    let Loaded { newest, passed } = load(alloc, folder, dir, file_name)?;
     let Some(checkpoint) = newest else {
         return Ok(Restored {
             generation: None,
             passed,
         });
     };
-    let Checkpoint { generation, shards } = checkpoint;
-    match restore_shards(rt, lru, shards) {
-        Err(refused) => Err(RestoreError::Refused(refused)),
-        Ok(()) => Ok(Restored {
-            generation: Some(generation),
-            passed,
-        }),
-    }
+    restore_shards(rt, lru, checkpoint.shards)?;
+    Ok(Restored {
+        generation: Some(checkpoint.generation),
+        passed,
+    })
 }

@@ -1,4 +1,6 @@
 //! What a load put back, or why it did not.
+ghost use Rattle.std.specs.Prelude.{◌≡◌};
+ghost use Rattle.lru_order_checkpoints.specs.declared.restored.RestoreError.TheVariants as why;
 
 use lru_checkpoints::errors::CheckpointError;
 use lru_generations::newest::Passed;
@@ -21,4 +23,20 @@ pub enum RestoreError<V> {
     /// A row was refused, as `insert_tail` refuses. It is handed back; those that were put before it are there, and the others
     /// are dropped.
     Refused(Refused<(u64, V)>),
+}
+
+impl<V> From<CheckpointError> for RestoreError<V> {
+    ghost from_gives = { λ error made. made ≡ why.Unloaded error };
+
+    fn from(error: CheckpointError) -> Self {
+        RestoreError::Unloaded(error)
+    }
+}
+
+impl<V> From<Refused<(u64, V)>> for RestoreError<V> {
+    ghost from_gives = { λ refused made. made ≡ why.Refused refused };
+
+    fn from(refused: Refused<(u64, V)>) -> Self {
+        RestoreError::Refused(refused)
+    }
 }

@@ -7,7 +7,7 @@ use std::sync::Wait;
 use std::test::Fail;
 
 // Puts an entry, and lets go of what goes for it.
-fn put<K: Hash + Default + Drop, V: Drop, const N: usize>(
+fn put<K: Hash + Drop, V: Drop, const N: usize>(
     rt: &impl Wait,
     cache: &SharedCache<K, V, N>,
     key: K,
@@ -40,7 +40,7 @@ fn raise<K: Hash, const N: usize>(
 }
 
 // Whether two entries are put, one of them twice.
-fn are_put<K: Hash + Default + Drop + Copy>(
+fn are_put<K: Hash + Drop + Copy>(
     rt: &impl Wait,
     cache: &SharedCache<K, u64, 4>,
     one: K,
@@ -58,7 +58,7 @@ fn are_put<K: Hash + Default + Drop + Copy>(
 }
 
 // Whether the value of a key is shown, cloned and changed, and that of a key without an entry is not.
-fn are_shown<K: Hash + Default + Drop + Copy>(
+fn are_shown<K: Hash + Drop + Copy>(
     rt: &impl Wait,
     cache: &SharedCache<K, u64, 4>,
     one: K,
@@ -72,7 +72,7 @@ fn are_shown<K: Hash + Default + Drop + Copy>(
 }
 
 // Whether an entry is taken out once.
-fn is_removed<K: Hash + Default + Drop + Copy>(
+fn is_removed<K: Hash + Drop + Copy>(
     rt: &impl Wait,
     cache: &SharedCache<K, u64, 4>,
     one: K,
@@ -85,7 +85,7 @@ fn is_removed<K: Hash + Default + Drop + Copy>(
     taken & is_gone & ((cache.len(rt), cache.weight(rt)) == (1, 3))
 }
 
-fn calls_answer<K: Hash + Default + Drop + Copy>(
+fn calls_answer<K: Hash + Drop + Copy>(
     rt: &impl Wait,
     cache: &SharedCache<K, u64, 4>,
     (one, two, none): (K, K, K),

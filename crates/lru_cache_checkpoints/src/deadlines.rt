@@ -1,0 +1,108 @@
+//! A cache of one owner whose entries have deadlines, saved and loaded with them.
+ghost use Rattle.std.specs.Prelude.{◌≡◌, ◌↔◌, ◌⊎◌, ℕ, List, false, None, Some, IfErr, IfOk, OnOk};
+ghost use Rattle.std.specs.FinMap.{get};
+ghost use Rattle.lru_folder.specs.Names.{has_slash};
+ghost use Rattle.lru_manifests.specs.declared.names.PartName.{PartName};
+ghost use Rattle.lru_manifests.specs.Names.{IsPart, part_path};
+ghost use Rattle.lru_whole_files.specs.Touching.{TouchesNothing};
+ghost use Rattle.lru_checkpoints.specs.Checkpoints.{Shards, AreHandedOut};
+ghost use Rattle.lru_checkpoints.specs.Loads.{IsFault, IsRefused, IsRefusedFrame};
+ghost use Rattle.lru_generations.specs.Faults.{IsFailed, IsUnlisted};
+ghost use Rattle.lru_generations.specs.Newest.{AreGenerations, ArePassed, IsNewest};
+ghost use Rattle.lru_generations.specs.Saving.{IsForGood, IsOlder, IsUnsaved, IsUnused, SavesNext, TellsPassed};
+ghost use Rattle.lru_cache_checkpoints.specs.Restores.{IfUnloaded};
+ghost use Rattle.lru_cache_checkpoints.specs.Deadlines.{until_bytes, IsUntil, IsDeadlinesOf, RestoresDeadlines};
+
+use crate::restored::{RestoreError, Restored};
+use lru_cache_captures::deadlines::{DeadlineSource, restore_shards};
+use lru_checkpoints::errors::CheckpointError;
+use lru_deadlines::deadlines::{DeadlineCache, Until};
+use lru_folder::folder::Folder;
+use lru_frames::stored::Stored;
+use lru_generations::generations::{Saved, save};
+use lru_generations::loading::{Loaded, load};
+use lru_synced_folder::synced_folder::SyncedFolder;
+use std::alloc::Global;
+use std::hash::Hash;
+
+/// Saves the entries of a cache with their deadlines as the next checkpoint, of one shard, as `save` of `lru_generations` does: also
+/// those that are past them.
+pub fn save_deadlines<F: SyncedFolder, K: Hash + Clone + Stored, V: Clone + Stored>(
+    alloc: Global,
+    folder: &mut F,
+    dir: &str,
+    file_name: &str,
+    cache: &DeadlineCache<K, V>,
+) -> Result<Saved, CheckpointError>
+    requires { has_slash file_name.now ≡ false }
+
+    // What stood whole stands, until the new one stands whole; and nothing else comes to stand.
+    ensures saves { F.meaning.keeps folder.old → SavesNext K.bytes_of K.is_value (until_bytes V.bytes_of) (IsUntil V.is_value)
+        dir.now file_name.now (λ shard. IsDeadlinesOf K.is_clone V.is_clone cache.now) 1 F.meaning folder.old folder.new }
+
+    // After an Ok each loss leaves the new one, in a generation of which there was no file.
+    ensures next { F.meaning.keeps folder.old → IfOk result (λ saved. IsUnused dir.now file_name.now (F.meaning.files folder.old) saved.generation) }
+    ensures for_good { F.meaning.keeps folder.old → IfOk result (λ saved. (shards : Shards K (V × ℕ)) × (AreHandedOut (λ shard. IsDeadlinesOf K.is_clone V.is_clone cache.now) 1 shards
+        × IsForGood K.bytes_of K.is_value (until_bytes V.bytes_of) (IsUntil V.is_value) dir.now file_name.now F.meaning saved.generation shards folder.new)) }
+
+    // The one that is kept was the newest whole one, those above it are told, and what was below it is gone.
+    ensures newest { F.meaning.keeps folder.old → IfOk result (λ saved. IsNewest dir.now file_name.now (F.meaning.files folder.old) saved.kept) }
+    ensures passed { F.meaning.keeps folder.old → IfOk result (λ saved. TellsPassed F.meaning dir.now file_name.now (F.meaning.files folder.old) saved.kept saved.passed.items) }
+    ensures gone { F.meaning.keeps folder.old → IfOk result (λ saved. OnOk saved.removed ((part : PartName) (bytes : List ℕ) → IsPart part → IsOlder saved.kept part
+        → get (F.meaning.files folder.old) (part_path dir.now file_name.now part) ≡ Some bytes → get (F.meaning.files folder.new) (part_path dir.now file_name.now part) ≡ None)) }
+
+    // Where neither memory nor the device failed, nothing was done.
+    ensures error { F.meaning.keeps folder.old → IfErr result IsUnsaved }
+    ensures untouched { F.meaning.keeps folder.old → IfErr result (λ error. ¬ IsFault error → F.meaning.files folder.new ≡ F.meaning.files folder.old) }
+
+    ensures places { F.meaning.keeps folder.old → F.meaning.folders folder.new ≡ F.meaning.folders folder.old }
+    ensures kept { F.meaning.keeps folder.old ↔ F.meaning.keeps folder.new }
+{
+    save(alloc, folder, dir, file_name, &DeadlineSource { cache })
+}
+
+/// Loads the newest checkpoint into a cache: its entries are put with their deadlines, those of each shard the last first, so that
+/// what was saved of a cache stands in an empty one as it stood. Where there is no checkpoint, nothing is put.
+pub fn load_deadlines<F: Folder, K: Hash + Stored, V: Stored>(
+    alloc: Global,
+    folder: &mut F,
+    dir: &str,
+    file_name: &str,
+    cache: &mut DeadlineCache<K, V>,
+) -> Result<Restored, RestoreError<K, Until<V>>>
+    requires { has_slash file_name.now ≡ false }
+    ensures restores { F.meaning.keeps folder.old → RestoresDeadlines K.bytes_of K.is_value K.is_same V.bytes_of V.is_value V.is_same
+        dir.now file_name.now (F.meaning.files folder.old) K.eq cache.old result cache.new }
+
+    // Of the generations that have a manifest, those above it were passed over.
+    ensures passed { F.meaning.keeps folder.old → IfOk result (λ restored. (generations : List ℕ)
+        × (AreGenerations dir.now file_name.now (F.meaning.files folder.old) generations
+        × ArePassed (λ generation error. IsRefused F.meaning (IsRefusedFrame F.meaning K.bytes_of K.is_value (until_bytes V.bytes_of) (IsUntil V.is_value) dir.now file_name.now)
+        dir.now file_name.now generation folder.old folder.new error)
+        generations restored.generation restored.passed.items)) }
+
+    // Where none was loaded, the folder was not listed, memory was refused or a call failed.
+    ensures reason { F.meaning.keeps folder.old → IfErr result (IfUnloaded (λ error. IsUnlisted F.meaning dir.now folder.old folder.new error
+        ⊎ IsFailed F.meaning folder.old folder.new error)) }
+
+    ensures touches { F.meaning.keeps folder.old → TouchesNothing F.meaning folder.old folder.new }
+    ensures files { F.meaning.keeps folder.old → F.meaning.files folder.new ≡ F.meaning.files folder.old }
+    ensures faults { F.meaning.keeps folder.old → OnOk result (F.meaning.faults folder.new ≡ F.meaning.faults folder.old) }
+    ensures places { F.meaning.keeps folder.old → F.meaning.folders folder.new ≡ F.meaning.folders folder.old }
+    ensures kept { F.meaning.keeps folder.old ↔ F.meaning.keeps folder.new }
+{
+    let Loaded { newest, passed } = load(alloc, folder, dir, file_name)?;
+    let Some(checkpoint) = newest else {
+        return Ok(Restored {
+            generation: None,
+            left_out: 0,
+            passed,
+        });
+    };
+    let left_out = restore_shards(cache, checkpoint.shards)?;
+    Ok(Restored {
+        generation: Some(checkpoint.generation),
+        left_out,
+        passed,
+    })
+}
