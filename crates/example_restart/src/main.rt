@@ -26,8 +26,8 @@ const THREADS: usize = 4;
 
 const NAME: &str = "pages";
 
-/// The length of a page by its name. A key has a `Default`, which a `String` has not.
-type Pages = SharedCache<Option<String>, u64, 2>;
+/// The length of a page by its name.
+type Pages = SharedCache<String, u64, 2>;
 
 /// A name and a number of bytes.
 #[derive(Drop)]
@@ -86,7 +86,7 @@ fn look_up<R: Wait>(rt: &R, pages: &Pages, made: &AtomicU64, request: &Request) 
         Ok::<_, ()>((request.size as u64, request.size))
     };
     // A page that was refused, as one heavier than a shard may be, is made again for the next who asks.
-    let _ = pages.get_or_put_with(rt, Some(name), make, |_gone| {});
+    let _ = pages.get_or_put_with(rt, name, make, |_gone| {});
 }
 
 /// Puts back what the last run saved, if there was one. Whether that was done.

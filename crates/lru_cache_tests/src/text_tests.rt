@@ -1,10 +1,10 @@
-//! A cache of texts, and its limits. A text has no default, which a key has to have, so that a key is a text or none.
+//! A cache of texts by texts, and its limits.
 use crate::steps::{look, put, shown, taken};
 use lru_cache::cache::Cache;
 use std::alloc::{AllocError, Global};
 use std::test::Fail;
 
-type Texts = Cache<Option<String>, String>;
+type Texts = Cache<String, String>;
 
 // An entry that is put, and the answer.
 type Put = ((&'static str, &'static str, usize), &'static str);
@@ -23,7 +23,7 @@ fn puts(
     let answers = put(
         alloc,
         cache,
-        Some(text(alloc, key)?),
+        text(alloc, key)?,
         text(alloc, value)?,
         weight,
     )?;
@@ -48,9 +48,9 @@ fn put_all(alloc: Global, cache: &mut Texts, puts_and_answers: &[Put]) -> Result
 static PUTS: [Put; 5] = [
     (("a", "x", 2), "new, gone:"),
     (("b", "y", 2), "new, gone:"),
-    (("a", "z", 3), "was Some(\"a\")=\"x\" 2, gone:"),
-    (("c", "w", 7), "TooHeavy: Some(\"c\")=\"w\""),
-    (("c", "w", 3), "new, gone: Some(\"b\")=\"y\" 2,"),
+    (("a", "z", 3), "was \"a\"=\"x\" 2, gone:"),
+    (("c", "w", 7), "TooHeavy: \"c\"=\"w\""),
+    (("c", "w", 3), "new, gone: \"b\"=\"y\" 2,"),
 ];
 
 // Two entries that fit.
@@ -64,7 +64,7 @@ fn texts_are_put(rt: HostRuntime) -> Result<(), Fail> {
         is_shown(
             rt.alloc(),
             &cache,
-            "2 6: Some(\"c\")=\"w\" 3, Some(\"a\")=\"z\" 3,"
+            "2 6: \"c\"=\"w\" 3, \"a\"=\"z\" 3,"
         )?
     );
     Ok(())
@@ -72,19 +72,19 @@ fn texts_are_put(rt: HostRuntime) -> Result<(), Fail> {
 
 // Whether each call on a text that is there answers so.
 fn calls_answer(alloc: Global, cache: &mut Texts) -> Result<bool, AllocError> {
-    let key = Some(text(alloc, "a")?);
+    let key = text(alloc, "a")?;
     let is_there = look(alloc, cache, &key)?.as_str() == "true Some(\"x\") Some(2)";
     let is_first = cache.promote(&key)
         & is_shown(
             alloc,
             cache,
-            "2 5: Some(\"a\")=\"x\" 2, Some(\"b\")=\"y\" 3,",
+            "2 5: \"a\"=\"x\" 2, \"b\"=\"y\" 3,",
         )?;
     let removed = taken(alloc, &cache.remove(&key))?;
     let is_gone = look(alloc, cache, &key)?.as_str() == "false None None";
     let last = taken(alloc, &cache.pop_last())?;
-    let are_taken = (removed.as_str() == "took Some(\"a\")=\"x\" 2,")
-        & (last.as_str() == "took Some(\"b\")=\"y\" 3,");
+    let are_taken = (removed.as_str() == "took \"a\"=\"x\" 2,")
+        & (last.as_str() == "took \"b\"=\"y\" 3,");
     Ok(is_there & is_first & is_gone & are_taken)
 }
 
@@ -108,12 +108,12 @@ fn is_put_weighed(
     value: &str,
 ) -> Result<bool, AllocError> {
     let (key, value) = (text(alloc, key)?, text(alloc, value)?);
-    let answer = cache.put_weighed(Some(key), value, |_key, value: &String| value.len(), |_| {});
+    let answer = cache.put_weighed(key, value, |_key, value: &String| value.len(), |_| {});
     Ok(matches!(answer, Ok(None)))
 }
 
 // Empties the text under a key. Whether it is there.
-fn is_emptied(cache: &mut Texts, key: &Option<String>) -> bool {
+fn is_emptied(cache: &mut Texts, key: &String) -> bool {
     let empty = |value: &mut String, _was: usize| {
         value.clear();
         value.len()
@@ -125,21 +125,21 @@ fn is_emptied(cache: &mut Texts, key: &Option<String>) -> bool {
 fn weigh_their_length(alloc: Global, cache: &mut Texts) -> Result<bool, AllocError> {
     let are_put = is_put_weighed(alloc, cache, "a", "xyz")?
         & is_put_weighed(alloc, cache, "b", "uv")?;
-    let (a, b) = (Some(text(alloc, "a")?), Some(text(alloc, "b")?));
+    let (a, b) = (text(alloc, "a")?, text(alloc, "b")?);
     let is_last = cache.demote(&b)
         & is_shown(
             alloc,
             cache,
-            "2 5: Some(\"a\")=\"xyz\" 3, Some(\"b\")=\"uv\" 2,",
+            "2 5: \"a\"=\"xyz\" 3, \"b\"=\"uv\" 2,",
         )?;
     let is_less = is_emptied(cache, &a)
         & is_shown(
             alloc,
             cache,
-            "2 2: Some(\"a\")=\"\" 0, Some(\"b\")=\"uv\" 2,",
+            "2 2: \"a\"=\"\" 0, \"b\"=\"uv\" 2,",
         )?;
     let first = taken(alloc, &cache.pop_first())?;
-    Ok(are_put & is_last & is_less & (first.as_str() == "took Some(\"a\")=\"\" 0,"))
+    Ok(are_put & is_last & is_less & (first.as_str() == "took \"a\"=\"\" 0,"))
 }
 
 #[test]
@@ -152,28 +152,27 @@ fn texts_weigh_their_length(rt: HostRuntime) -> Result<(), Fail> {
 
 // Whether each call that is asked by a text that is not owned answers so.
 fn are_asked_by_texts(alloc: Global, cache: &mut Texts) -> Result<bool, AllocError> {
-    let is_told = (cache.weight_by(Some("a")) == Some(2))
+    let is_told = (cache.weight_by("a") == Some(2))
         & cache
-            .peek_by(Some("a"))
+            .peek_by("a")
             .is_some_and(|value| value.as_str() == "x");
-    let is_missing = !cache.contains_by(Some("c"))
-        & !cache.contains_by(None::<&str>)
-        & !cache.promote_by(Some("ab"));
-    let is_first = cache.contains_by(Some("a"))
-        & cache.promote_by(Some("a"))
+    let is_missing = !cache.contains_by("c")
+        & !cache.promote_by("ab");
+    let is_first = cache.contains_by("a")
+        & cache.promote_by("a")
         & is_shown(
             alloc,
             cache,
-            "2 5: Some(\"a\")=\"x\" 2, Some(\"b\")=\"y\" 3,",
+            "2 5: \"a\"=\"x\" 2, \"b\"=\"y\" 3,",
         )?;
-    let lent = cache.update_by(Some("b"), |value: &mut String, weight: usize| {
+    let lent = cache.update_by("b", |value: &mut String, weight: usize| {
         (value.len(), weight)
     });
     let is_lent = (lent == Some((1, 3)))
-        & cache.update_by(Some(""), |_value, _weight| ()).is_none();
-    let none = taken(alloc, &cache.remove_by(Some("")))?;
-    let removed = taken(alloc, &cache.remove_by(Some("b")))?;
-    let are_taken = (none.as_str() == "none") & (removed.as_str() == "took Some(\"b\")=\"y\" 3,");
+        & cache.update_by("", |_value, _weight| ()).is_none();
+    let none = taken(alloc, &cache.remove_by(""))?;
+    let removed = taken(alloc, &cache.remove_by("b"))?;
+    let are_taken = (none.as_str() == "none") & (removed.as_str() == "took \"b\"=\"y\" 3,");
     Ok(is_told & is_missing & is_first & is_lent & are_taken)
 }
 
