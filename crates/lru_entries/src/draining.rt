@@ -1,4 +1,5 @@
 //! All entries go, the first first.
+ghost use Rattle.std.specs.Prelude.{◌≡◌};
 ghost use Rattle.lru_entries.specs.Partings.{DrainsRows};
 
 use crate::entry::Entry;
@@ -13,7 +14,8 @@ where
     S: BuildHasher,
     F: FnMut(Entry<K, V>) + Drop,
     requires { F.IsAlwaysCallable visit }
-    ensures { DrainsRows (λ p x q. F.step p x tt q) visit rows.old rows.new }
+    ensures drains { DrainsRows (λ p x q. F.step p x tt q) visit rows.old.held rows.new.held }
+    ensures hashes { rows.new.hashes ≡ rows.old.hashes }
 {
     while let Some(first) = rows.pop_first() {
         visit(Entry {

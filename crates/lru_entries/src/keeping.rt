@@ -14,10 +14,11 @@ where
     V: Drop,
     S: BuildHasher,
     F: FnMut(&K, &V, usize) -> bool + Drop,
-    requires used { used ≡ weight_in rows.old.rows }
+    requires used { used ≡ weight_in rows.old.held.rows }
     requires keep { F.IsAlwaysCallable keep }
-    ensures retains { RetainsRows (λ p k v w b q. F.step p k v w b q) keep rows.old rows.new }
-    ensures used { result ≡ weight_in rows.new.rows }
+    ensures retains { RetainsRows (λ p k v w b q. F.step p k v w b q) keep rows.old.held rows.new.held }
+    ensures used { result ≡ weight_in rows.new.held.rows }
+    ensures hashes { rows.new.hashes ≡ rows.old.hashes }
 {
     let most = rows.len();
     // All stand in their order again, since those that stay went first one after another.
@@ -40,11 +41,12 @@ where
     S: BuildHasher,
     F: FnMut(&K, &V, usize) -> bool + Drop,
     G: FnMut(Entry<K, V>) + Drop,
-    requires used { used ≡ weight_in rows.old.rows }
+    requires used { used ≡ weight_in rows.old.held.rows }
     requires keep { F.IsAlwaysCallable keep }
     requires visit { G.IsAlwaysCallable visit }
-    ensures retains { RetainsLastRows (λ p k v w b q. F.step p k v w b q) keep (λ p x q. G.step p x tt q) visit most rows.old rows.new }
-    ensures used { result ≡ weight_in rows.new.rows }
+    ensures retains { RetainsLastRows (λ p k v w b q. F.step p k v w b q) keep (λ p x q. G.step p x tt q) visit most rows.old.held rows.new.held }
+    ensures used { result ≡ weight_in rows.new.held.rows }
+    ensures hashes { rows.new.hashes ≡ rows.old.hashes }
 {
     let (used, kept) = ask_last(rows, used, most, keep, visit);
     put_back(rows, kept);
@@ -67,11 +69,12 @@ where
     S: BuildHasher,
     F: FnMut(&K, &V, usize) -> bool + Drop,
     G: FnMut(Entry<K, V>) + Drop,
-    requires used { used ≡ weight_in rows.old.rows }
+    requires used { used ≡ weight_in rows.old.held.rows }
     requires keep { F.IsAlwaysCallable keep }
     requires visit { G.IsAlwaysCallable visit }
-    ensures asks { AsksLast (λ p k v w b q. F.step p k v w b q) keep (λ p x q. G.step p x tt q) visit most rows.old rows.new result.1 }
-    ensures used { result.0 ≡ weight_in rows.new.rows }
+    ensures asks { AsksLast (λ p k v w b q. F.step p k v w b q) keep (λ p x q. G.step p x tt q) visit most rows.old.held rows.new.held result.1 }
+    ensures used { result.0 ≡ weight_in rows.new.held.rows }
+    ensures hashes { rows.new.hashes ≡ rows.old.hashes }
 {
     let mut used = used;
     let mut kept = 0;
@@ -106,8 +109,9 @@ where
     K: Hash + Drop,
     V: Drop,
     S: BuildHasher,
-    requires { count ≤ length rows.old.rows }
-    ensures { PutsBack count rows.old rows.new }
+    requires { count ≤ length rows.old.held.rows }
+    ensures puts { PutsBack count rows.old.held rows.new.held }
+    ensures hashes { rows.new.hashes ≡ rows.old.hashes }
 {
     let mut left = count;
     while left > 0 {

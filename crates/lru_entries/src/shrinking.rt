@@ -21,10 +21,11 @@ where
     V: Drop,
     S: BuildHasher,
     F: FnMut(Entry<K, V>) + Drop,
-    requires used { used ≡ weight_in rows.old.rows }
+    requires used { used ≡ weight_in rows.old.held.rows }
     requires visit { F.IsAlwaysCallable visit }
-    ensures shrinks { Shrinks (λ p x q. F.step p x tt q) visit most_weight most_rows rows.old rows.new }
-    ensures used { result ≡ weight_in rows.new.rows }
+    ensures shrinks { Shrinks (λ p x q. F.step p x tt q) visit most_weight most_rows rows.old.held rows.new.held }
+    ensures used { result ≡ weight_in rows.new.held.rows }
+    ensures hashes { rows.new.hashes ≡ rows.old.hashes }
 {
     let mut used = used;
     while !fits(used, rows.len(), most_weight, most_rows) {

@@ -161,6 +161,7 @@ impl<S: BuildHasher> PlaceIndex<S> {
         requires free { IsFree self.old place }
         ensures indexes { Inserts K.eq (key_hash S.BuildHasher S.Hasher.Hasher K.hash_input) self.old key.now place self.new }
         ensures room_same { room_of self.new ≡ room_of self.old }
+        ensures hashes { self.new.hash_builder ≡ self.old.hash_builder }
     {
         let hash = self.hash_of(key);
         self.insert_hashed(key, hash, place);
@@ -175,6 +176,7 @@ impl<S: BuildHasher> PlaceIndex<S> {
         requires free { IsFree self.old place }
         ensures indexes { Inserts K.eq (key_hash S.BuildHasher S.Hasher.Hasher K.hash_input) self.old key.now place self.new }
         ensures room_same { room_of self.new ≡ room_of self.old }
+        ensures hashes { self.new.hash_builder ≡ self.old.hash_builder }
     {
         let home = home_of(self.shift, hash);
         put_first(&mut self.cells, self.heads, home, place);
@@ -187,6 +189,7 @@ impl<S: BuildHasher> PlaceIndex<S> {
         ensures finds { Finds K.eq (T.key_of keys.now) key.now result }
         ensures indexes { Indexes K.eq (key_hash S.BuildHasher S.Hasher.Hasher K.hash_input) self.new (gone_at (T.key_of keys.now) result) }
         ensures room { room_of self.new ≡ room_of self.old }
+        ensures hashes { self.new.hash_builder ≡ self.old.hash_builder }
     {
         self.remove_by(keys, key)
     }
@@ -198,6 +201,7 @@ impl<S: BuildHasher> PlaceIndex<S> {
         ensures finds { Finds Q.stands_for (T.key_of keys.now) query result }
         ensures indexes { Indexes K.eq (key_hash S.BuildHasher S.Hasher.Hasher K.hash_input) self.new (gone_at (T.key_of keys.now) result) }
         ensures room { room_of self.new ≡ room_of self.old }
+        ensures hashes { self.new.hash_builder ≡ self.old.hash_builder }
     {
         let hash = self.hash_of(&query);
         self.remove_hashed(keys, query, hash)
@@ -216,6 +220,7 @@ impl<S: BuildHasher> PlaceIndex<S> {
         ensures finds { Finds Q.stands_for (T.key_of keys.now) query result }
         ensures indexes { Indexes K.eq (key_hash S.BuildHasher S.Hasher.Hasher K.hash_input) self.new (gone_at (T.key_of keys.now) result) }
         ensures room { room_of self.new ≡ room_of self.old }
+        ensures hashes { self.new.hash_builder ≡ self.old.hash_builder }
     {
         let home = home_of(self.shift, hash);
         let cell = cell_of(&self.cells, self.heads, home, keys, &query);
@@ -233,6 +238,7 @@ impl<S: BuildHasher> PlaceIndex<S> {
         requires { Knows (key_hash S.BuildHasher S.Hasher.Hasher K.hash_input) self.old key.now place }
         ensures drops { Drops K.eq (key_hash S.BuildHasher S.Hasher.Hasher K.hash_input) self.old place self.new }
         ensures room { room_of self.new ≡ room_of self.old }
+        ensures hashes { self.new.hash_builder ≡ self.old.hash_builder }
     {
         let next = self.cells[self.heads + place as usize];
         let home = home_of(self.shift, self.hash_of(key));
@@ -252,6 +258,7 @@ impl<S: BuildHasher> PlaceIndex<S> {
         ensures kept { room_of self.old ≤ room_of self.new }
         ensures made { IfOk result (λ _. places ≤ room_of self.new) }
         ensures refused { IfErr result (λ _. self.new ≡ self.old) }
+        ensures hashes { self.new.hash_builder ≡ self.old.hash_builder }
     {
         if places <= self.room() {
             return Ok(());
@@ -267,6 +274,7 @@ impl<S: BuildHasher> PlaceIndex<S> {
         ensures indexes { Indexes K.eq (key_hash S.BuildHasher S.Hasher.Hasher K.hash_input) self.new (T.key_of keys.now) }
         ensures made { IfOk result (λ _. places ≤ room_of self.new) }
         ensures refused { IfErr result (λ _. self.new ≡ self.old) }
+        ensures hashes { self.new.hash_builder ≡ self.old.hash_builder }
     {
         let room = self.room();
         let shift = shift_for(self.shift, places);

@@ -12,7 +12,7 @@ use Rattle.lru_rows.specs.declared.rows.Taken.{Taken}
 use Rattle.lru_rows.specs.Rows.{Placed, placed, Recency, recency, row_at, row_of, IsAt, without, promoted, demoted, with_weight, with_value, last_row, first_row, taken, Finds, IsRecency, Removes, PopsLast, PopsFirst}
 use Rattle.lru_rows.proofs.Listed.{some_of, by_row, without_here, without_other, row_at_here, row_at_other}
 use Rattle.lru_rows.proofs.Found.{agreeing}
-use Rattle.lru_pairs.specs.Pairs.{with_entry}
+use Rattle.lru_pairs.specs.Pairs.{Paired, paired, with_entry}
 use Rattle.lru_pairs.specs.Representation.Nodes.{Laid, laid, with_rows, IsLaid, IsKept, keys_at}
 use Rattle.lru_pairs.proofs.Laid.{some_is}
 
@@ -525,3 +525,10 @@ module _ {K V S : Type 0} (eq : K → K → Bool) (hash : S → K → ℕ) (node
     pub seen_removed : {Q : Type 0} (stands_for : K → Q → Bool) (query : Q) → Finds stands_for nodes.held.rows query (Some p) → Removes stands_for r query (Some t) nodes'.held
     seen_removed stands_for query finds =
         subst (λ x. Removes stands_for x query (Some t) nodes'.held) view (subst (λ x. Removes stands_for nodes.held query (Some t) x) (sym held_is) (removes_row nodes.held kept.laid.once p t out stands_for query finds))
+
+-- what is seen of the pairs, and of their hashes
+pub seen_held : {K V S : Type 0} (r : Recency K V) (s : S) (p : Paired K V S) → paired r s ≡ p → r ≡ p.held
+seen_held r s p view = ap (λ (x : Paired _ _ _). x.held) view
+
+pub seen_hashes : {K V S : Type 0} (r : Recency K V) (s : S) (p : Paired K V S) → paired r s ≡ p → s ≡ p.hashes
+seen_hashes r s p view = ap (λ (x : Paired _ _ _). x.hashes) view

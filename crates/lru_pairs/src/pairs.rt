@@ -1,7 +1,7 @@
 //! Pairs of key and value with a weight, most recent first, each found by its key.
 ghost use Rattle.std.specs.Prelude.{◌≡◌, ◌+◌, ◌<◌, ◌≤◌, ◌∷◌, ◌++◌, [], length, map, Some, None, IfOk, IfErr, if◌then◌else◌};
 ghost use Rattle.std.specs.Option.{option_map};
-ghost use Rattle.lru_index.specs.Hashing.{key_hash};
+ghost use Rattle.lru_index.specs.Hashing.{key_hash, seeded, unseeded};
 ghost use Rattle.lru_rows.specs.Rows.{most_rows, recency, entry_of, taken, row_at, row_of, IsAt, promoted, demoted, with_weight, last_row, first_row, Finds, IsRecency, Removes, PopsLast, PopsFirst, Pushes, MakesVacancy, UpdatesAt};
 ghost use Rattle.lru_pairs.specs.Pairs.{with_entry, SameKey};
 ghost use Rattle.lru_pairs.specs.Representation.Nodes.{IsKept};
@@ -30,14 +30,14 @@ pub struct Pairs<K: Hash, V, S: BuildHasher = SeededHashes> {
 
 impl<K: Hash, V, S: BuildHasher> Model for Pairs<K, V, S> {
     ghost use Rattle.lru_index.specs.Hashing.{key_hash};
-    ghost use Rattle.lru_rows.specs.Rows.{Recency, recency_code};
+    ghost use Rattle.lru_pairs.specs.Pairs.{Paired, paired, paired_code};
     ghost use Rattle.lru_pairs.specs.Representation.Nodes.{IsKept};
 
-    ghost Value = { Recency K V };
+    ghost Value = { Paired K V S };
 
-    ghost coded = { recency_code K.code V.code };
+    ghost coded = { paired_code K.code V.code S.code };
 
-    ghost view = { λ p. p.nodes.held };
+    ghost view = { λ p. paired p.nodes.held p.index.hash_builder };
 
     ghost invariant = { λ p. IsKept K.eq (key_hash S.BuildHasher S.Hasher.Hasher K.hash_input) p.nodes p.index };
 }
@@ -49,7 +49,8 @@ impl<K: Hash + Drop, V: Drop> Pairs<K, V, SeededHashes> {
     ///
     /// There is no memory for that many, or there can't be as many pairs.
     pub fn with_capacity(alloc: Global, capacity: usize) -> Result<Self, AllocError>
-        ensures { IfOk result (λ pairs. pairs ≡ recency [] 0) }
+        ensures empty { IfOk result (λ pairs. pairs.held ≡ recency [] 0) }
+        ensures hashes { IfOk result (λ pairs. pairs.hashes.initial ≡ unseeded) }
     {
         Pairs::with_capacity_and_hasher(alloc, capacity, SeededHashes::fixed())
     }
@@ -65,7 +66,8 @@ impl<K: Hash + Drop, V: Drop> Pairs<K, V, SeededHashes> {
         capacity: usize,
         seed: u64,
     ) -> Result<Self, AllocError>
-        ensures { IfOk result (λ pairs. pairs ≡ recency [] 0) }
+        ensures empty { IfOk result (λ pairs. pairs.held ≡ recency [] 0) }
+        ensures hashes { IfOk result (λ pairs. pairs.hashes.initial ≡ seeded seed) }
     {
         Pairs::with_capacity_and_hasher(alloc, capacity, SeededHashes::with_seed(seed))
     }
@@ -82,7 +84,8 @@ impl<K: Hash + Drop, V: Drop, S: BuildHasher + Drop> Pairs<K, V, S> {
         capacity: usize,
         hash_builder: S,
     ) -> Result<Self, AllocError>
-        ensures { IfOk result (λ pairs. pairs ≡ recency [] 0) }
+        ensures empty { IfOk result (λ pairs. pairs.held ≡ recency [] 0) }
+        ensures hashes { IfOk result (λ pairs. pairs.hashes ≡ hash_builder) }
     {
         if capacity > MOST_ITEMS {
             return Err(AllocError);
@@ -98,8 +101,8 @@ impl<K: Hash, V, S: BuildHasher> Pairs<K, V, S> {
     /// How many pairs there are.
     #[inline(always)]
     pub fn len(&self) -> usize
-        ensures value { result ≡ length self.now.rows }
-        ensures valid { IsRecency K.eq self.now.rows }
+        ensures value { result ≡ length self.now.held.rows }
+        ensures valid { IsRecency K.eq self.now.held.rows }
     {
         self.nodes.len()
     }
@@ -107,26 +110,45 @@ impl<K: Hash, V, S: BuildHasher> Pairs<K, V, S> {
     /// The place of a key's pair.
     #[inline(always)]
     pub fn find(&self, key: &K) -> Option<Place>
-        ensures finds { Finds K.eq self.now.rows key.now result }
-        ensures valid { IsRecency K.eq self.now.rows }
+        ensures finds { Finds K.eq self.now.held.rows key.now result }
+        ensures valid { IsRecency K.eq self.now.held.rows }
     {
-        self.index.find(&self.nodes, key)
+        self.find_by(key)
     }
 
     /// The place of the pair whose key the query stands for.
     #[inline(always)]
     pub fn find_by<Q: Query<K>>(&self, query: Q) -> Option<Place>
-        ensures finds { Finds Q.stands_for self.now.rows query result }
-        ensures valid { IsRecency K.eq self.now.rows }
+        ensures finds { Finds Q.stands_for self.now.held.rows query result }
+        ensures valid { IsRecency K.eq self.now.held.rows }
     {
-        self.index.find_by(&self.nodes, query)
+        self.find_hashed(query, self.hash_of(&query))
+    }
+
+    /// The hash of a key, or of a query for one, with which the calls below can be asked: a query that stands for a key has
+    /// that key's hash.
+    #[inline(always)]
+    pub fn hash_of<Q: Hash>(&self, query: &Q) -> u64
+        ensures { result ≡ key_hash S.BuildHasher S.Hasher.Hasher Q.hash_input self.now.hashes query.now }
+    {
+        self.index.hash_of(query)
+    }
+
+    /// `find_by`, where the query's hash is known.
+    #[inline(always)]
+    pub fn find_hashed<Q: Query<K>>(&self, query: Q, hash: u64) -> Option<Place>
+        requires { hash ≡ key_hash S.BuildHasher S.Hasher.Hasher Q.hash_input self.now.hashes query }
+        ensures finds { Finds Q.stands_for self.now.held.rows query result }
+        ensures valid { IsRecency K.eq self.now.held.rows }
+    {
+        self.index.find_hashed(&self.nodes, query, hash)
     }
 
     /// The place of the pair that was used longest ago.
     #[inline(always)]
     pub fn last(&self) -> Option<Place>
-        ensures place { result ≡ option_map (λ r. r.place) (last_row self.now.rows) }
-        ensures valid { IsRecency K.eq self.now.rows }
+        ensures place { result ≡ option_map (λ r. r.place) (last_row self.now.held.rows) }
+        ensures valid { IsRecency K.eq self.now.held.rows }
     {
         self.nodes.last()
     }
@@ -134,22 +156,22 @@ impl<K: Hash, V, S: BuildHasher> Pairs<K, V, S> {
     /// The place of the pair that was used last.
     #[inline(always)]
     pub fn first(&self) -> Option<Place>
-        ensures place { result ≡ option_map (λ r. r.place) (first_row self.now.rows) }
-        ensures valid { IsRecency K.eq self.now.rows }
+        ensures place { result ≡ option_map (λ r. r.place) (first_row self.now.held.rows) }
+        ensures valid { IsRecency K.eq self.now.held.rows }
     {
         self.nodes.first()
     }
 
     /// The key, the value and the weight of each pair, most recent first.
     pub fn entries(&self) -> PairsEntries<'_, K, V>
-        ensures { result ≡ map entry_of self.now.rows }
+        ensures { result ≡ map entry_of self.now.held.rows }
     {
         self.nodes.entries()
     }
 
     /// The keys of the pairs, most recent first.
     pub fn keys(&self) -> PairsKeys<'_, K, V>
-        ensures { result ≡ map (λ r. r.key) self.now.rows }
+        ensures { result ≡ map (λ r. r.key) self.now.held.rows }
     {
         self.nodes.keys()
     }
@@ -157,8 +179,8 @@ impl<K: Hash, V, S: BuildHasher> Pairs<K, V, S> {
     /// The key of a place's pair.
     #[inline(always)]
     pub fn key_at(&self, place: Place) -> &K
-        requires { IsAt self.now.rows place }
-        ensures { option_map (λ r. r.key) (row_at self.now.rows place) ≡ Some result.now }
+        requires { IsAt self.now.held.rows place }
+        ensures { option_map (λ r. r.key) (row_at self.now.held.rows place) ≡ Some result.now }
     {
         self.nodes.key_at(place)
     }
@@ -166,8 +188,8 @@ impl<K: Hash, V, S: BuildHasher> Pairs<K, V, S> {
     /// The value of a place's pair.
     #[inline(always)]
     pub fn value_at(&self, place: Place) -> &V
-        requires { IsAt self.now.rows place }
-        ensures { option_map (λ r. r.value) (row_at self.now.rows place) ≡ Some result.now }
+        requires { IsAt self.now.held.rows place }
+        ensures { option_map (λ r. r.value) (row_at self.now.held.rows place) ≡ Some result.now }
     {
         self.nodes.value_at(place)
     }
@@ -175,8 +197,8 @@ impl<K: Hash, V, S: BuildHasher> Pairs<K, V, S> {
     /// The weight of a place's pair.
     #[inline(always)]
     pub fn weight_at(&self, place: Place) -> usize
-        requires { IsAt self.now.rows place }
-        ensures { option_map (λ r. r.weight) (row_at self.now.rows place) ≡ Some result }
+        requires { IsAt self.now.held.rows place }
+        ensures { option_map (λ r. r.weight) (row_at self.now.held.rows place) ≡ Some result }
     {
         self.nodes.weight_at(place)
     }
@@ -184,8 +206,9 @@ impl<K: Hash, V, S: BuildHasher> Pairs<K, V, S> {
     /// Puts a place's pair first.
     #[inline(always)]
     pub fn promote(&mut self, place: Place)
-        requires { IsAt self.old.rows place }
-        ensures { self.new ≡ recency (promoted self.old.rows place) self.old.free }
+        requires { IsAt self.old.held.rows place }
+        ensures rows { self.new.held ≡ recency (promoted self.old.held.rows place) self.old.held.free }
+        ensures hashes { self.new.hashes ≡ self.old.hashes }
     {
         self.nodes.promote(place);
     }
@@ -193,8 +216,9 @@ impl<K: Hash, V, S: BuildHasher> Pairs<K, V, S> {
     /// Puts a place's pair last.
     #[inline(always)]
     pub fn demote(&mut self, place: Place)
-        requires { IsAt self.old.rows place }
-        ensures { self.new ≡ recency (demoted self.old.rows place) self.old.free }
+        requires { IsAt self.old.held.rows place }
+        ensures rows { self.new.held ≡ recency (demoted self.old.held.rows place) self.old.held.free }
+        ensures hashes { self.new.hashes ≡ self.old.hashes }
     {
         self.nodes.demote(place);
     }
@@ -202,8 +226,9 @@ impl<K: Hash, V, S: BuildHasher> Pairs<K, V, S> {
     /// Gives a place's pair another weight.
     #[inline(always)]
     pub fn set_weight(&mut self, place: Place, weight: usize)
-        requires { IsAt self.old.rows place }
-        ensures { self.new ≡ recency (with_weight self.old.rows place weight) self.old.free }
+        requires { IsAt self.old.held.rows place }
+        ensures rows { self.new.held ≡ recency (with_weight self.old.held.rows place weight) self.old.held.free }
+        ensures hashes { self.new.hashes ≡ self.old.hashes }
     {
         self.nodes.set_weight(place, weight);
     }
@@ -211,9 +236,10 @@ impl<K: Hash, V, S: BuildHasher> Pairs<K, V, S> {
     /// Lends the value of a place's pair to `update`, with its weight, and answers what `update` does.
     #[inline(always)]
     pub fn update<R, U: FnOnce(&mut V, usize) -> R + Drop>(&mut self, place: Place, update: U) -> R
-        requires held { IsAt self.old.rows place }
+        requires held { IsAt self.old.held.rows place }
         requires callable { U.IsAlwaysCallable update }
-        ensures { UpdatesAt (U.post update) self.old place result self.new }
+        ensures updates { UpdatesAt (U.post update) self.old.held place result self.new.held }
+        ensures hashes { self.new.hashes ≡ self.old.hashes }
     {
         self.nodes.update(place, update)
     }
@@ -225,7 +251,7 @@ impl<K: Hash, V, S: BuildHasher> Pairs<K, V, S> {
     /// There is no memory for that many, or there can't be as many pairs.
     pub fn reserve(&mut self, additional: usize) -> Result<(), AllocError>
         ensures same { self.new ≡ self.old }
-        ensures room { IfOk result (λ _. length self.new.rows + additional ≤ most_rows) }
+        ensures room { IfOk result (λ _. length self.new.held.rows + additional ≤ most_rows) }
     {
         let len = self.nodes.len();
         if additional > MOST_ITEMS - len {
@@ -245,8 +271,31 @@ impl<K: Hash + Drop, V: Drop, S: BuildHasher> Pairs<K, V, S> {
     /// There is no place for it. The key and the value are handed back, and nothing changes.
     #[inline(always)]
     pub fn push_first(&mut self, key: K, value: V, weight: usize) -> Result<Place, Unpushed<K, V>>
-        requires { row_of K.eq self.old.rows key ≡ None }
-        ensures { Pushes (λ r. r ∷ self.old.rows) self.old key value weight result self.new }
+        requires { row_of K.eq self.old.held.rows key ≡ None }
+        ensures pushes { Pushes (λ r. r ∷ self.old.held.rows) self.old.held key value weight result self.new.held }
+        ensures hashes { self.new.hashes ≡ self.old.hashes }
+    {
+        let hash = self.hash_of(&key);
+        self.push_first_hashed(key, value, weight, hash)
+    }
+
+    /// `push_first`, where the key's hash is known.
+    ///
+    /// # Errors
+    ///
+    /// As for `push_first`.
+    #[inline(always)]
+    pub fn push_first_hashed(
+        &mut self,
+        key: K,
+        value: V,
+        weight: usize,
+        hash: u64,
+    ) -> Result<Place, Unpushed<K, V>>
+        requires absent { row_of K.eq self.old.held.rows key ≡ None }
+        requires hash { hash ≡ key_hash S.BuildHasher S.Hasher.Hasher K.hash_input self.old.hashes key }
+        ensures pushes { Pushes (λ r. r ∷ self.old.held.rows) self.old.held key value weight result self.new.held }
+        ensures hashes { self.new.hashes ≡ self.old.hashes }
     {
         if self.nodes.len() >= MOST_ITEMS {
             return Err(Unpushed {
@@ -263,7 +312,8 @@ impl<K: Hash + Drop, V: Drop, S: BuildHasher> Pairs<K, V, S> {
             });
         }
         let place = self.nodes.push_first(key, value, weight)?;
-        self.index.insert(self.nodes.key_at(place), place);
+        self.index
+            .insert_hashed(self.nodes.key_at(place), hash, place);
         Ok(place)
     }
 
@@ -274,7 +324,8 @@ impl<K: Hash + Drop, V: Drop, S: BuildHasher> Pairs<K, V, S> {
     /// There is no place for a pair more. Nothing changes.
     #[inline(always)]
     pub fn make_vacancy(&mut self) -> Result<(), NoPlace>
-        ensures { MakesVacancy self.old result self.new }
+        ensures makes { MakesVacancy self.old.held result self.new.held }
+        ensures hashes { self.new.hashes ≡ self.old.hashes }
     {
         // The column has a place for each of the list, so that a free one is enough.
         if self.nodes.has_free() {
@@ -292,8 +343,9 @@ impl<K: Hash + Drop, V: Drop, S: BuildHasher> Pairs<K, V, S> {
     /// Takes a key's pair out. Its place is free then.
     #[inline(always)]
     pub fn remove(&mut self, key: &K) -> Option<Taken<K, V>>
-        ensures removes { Removes K.eq self.old key.now result self.new }
-        ensures valid { IsRecency K.eq self.old.rows }
+        ensures removes { Removes K.eq self.old.held key.now result self.new.held }
+        ensures hashes { self.new.hashes ≡ self.old.hashes }
+        ensures valid { IsRecency K.eq self.old.held.rows }
     {
         self.remove_by(key)
     }
@@ -301,8 +353,9 @@ impl<K: Hash + Drop, V: Drop, S: BuildHasher> Pairs<K, V, S> {
     /// Takes the pair out whose key the query stands for. Its place is free then.
     #[inline(always)]
     pub fn remove_by<Q: Query<K>>(&mut self, query: Q) -> Option<Taken<K, V>>
-        ensures removes { Removes Q.stands_for self.old query result self.new }
-        ensures valid { IsRecency K.eq self.old.rows }
+        ensures removes { Removes Q.stands_for self.old.held query result self.new.held }
+        ensures hashes { self.new.hashes ≡ self.old.hashes }
+        ensures valid { IsRecency K.eq self.old.held.rows }
     {
         let place = self.index.remove_by(&self.nodes, query)?;
         Some(self.nodes.take(place))
@@ -311,8 +364,9 @@ impl<K: Hash + Drop, V: Drop, S: BuildHasher> Pairs<K, V, S> {
     /// Takes the pair out that was used longest ago. Its place is free then.
     #[inline(always)]
     pub fn pop_last(&mut self) -> Option<Taken<K, V>>
-        ensures pops { PopsLast self.old result self.new }
-        ensures valid { IsRecency K.eq self.old.rows }
+        ensures pops { PopsLast self.old.held result self.new.held }
+        ensures hashes { self.new.hashes ≡ self.old.hashes }
+        ensures valid { IsRecency K.eq self.old.held.rows }
     {
         let place = self.nodes.last()?;
         // The walk to the place comes last: what the others read and write is under way meanwhile.
@@ -324,8 +378,9 @@ impl<K: Hash + Drop, V: Drop, S: BuildHasher> Pairs<K, V, S> {
     /// Takes the pair out that was used last. Its place is free then.
     #[inline(always)]
     pub fn pop_first(&mut self) -> Option<Taken<K, V>>
-        ensures pops { PopsFirst self.old result self.new }
-        ensures valid { IsRecency K.eq self.old.rows }
+        ensures pops { PopsFirst self.old.held result self.new.held }
+        ensures hashes { self.new.hashes ≡ self.old.hashes }
+        ensures valid { IsRecency K.eq self.old.held.rows }
     {
         let place = self.nodes.first()?;
         let taken = self.nodes.take(place);
@@ -336,9 +391,10 @@ impl<K: Hash + Drop, V: Drop, S: BuildHasher> Pairs<K, V, S> {
     /// Puts an equal key and another value at a place, and answers those that stood there, with the weight, which stays.
     #[inline(always)]
     pub fn exchange(&mut self, place: Place, key: K, value: V) -> Taken<K, V>
-        requires { SameKey K.eq self.old.rows place key }
-        ensures old { option_map taken (row_at self.old.rows place) ≡ Some result }
-        ensures rows { self.new ≡ recency (with_entry self.old.rows place key value result.weight) self.old.free }
+        requires { SameKey K.eq self.old.held.rows place key }
+        ensures old { option_map taken (row_at self.old.held.rows place) ≡ Some result }
+        ensures rows { self.new.held ≡ recency (with_entry self.old.held.rows place key value result.weight) self.old.held.free }
+        ensures hashes { self.new.hashes ≡ self.old.hashes }
     {
         self.nodes.exchange(place, key, value)
     }
@@ -356,6 +412,7 @@ fn make_room<K: Hash + Drop, V: Drop, S: BuildHasher>(
     requires short { length nodes.old.held.rows < most_rows }
     ensures kept { IsKept K.eq (key_hash S.BuildHasher S.Hasher.Hasher K.hash_input) nodes.new index.new }
     ensures same { nodes.new.held ≡ nodes.old.held }
+    ensures hashes { index.new.hash_builder ≡ index.old.hash_builder }
     ensures room { IfOk result (λ _. length nodes.old.held.rows + 2 < nodes.new.room) }
     ensures refused { IfErr result (λ _. nodes.old.held.free ≡ 0) }
 {
@@ -375,6 +432,7 @@ fn lengthen<K: Hash + Drop, V: Drop, S: BuildHasher>(
     requires full { nodes.old.room ≤ length nodes.old.held.rows + 2 }
     ensures kept { IsKept K.eq (key_hash S.BuildHasher S.Hasher.Hasher K.hash_input) nodes.new index.new }
     ensures same { nodes.new.held ≡ nodes.old.held }
+    ensures hashes { index.new.hash_builder ≡ index.old.hash_builder }
     ensures room { IfOk result (λ _. length nodes.old.held.rows + 2 < nodes.new.room) }
 {
     index.reserve(nodes, nodes.len() as u32 + 3)?;
