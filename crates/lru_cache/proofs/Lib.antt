@@ -7,3 +7,4 @@ pub mod Drained
 pub mod Settled
 pub mod Reweighed
 pub mod Queried
+pub mod Fresh

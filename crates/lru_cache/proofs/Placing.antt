@@ -8,7 +8,7 @@ use Rattle.lru_rows.specs.declared.rows.NoPlace.{NoPlace}
 use Rattle.lru_rows.specs.declared.rows.NoPlace.TheVariants.{Memory, Full}
 use Rattle.lru_rows.specs.Rows.{Placed, placed, Recency, recency, row_of, most_rows, LacksPlace}
 use Rattle.lru_entries.specs.declared.entry.Entry.{Entry}
-use Rattle.lru_cache.specs.Cache.{Clears, with_entries, Cached, entry_of, Fit, HasPlace, Leaves, Limits, PutsFirst}
+use Rattle.lru_cache.specs.Cache.{Clears, with_entries, Cached, entry_of, Fit, Leaves, Limits}
 use Rattle.lru_entries.specs.Entries.{IsShown, entry, entry_in, entries_in}
 use Rattle.lru_cache.specs.Representation.{cached_in, IsKept}
 use Rattle.lru_entries.specs.Partings.{RowsFit, Shrinks}
@@ -16,7 +16,7 @@ use Rattle.lru_entries.proofs.Rows.{weight-entries, length-entries}
 use Rattle.lru_cache.proofs.Entries.{entry-row}
 use Rattle.lru_cache.proofs.Views.{entries_are}
 
-none_of : {A B : Type 0} (f : A → B) (o : Option A) → option_map f o ≡ None → o ≡ None
+pub none_of : {A B : Type 0} (f : A → B) (o : Option A) → option_map f o ≡ None → o ≡ None
 none_of f None e = refl
 none_of f (Some a) e = absurd (false≢true (sym (ap is_some e)))
 
@@ -25,11 +25,11 @@ module _ {K V : Type 0} where
   fit_rows : (w n : ℕ) (rows : List (Placed K V)) → Fit w n (entries_in rows) → RowsFit w n rows
   fit_rows w n rows fit = (omega (arith, fit.0, weight-entries rows), omega (arith, fit.1, length-entries rows))
 
-  rows_fit : (w n : ℕ) (rows : List (Placed K V)) → RowsFit w n rows → Fit w n (entries_in rows)
+  pub rows_fit : (w n : ℕ) (rows : List (Placed K V)) → RowsFit w n rows → Fit w n (entries_in rows)
   rows_fit w n rows fit = (omega (arith, fit.0, weight-entries rows), omega (arith, fit.1, length-entries rows))
 
   -- a key that is not among rows is not among the first of them
-  front_absent : (eq : K → K → Bool) (key : K) (front back : List (Placed K V)) → row_of eq (front ++ back) key ≡ None → row_of eq front key ≡ None
+  pub front_absent : (eq : K → K → Bool) (key : K) (front back : List (Placed K V)) → row_of eq (front ++ back) key ≡ None → row_of eq front key ≡ None
   front_absent eq key [] back none = refl
   front_absent eq key (r ∷ rs) back none =
       cond_both (eq r.key key) (Some r) (row_of eq rs key) (λ o. o ≡ None)
@@ -97,82 +97,4 @@ module _ {K V F : Type 0} (Step : F → Entry K V → F → Type 0) (visit : F) 
     ap (λ x. cached_in x most_weight most_entries) left_empty
         ∙ ap (λ n. record { entries = []; places = n; most_weight = most_weight; most_entries = most_entries }) (omega (arith, ap length all_went))
         ∙ ap (λ (x : Cached K V). with_entries x []) view,
-  )
-
-module _ {K V F : Type 0} (eq : K → K → Bool) (r : Recency K V) (used_is most_weight most_entries : ℕ) (kept : IsKept r used_is most_weight most_entries) (c : Cached K V)
-    (view : cached_in r most_weight most_entries ≡ c) (Step : F → Entry K V → F → Type 0) (visit : F) (w : ℕ) (place : HasPlace c w)
-    (r' : Recency K V) (s : Shrinks Step visit (most_weight - w) (most_entries - 1) r r') where
-  left_rows : r'.rows ≡ s.front
-  left_rows = ap (λ (x : Recency K V). x.rows) s.left
-
-  left_free : r'.free ≡ r.free + length s.back
-  left_free = ap (λ (x : Recency K V). x.free) s.left
-
-  pub absent_left : (key : K) → entry_of eq c.entries key ≡ None → row_of eq r'.rows key ≡ None
-  absent_left key none =
-      ap (λ rs. row_of eq rs key) left_rows
-      ∙ front_absent eq key s.front s.back
-      (ap (λ rs. row_of eq rs key) (sym s.parts) ∙ none_of entry_in (row_of eq r.rows key)
-      (sym (entry-row eq r.rows key) ∙ ap (λ es. entry_of eq es key) (entries_are eq r used_is most_weight most_entries kept c view) ∙ none))
-
-  long : length r.rows ≡ length s.front + length s.back
-  long = ap length s.parts ∙ length-append s.front s.back
-
-  same_weight : most_weight ≡ c.most_weight
-  same_weight = ap (λ (x : Cached K V). x.most_weight) view
-
-  same_most : most_entries ≡ c.most_entries
-  same_most = ap (λ (x : Cached K V). x.most_entries) view
-
-  many : length c.entries ≡ length r.rows
-  many = sym (ap length (entries_are eq r used_is most_weight most_entries kept c view)) ∙ length-entries r.rows
-
-  -- what was put over a limit made some go
-  some_gone : (Fit (c.most_weight - w) (c.most_entries - 1) c.entries → ⊥) → 1 ≤ length s.back
-  some_gone over = from s.back refl
-    where
-      from : (back : List (Placed K V)) → s.back ≡ back → 1 ≤ length s.back
-      from [] e =
-          let all : r.rows ≡ s.front = s.parts ∙ ap (λ bs. s.front ++ bs) e ∙ append-nil s.front in
-          absurd (over (subst (λ es. Fit (c.most_weight - w) (c.most_entries - 1) es) (ap entries_in (sym all) ∙ entries_are eq r used_is most_weight most_entries kept c view)
-          (subst (λ n. Fit (n - w) (c.most_entries - 1) (entries_in s.front)) same_weight (subst (λ n. Fit (most_weight - w) (n - 1) (entries_in s.front)) same_most (rows_fit (most_weight - w) (most_entries - 1) s.front s.fits)))))
-      from (b ∷ bs) e = omega (arith, ap length e)
-
-  -- a place is free, and there may be a row more
-  place_left : (1 ≤ r.free + length s.back) × (length s.front < most_rows)
-  place_left = from place
-    where
-      from : HasPlace c w → (1 ≤ r.free + length s.back) × (length s.front < most_rows)
-      from (inl free) = (omega (arith, free.0, many, ap (λ (x : Cached K V). x.places) view), omega (arith, free.1, many, long))
-      from (inr over) = let gone = some_gone over.1 in (omega (arith, gone), omega (arith, gone, over.0, many, long))
-
-  pub lacks_none : (cause : NoPlace) → LacksPlace r' cause → ⊥
-  lacks_none Memory lacks = absurd (omega (arith, lacks.1, left_free, place_left.0))
-  lacks_none Full lacks = absurd (omega (arith, lacks, ap length left_rows, place_left.1))
-
-  leaves : Leaves (c.most_weight - w) (c.most_entries - 1) c.entries (entries_in s.front) (entries_in s.back)
-  leaves =
-      subst (λ a. Leaves (a - w) (c.most_entries - 1) c.entries (entries_in s.front) (entries_in s.back)) same_weight
-      (subst (λ n. Leaves (most_weight - w) (n - 1) c.entries (entries_in s.front) (entries_in s.back)) same_most
-      (subst (λ es. Leaves (most_weight - w) (most_entries - 1) es (entries_in s.front) (entries_in s.back)) (entries_are eq r used_is most_weight most_entries kept c view)
-      (leaves_rows Step visit (most_weight - w) (most_entries - 1) r r' s)))
-
-  pub puts_first : (k : K) (v : V) (p : ℕ) (new : Recency K V) → new ≡ recency (placed p k v w ∷ r'.rows) (r'.free - 1) → PutsFirst Step visit c k v w (cached_in new most_weight most_entries)
-  puts_first k v p new is = (
-    entries_in s.front,
-    (
-      entries_in s.back,
-      (
-        leaves,
-        (
-          s.shown,
-          ap (λ x. cached_in x most_weight most_entries) is
-              ∙ ap (λ rs. record { entries = entry k v w ∷ entries_in rs; places = length (placed p k v w ∷ rs) + (r'.free - 1); most_weight = most_weight; most_entries = most_entries }) left_rows
-              ∙ ap (λ n. record { entries = entry k v w ∷ entries_in s.front; places = n; most_weight = most_weight; most_entries = most_entries })
-              (omega (arith, left_free, place_left.0, long, ap (λ (x : Cached K V). x.places) view))
-              ∙ ap (λ n. record { entries = entry k v w ∷ entries_in s.front; places = c.places; most_weight = n; most_entries = most_entries }) same_weight
-              ∙ ap (λ n. record { entries = entry k v w ∷ entries_in s.front; places = c.places; most_weight = c.most_weight; most_entries = n }) same_most,
-        ),
-      ),
-    ),
   )

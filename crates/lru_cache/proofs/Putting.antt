@@ -9,7 +9,7 @@ use Rattle.lru_entries.specs.declared.entry.Entry.{Entry}
 use Rattle.lru_cache.specs.declared.cache.Refused.{Refused}
 use Rattle.lru_cache.specs.declared.cache.Cause.{Cause}
 use Rattle.lru_cache.specs.declared.cache.Cause.TheVariants.{TooHeavy, Full, Memory}
-use Rattle.lru_cache.specs.Cache.{Cached, entry_of, without, Fit, IsCache, HasPlace, MakesPlace, MayRefuse, Leaves, PutsFirst, Puts, Settles, with_entries, used}
+use Rattle.lru_cache.specs.Cache.{Cached, entry_of, without, Fit, IsCache, MayRefuse, Leaves, Puts, Settles, with_entries, used}
 use Rattle.lru_entries.specs.Entries.{entry, weight_of}
 use Rattle.lru_rows.specs.Rows.{Recency}
 use Rattle.lru_cache.specs.Representation.{cached_in}
@@ -50,143 +50,13 @@ module _ {K V : Type 0} (eq : K → K → Bool) where
         one_less es key (sym (ap (λ b. is_some (cond b (Some e) (entry_of eq es key))) is) ∙ some),
       ))
 
-  all_left : (es : List (Entry K V)) (key : K) → entry_of eq es key ≡ None → without eq es key ≡ es
+  pub all_left : (es : List (Entry K V)) (key : K) → entry_of eq es key ≡ None → without eq es key ≡ es
   all_left [] key none = refl
   all_left (e ∷ es) key none =
       by_bool (eq e.key key)
       (λ is. absurd (false≢true (ap is_some (sym none ∙ ap (λ b. cond b (Some e) (entry_of eq es key)) is))))
       (λ is. ap (λ b. cond (not b) (e ∷ without eq es key) (without eq es key)) is
       ∙ ap (λ xs. e ∷ xs) (all_left es key (sym (ap (λ b. cond b (Some e) (entry_of eq es key)) is) ∙ none)))
-
-  none_left : (es : List (Entry K V)) (key : K) → entry_of eq (without eq es key) key ≡ None
-  none_left [] key = refl
-  none_left (e ∷ es) key =
-      by_bool (eq e.key key)
-      (λ is. ap (λ b. entry_of eq (cond (not b) (e ∷ without eq es key) (without eq es key)) key) is ∙ none_left es key)
-      (λ is. ap (λ b. entry_of eq (cond (not b) (e ∷ without eq es key) (without eq es key)) key) is
-      ∙ ap (λ b. cond b (Some e) (entry_of eq (without eq es key) key)) is ∙ none_left es key)
-
-  module _ (old : Cached K V) (valid : IsCache eq old) (key : K) (w : ℕ) (removed : Cached K V) (removed_is : removed ≡ with_entries old (without eq old.entries key)) where
-    -- the cache just before the entry is put first
-    pub record Ready (m : Cached K V) : Type 0 where
-      pub entries : m.entries ≡ without eq old.entries key
-      pub most_weight : m.most_weight ≡ old.most_weight
-      pub most_entries : m.most_entries ≡ old.most_entries
-      pub place : HasPlace m w
-      pub places : (front gone : List (Entry K V)) → Leaves (m.most_weight - w) (m.most_entries - 1) m.entries front gone → m.places ≡ max old.places (length front + 1)
-
-    removed_entries : removed.entries ≡ without eq old.entries key
-    removed_entries = ap (λ (c : Cached K V). c.entries) removed_is
-
-    removed_places : removed.places ≡ old.places
-    removed_places = omega (arith, ap (λ (c : Cached K V). c.places) removed_is, shorter old.entries key, valid.placed)
-
-    front_short : (es front gone : List (Entry K V)) → es ≡ front ++ gone → length es ≡ length front + length gone
-    front_short es front gone is = ap length is ∙ length-append front gone
-
-    -- a key that had an entry has left its place
-    pub ready_there : is_some (entry_of eq old.entries key) ≡ true → Ready removed
-    ready_there some = record {
-      entries = removed_entries;
-      most_weight = ap (λ (c : Cached K V). c.most_weight) removed_is;
-      most_entries = ap (λ (c : Cached K V). c.most_entries) removed_is;
-      place = inl (omega (arith, removed_places, ap length removed_entries, one_less old.entries key some, valid.placed), omega (arith, ap length removed_entries, one_less old.entries key some, valid.short));
-      places = λ front gone l. omega (arith, removed_places, ap length removed_entries, one_less old.entries key some, valid.placed, front_short removed.entries front gone l.parts);
-    }
-
-    -- where entries fit, none goes
-    none_goes : (a n : ℕ) (es front gone : List (Entry K V)) → Fit a n es → Leaves a n es front gone → length front ≡ length es
-    none_goes a n es front [] fit l = omega (arith, front_short es front [] l.parts)
-    none_goes a n es front (e ∷ rest) fit l =
-        absurd (l.needed e rest refl (omega (arith, fit.0, weight-parts), omega (arith, fit.1, front_short es front (e ∷ rest) l.parts, length-append front (e ∷ []))))
-      where
-        weight-parts : weight_of (front ++ e ∷ []) ≤ weight_of es
-        weight-parts = omega (
-          arith,
-          ap weight_of l.parts,
-          sum_by-append (λ (x : Entry K V). x.weight) front (e ∷ rest),
-          sum_by-append (λ (x : Entry K V). x.weight) front (e ∷ []),
-          sum_by-cons (λ (x : Entry K V). x.weight) e rest,
-          sum_by-cons (λ (x : Entry K V). x.weight) e [],
-        )
-
-    -- where they do not, some go
-    some_goes : (a n : ℕ) (es front gone : List (Entry K V)) → (Fit a n es → ⊥) → Leaves a n es front gone → 1 ≤ length gone
-    some_goes a n es front [] over l = absurd (over (subst (Fit a n) (sym (append-nil front) ∙ sym l.parts) l.fits))
-    some_goes a n es front (e ∷ rest) over l = omega arith
-
-    pub ready_new : (m : Cached K V) → MakesPlace removed w (Ok tt) m → Ready m
-    ready_new m (inl (same, over)) = subst Ready (sym same) (record {
-      entries = removed_entries;
-      most_weight = ap (λ (c : Cached K V). c.most_weight) removed_is;
-      most_entries = ap (λ (c : Cached K V). c.most_entries) removed_is;
-      place = inr over;
-      places = λ front gone l. omega (
-        arith,
-        removed_places,
-        ap length removed_entries,
-        shorter old.entries key,
-        valid.placed,
-        front_short removed.entries front gone l.parts,
-        some_goes (removed.most_weight - w) (removed.most_entries - 1) removed.entries front gone over.1 l,
-      );
-    })
-    ready_new m (inr (more, few)) = subst Ready (sym more) (record {
-      entries = removed_entries;
-      most_weight = ap (λ (c : Cached K V). c.most_weight) removed_is;
-      most_entries = ap (λ (c : Cached K V). c.most_entries) removed_is;
-      place = inl (omega arith, few.0);
-      places = λ front gone l. omega (arith, removed_places, none_goes (removed.most_weight - w) (removed.most_entries - 1) removed.entries front gone few.1 l);
-    })
-
-    pub absent_ready : (m : Cached K V) → Ready m → entry_of eq m.entries key ≡ None
-    absent_ready m ready = ap (λ es. entry_of eq es key) ready.entries ∙ none_left old.entries key
-
-    -- the entry is put
-    pub puts : {F : Type 0} (Step : F → Entry K V → F → Type 0) (visit : F) (v : V) (m new : Cached K V) → (w ≤ old.most_weight) × (0 < old.most_entries) → Ready m → PutsFirst Step visit m key v w new → (was : Option (Entry K V)) → was ≡ entry_of eq old.entries key →
-        Puts eq Step visit old key v w (Ok was) new
-    puts Step visit v m new fits ready (front, (gone, (l, (shown, is)))) was was_is = (
-      fits,
-      (
-        was_is,
-        (
-          front,
-          (
-            gone,
-            (
-              subst (λ a. Leaves (a - w) (old.most_entries - 1) (without eq old.entries key) front gone) ready.most_weight
-                  (subst (λ n. Leaves (m.most_weight - w) (n - 1) (without eq old.entries key) front gone) ready.most_entries
-                  (subst (λ es. Leaves (m.most_weight - w) (m.most_entries - 1) es front gone) ready.entries l)),
-              (
-                shown,
-                is
-                    ∙ ap (λ n. record { entries = entry key v w ∷ front; places = n; most_weight = m.most_weight; most_entries = m.most_entries }) (omega (arith, ready.places front gone l))
-                    ∙ ap (λ a. record { entries = entry key v w ∷ front; places = max old.places (length (entry key v w ∷ front)); most_weight = a; most_entries = m.most_entries }) ready.most_weight
-                    ∙ ap (λ n. record { entries = entry key v w ∷ front; places = max old.places (length (entry key v w ∷ front)); most_weight = old.most_weight; most_entries = n }) ready.most_entries,
-              ),
-            ),
-          ),
-        ),
-      ),
-    )
-
-    -- or refused, where the key had no entry
-    module _ (none : entry_of eq old.entries key ≡ None) where
-      unremoved : removed ≡ old
-      unremoved =
-          removed_is ∙ ap (with_entries old) (all_left old.entries key none)
-          ∙ ap (λ n. record { entries = old.entries; places = n; most_weight = old.most_weight; most_entries = old.most_entries }) (omega (arith, valid.placed))
-
-      refuse : (cause : Cause) (new : Cached K V) → MakesPlace old w (Err cause) new → MayRefuse eq old key w cause × (new ≡ old)
-      refuse TooHeavy new made = absurd made
-      refuse Full new made = ((none, made.1), made.0)
-      refuse Memory new made = ((none, made.1), made.0)
-
-      pub refuses : {F : Type 0} (Step : F → Entry K V → F → Type 0) (visit : F) (v : V) (cause : Cause) (new : Cached K V) → MakesPlace removed w (Err cause) new → (r : Refused K V) → r.cause ≡ cause → r.key ≡ key → r.value ≡ v →
-          Puts eq Step visit old key v w (Err r) new
-      refuses Step visit v cause new made r cause_is key_is value_is =
-          let told = refuse cause new (subst (λ c. MakesPlace c w (Err cause) new) unremoved made) in
-          (subst (MayRefuse eq old key w) (sym cause_is) told.0, (key_is, (value_is, told.1)))
 
   -- an entry that was put in place of its key's, and the others go that have to
   module _ (old : Cached K V) (valid : IsCache eq old) (key : K) (v : V) (w u : ℕ) (m : Cached K V) (m_is : m ≡ with_entries old (entry key v u ∷ without eq old.entries key)) (e : Entry K V) (had : entry_of eq old.entries key ≡ Some e) where

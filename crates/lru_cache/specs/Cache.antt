@@ -4,6 +4,8 @@ use Rattle.std.specs.Option.{option_map_or}
 use Rattle.std.specs.List.{FoldsTo}
 use Rattle.std.specs.Coded.{Coded, code_by, coded×, coded_ℕ, coded_list}
 use Rattle.std.specs.Borrow.{Bor, MutBor}
+use Rattle.lru_rows.specs.declared.rows.NoPlace.{NoPlace}
+use Rattle.lru_rows.specs.declared.rows.NoPlace.TheVariants.{Memory as NoMemory, Full as NoMore}
 use Rattle.lru_rows.specs.Rows.{most_rows, Updates}
 use Rattle.lru_entries.specs.declared.entry.Entry.{Entry}
 use Rattle.lru_entries.specs.Entries.{entry_code, entry, weight_of, IsShown, Asks, kept_of, gone_of}
@@ -12,6 +14,11 @@ use Rattle.lru_cache.specs.declared.cache.NotPut.{NotPut}
 use Rattle.lru_cache.specs.declared.cache.NotPut.TheVariants.{Unmade, Refused as EntryRefused}
 use Rattle.lru_cache.specs.declared.cache.Cause.{Cause}
 use Rattle.lru_cache.specs.declared.cache.Cause.TheVariants.{TooHeavy, Full, Memory}
+
+-- why an entry is refused for which there is no place
+abbrev pub cause_of : NoPlace → Cause
+cause_of NoMemory = Memory
+cause_of NoMore = Full
 
 -- the entries, most recent first; for how many there is memory; and how heavy and how many they may be
 pub record Cached (K V : Type 0) : Type 0 where
@@ -58,29 +65,6 @@ module _ {K V : Type 0} where
     pub parts : es ≡ front ++ gone
     pub fits : Fit w n front
     pub needed : (e : Entry K V) (rest : List (Entry K V)) → gone ≡ e ∷ rest → Fit w n (front ++ e ∷ []) → ⊥
-
-  -- there is a place for an entry of this weight: one is free, or another entry has to go for it
-  abbrev pub HasPlace : Cached K V → ℕ → Type 0
-  HasPlace c w = ((length c.entries < c.places) × (length c.entries < most_rows)) ⊎ ((length c.entries ≤ most_rows) × (Fit (c.most_weight - w) (c.most_entries - 1) c.entries → ⊥))
-
-  -- the cache with this many places
-  abbrev pub with_places : Cached K V → ℕ → Cached K V
-  with_places c n = record { entries = c.entries; places = n; most_weight = c.most_weight; most_entries = c.most_entries }
-
-  -- a place is made sure of: a free one where nothing has to go, or it is refused
-  abbrev pub MakesPlace : Cached K V → ℕ → Result (Unit {0}) Cause → Cached K V → Type 0
-  MakesPlace old w (Ok _) new =
-      ((new ≡ old) × ((length old.entries ≤ most_rows) × (Fit (old.most_weight - w) (old.most_entries - 1) old.entries → ⊥)))
-      ⊎ ((new ≡ with_places old (max old.places (length old.entries + 1))) × ((length old.entries < most_rows) × Fit (old.most_weight - w) (old.most_entries - 1) old.entries))
-  MakesPlace old w (Err TooHeavy) new = ⊥
-  MakesPlace old w (Err Full) new = (new ≡ old) × (Fit (old.most_weight - w) (old.most_entries - 1) old.entries × (length old.entries ≡ most_rows))
-  MakesPlace old w (Err Memory) new = (new ≡ old) × (Fit (old.most_weight - w) (old.most_entries - 1) old.entries × ((length old.entries < most_rows) × (old.places ≡ length old.entries)))
-
-  -- an entry is put first, and the shortest end of the others goes that has to
-  abbrev pub PutsFirst : {F : Type 0} → (F → Entry K V → F → Type 0) → F → Cached K V → K → V → ℕ → Cached K V → Type 0
-  PutsFirst Step visit old k v w new =
-      (front : List (Entry K V)) × ((gone : List (Entry K V)) × (Leaves (old.most_weight - w) (old.most_entries - 1) old.entries front gone × (IsShown Step visit gone
-      × (new ≡ record { entries = entry k v w ∷ front; places = old.places; most_weight = old.most_weight; most_entries = old.most_entries }))))
 
   -- the limits are others, and the shortest end of the entries goes that has to
   abbrev pub Limits : {F : Type 0} → (F → Entry K V → F → Type 0) → F → Cached K V → ℕ → ℕ → Cached K V → Type 0

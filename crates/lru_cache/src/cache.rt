@@ -2,13 +2,13 @@
 ghost use Rattle.std.specs.Prelude.{◌≡◌, ◌+◌, ◌<◌, ◌≤◌, None, length, map, is_some, nat_eq, IfOk};
 ghost use Rattle.std.specs.Option.{option_map, option_copied};
 ghost use Rattle.lru_rows.specs.Rows.{most_rows};
-ghost use Rattle.lru_cache.specs.Cache.{empty, entry_of, without, used, demoted, parts_of, with_entries, Puts, PutsWeighed, PutsFirst, HasPlace, MakesPlace, PopsLast, PopsFirst, IsLast, Limits, Clears, Drains, Retains, RetainsLast, UpdatesEntry, Reweighs, Settles, UsesOrPuts, IsCache};
+ghost use Rattle.lru_cache.specs.Cache.{empty, entry_of, without, used, demoted, parts_of, with_entries, cause_of, Puts, PutsWeighed, PopsLast, PopsFirst, IsLast, Limits, Clears, Drains, Retains, RetainsLast, UpdatesEntry, Reweighs, Settles, UsesOrPuts, IsCache};
 ghost use Rattle.lru_entries.specs.Entries.{weight_of, entry};
 
 use lru_entries::draining::drain;
 pub use lru_entries::entry::Entry;
 use lru_entries::keeping::{retain, retain_last};
-use lru_entries::shrinking::{fits, shrink};
+use lru_entries::shrinking::shrink;
 use lru_index::hashing::SeededHashes;
 use lru_index::keys::Query;
 use lru_pairs::iter::{PairsEntries, PairsKeys};
@@ -48,6 +48,16 @@ impl Display for Cause {
 }
 
 impl Error for Cause {}
+
+// The cause of an entry's refusal for which there was no place.
+fn cause_of(none: NoPlace) -> Cause
+    ensures { result ≡ cause_of none }
+{
+    match none {
+        NoPlace::Memory => Cause::Memory,
+        NoPlace::Full => Cause::Full,
+    }
+}
 
 /// A refused entry: why, and its key and value, handed back.
 #[derive(Debug, Drop)]
@@ -101,9 +111,9 @@ impl<K: Hash, V, S: BuildHasher> Model for Cache<K, V, S> {
 
     ghost coded = { cached_code K.code V.code };
 
-    ghost view = { λ c. cached_in c.rows c.most_weight c.most_entries };
+    ghost view = { λ c. cached_in c.rows.held c.most_weight c.most_entries };
 
-    ghost invariant = { λ c. IsKept c.rows c.weight c.most_weight c.most_entries };
+    ghost invariant = { λ c. IsKept c.rows.held c.weight c.most_weight c.most_entries };
 }
 
 impl<K: Hash + Drop, V: Drop> Cache<K, V, SeededHashes> {
@@ -343,7 +353,8 @@ impl<K: Hash + Drop, V: Drop, S: BuildHasher> Cache<K, V, S> {
         if weight > self.most_weight || self.most_entries == 0 {
             return Err(Refused::new(Cause::TooHeavy, key, value));
         }
-        if let Some(place) = self.rows.find(&key) {
+        let hash = self.rows.hash_of(&key);
+        if let Some(place) = self.rows.find_hashed(&key, hash) {
             self.rows.promote(place);
             let was = self.rows.exchange(place, key, value);
             self.settle(weight, visit);
@@ -353,11 +364,22 @@ impl<K: Hash + Drop, V: Drop, S: BuildHasher> Cache<K, V, S> {
                 weight: was.weight,
             }));
         }
-        if let Err(cause) = self.make_place(weight) {
-            return Err(Refused::new(cause, key, value));
+        // Where something goes, its place is free then: only where nothing has to go may a place be refused.
+        let (most_weight, most_entries) = (self.most_weight - weight, self.most_entries - 1);
+        self.weight = shrink(
+            &mut self.rows,
+            self.weight,
+            most_weight,
+            most_entries,
+            visit,
+        );
+        match self.rows.push_first_hashed(key, value, weight, hash) {
+            Ok(_) => {
+                self.weight += weight;
+                Ok(None)
+            }
+            Err(back) => Err(Refused::new(cause_of(back.cause), back.key, back.value)),
         }
-        self.put_first(key, value, weight, visit);
-        Ok(None)
     }
 
     /// Puts an entry whose weight `weigh` tells by its key and its value, as `put` does.
@@ -484,50 +506,6 @@ impl<K: Hash + Drop, V: Drop, S: BuildHasher> Cache<K, V, S> {
         ensures room { IfOk result (λ _. length self.new.entries + additional ≤ most_rows) }
     {
         self.rows.reserve(additional)
-    }
-
-    // Makes sure of a place for an entry of this weight, whose key has none. Where another has to go for it, its place is
-    // free then.
-    fn make_place(&mut self, weight: usize) -> Result<(), Cause>
-        requires light { weight ≤ self.old.most_weight }
-        requires some { 0 < self.old.most_entries }
-        ensures { MakesPlace self.old weight result self.new }
-    {
-        let most_weight = self.most_weight - weight;
-        let most_entries = self.most_entries - 1;
-        if !fits(self.weight, self.rows.len(), most_weight, most_entries) {
-            return Ok(());
-        }
-        match self.rows.make_vacancy() {
-            Ok(()) => Ok(()),
-            Err(NoPlace::Memory) => Err(Cause::Memory),
-            Err(NoPlace::Full) => Err(Cause::Full),
-        }
-    }
-
-    // Puts an entry first whose key has none, for which there is a place, and lets go of those that have to go for it.
-    fn put_first<F: FnMut(Entry<K, V>) + Drop>(&mut self, key: K, value: V, weight: usize, visit: F)
-        requires visit { F.IsAlwaysCallable visit }
-        requires light { weight ≤ self.old.most_weight }
-        requires some { 0 < self.old.most_entries }
-        requires absent { entry_of K.eq self.old.entries key ≡ None }
-        requires place { HasPlace self.old weight }
-        ensures { PutsFirst (λ p x q. F.step p x tt q) visit self.old key value weight self.new }
-    {
-        let most_weight = self.most_weight - weight;
-        let most_entries = self.most_entries - 1;
-        self.weight = shrink(
-            &mut self.rows,
-            self.weight,
-            most_weight,
-            most_entries,
-            visit,
-        );
-        match self.rows.push_first(key, value, weight) {
-            Ok(_) => {}
-            Err(_) => unreachable!(),
-        }
-        self.weight += weight;
     }
 
     /// Gives the cache other limits. Then the entries that were used longest ago go, as many as have to, and each is

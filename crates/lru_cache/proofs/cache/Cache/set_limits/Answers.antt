@@ -3,5 +3,5 @@ use Rattle.lru_cache.proofs.cache.Cache.set_limits.Goals as goal
 
 pub returns : goal.returns
 returns g c =
-    limits_set (λ p x q. goal.F-step g p x tt q) c.args.visit c.args.most_weight c.args.most_entries c.self.inside.rows c.shrink-self-inside.new.rows c.shrink-self-inside.ensures.shrinks
+    limits_set (λ p x q. goal.F-step g p x tt q) c.args.visit c.args.most_weight c.args.most_entries c.self.inside.rows.held c.shrink-self-inside.new.rows.held c.shrink-self-inside.ensures.shrinks
     c.self.inside.weight c.self.inside.most_weight c.self.inside.most_entries c.args.self.now c.self.view_is
