@@ -1,5 +1,5 @@
 //! Pairs by their places, and the order that they stand in, apart from any index.
-ghost use Rattle.std.specs.Prelude.{◌≡◌, ◌+◌, ◌<◌, ◌≤◌, ◌==◌, ◌∷◌, ◌++◌, [], Some, IsSome, IfOk, OnOk, OnErr, not, length, map, nat_lt, if◌then◌else◌};
+ghost use Rattle.std.specs.Prelude.{◌≡◌, ◌+◌, ◌-◌, ◌<◌, ◌≤◌, ◌==◌, ◌∷◌, ◌++◌, [], Some, IsSome, IfOk, OnOk, OnErr, not, length, map, nat_lt, replicate};
 ghost use Rattle.std.specs.Option.{option_map};
 ghost use Rattle.lru_rows.specs.Rows.{recency, row_at, IsAt, placed, taken, entry_of, without, promoted, demoted, with_weight, first_row, last_row, Pushes, MakesVacancy, UpdatesAt};
 ghost use Rattle.lru_pairs.specs.Pairs.{with_entry};
@@ -174,14 +174,13 @@ impl<K, V> Nodes<K, V> {
         self.weights[place as usize] = weight;
     }
 
-    /// Makes room for `additional` more pairs in the list and the column. Nothing else changes, also where it is refused.
-    pub(crate) fn reserve(&mut self, additional: usize) -> Result<(), AllocError>
-        requires { length self.old.held.rows + additional + 2 ≤ 4294967295 }
+    /// Makes room for `additional` more pairs in the list, and for `places` in the column. Nothing else changes, also where
+    /// it is refused.
+    pub(crate) fn reserve(&mut self, additional: usize, places: u32) -> Result<(), AllocError>
         ensures { self.new ≡ self.old }
     {
-        let places = self.list.len() + additional + SENTINELS;
         self.weights
-            .reserve_exact(places.saturating_sub(self.weights.len()))?;
+            .reserve_exact((places as usize).saturating_sub(self.weights.len()))?;
         self.list.reserve(additional)
     }
 }
@@ -212,26 +211,29 @@ impl<K, V> Nodes<K, V> {
 }
 
 impl<K: Drop, V: Drop> Nodes<K, V> {
-    /// No pairs, with room for `capacity`.
-    pub(crate) fn with_capacity(alloc: Global, capacity: usize) -> Result<Self, AllocError>
-        requires { capacity ≤ 4294967293 }
+    /// No pairs, with room for `capacity`, and for `places` in the column.
+    pub(crate) fn with_capacity(
+        alloc: Global,
+        capacity: usize,
+        places: u32,
+    ) -> Result<Self, AllocError>
         ensures empty { IfOk result (λ nodes. nodes ≡ laid (recency [] 0) 2) }
         ensures valid { IfOk result IsLaid }
     {
         let list = LinkedList::with_capacity(alloc, capacity)?;
-        let mut weights = Vec::with_capacity(alloc, capacity + SENTINELS)?;
+        let mut weights = Vec::with_capacity(alloc, places as usize)?;
         weights.resize(SENTINELS, 0)?;
         Ok(Nodes { list, weights })
     }
 
-    /// Makes the column one place longer. Where there is no memory for that, nothing changes.
-    pub(crate) fn lengthen(&mut self) -> Result<(), AllocError>
-        requires { self.old.room < 4294967295 }
-        ensures done { OnOk result (self.new ≡ laid self.old.held (self.old.room + 1)) }
+    /// Makes the column so many places long. Where there is no memory for that, nothing changes.
+    pub(crate) fn lengthen(&mut self, places: u32) -> Result<(), AllocError>
+        requires { self.old.room ≤ places }
+        ensures done { OnOk result (self.new ≡ laid self.old.held places) }
         ensures refused { OnErr result (self.new ≡ self.old) }
         ensures valid { IsLaid self.new }
     {
-        push_tight(&mut self.weights, 0)
+        fill_up(&mut self.weights, places as usize)
     }
 
     /// Puts a pair first, at a place that the column has, and answers the place.
@@ -327,17 +329,12 @@ fn unpushed<K, V>(cause: NoPlace, node: Option<(K, V)>) -> Unpushed<K, V>
     }
 }
 
-// Pushes where a column that is full grows by an eighth, so that little memory stands empty.
-fn push_tight(column: &mut Vec<usize>, item: usize) -> Result<(), AllocError>
-    ensures done { OnOk result (column.new.items ≡ column.old.items ++ item ∷ []) }
+// Puts zeros behind a column, until it is so long. Where there is no memory for them, nothing has changed.
+fn fill_up(column: &mut Vec<usize>, len: usize) -> Result<(), AllocError>
+    requires { length column.old.items ≤ len }
+    ensures made { OnOk result (column.new.items ≡ column.old.items ++ replicate (len - length column.old.items) 0) }
     ensures refused { OnErr result (column.new.items ≡ column.old.items) }
 {
-    let len = column.len();
-    if len == column.capacity() {
-        column.reserve_exact(len / 8 + 1)?;
-    }
-    match column.push(item) {
-        Ok(()) => Ok(()),
-        Err(_) => Err(AllocError),
-    }
+    column.reserve_exact(len - column.len())?;
+    column.resize(len, 0)
 }

@@ -90,9 +90,9 @@ impl<K: Hash + Drop, V: Drop, S: BuildHasher + Drop> Pairs<K, V, S> {
         if capacity > MOST_ITEMS {
             return Err(AllocError);
         }
-        let nodes = Nodes::with_capacity(alloc, capacity)?;
         let places = capacity as u32 + 2;
         let index = PlaceIndex::with_capacity_and_hasher(alloc, places, hash_builder)?;
+        let nodes = Nodes::with_capacity(alloc, capacity, index.room())?;
         Ok(Pairs { nodes, index })
     }
 }
@@ -259,7 +259,7 @@ impl<K: Hash, V, S: BuildHasher> Pairs<K, V, S> {
         }
         self.index
             .reserve(&self.nodes, (len + additional) as u32 + 2)?;
-        self.nodes.reserve(additional)
+        self.nodes.reserve(additional, self.index.room())
     }
 }
 
@@ -422,7 +422,7 @@ fn make_room<K: Hash + Drop, V: Drop, S: BuildHasher>(
     lengthen(nodes, index)
 }
 
-// The column grows by an eighth, so that little memory stands empty.
+// The column grows as the index does, by an eighth, so that little memory stands empty.
 fn lengthen<K: Hash + Drop, V: Drop, S: BuildHasher>(
     nodes: &mut Nodes<K, V>,
     index: &mut PlaceIndex<S>,
@@ -436,5 +436,5 @@ fn lengthen<K: Hash + Drop, V: Drop, S: BuildHasher>(
     ensures room { IfOk result (λ _. length nodes.old.held.rows + 2 < nodes.new.room) }
 {
     index.reserve(nodes, nodes.len() as u32 + 3)?;
-    nodes.lengthen()
+    nodes.lengthen(index.room())
 }
