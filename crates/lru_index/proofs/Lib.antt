@@ -3,5 +3,7 @@ pub mod Chained
 pub mod ForCallers
 pub mod Indexed
 pub mod Led
+pub mod Marked
+pub mod Scales
 pub mod Tables
 pub mod Walked

@@ -1,9 +1,9 @@
 -- Laws of a walk along a chain.
 use Rattle.std.proofs.Common.{◌≡◌, ℕ, ◌+◌, ◌<◌, ◌≤◌, Bool, List, [], ◌∷◌, ◌++◌, length, refl, sym, ap, ◌∙◌, subst, arith, inl, inr, Option, Some, append_assoc, length-append}
 use Rattle.lru_index.specs.Index.{HasKey, Differs}
-use Rattle.lru_index.specs.Representation.Cells.{In, at, IsChain, Chains, IsTable, rest_of, home_in}
+use Rattle.lru_index.specs.Representation.Cells.{In, at, IsChain, Chains, IsTable, IsUsed, rest_of, home_in}
 use Rattle.lru_index.specs.Representation.Walks.{Walks, StopsAt, Reaches}
-use Rattle.lru_index.proofs.Chained.{in_right, in_either, few, within, end_within, end_chain, end_snoc, path_is}
+use Rattle.lru_index.proofs.Chained.{in_left, in_right, end_is, in_either, few, within, end_within, end_chain, end_snoc, path_is}
 
 -- the first place of a chain is what leads to it
 pub first_is : (cells : List ℕ) (heads v : ℕ) (ps : List ℕ) → IsChain cells heads v ps → (v ≡ 0 → ⊥) → (tail : List ℕ) × (ps ≡ v ∷ tail)
@@ -31,6 +31,14 @@ module _ {K Q : Type 0} (eq : K → Q → Bool) (keys : ℕ → Option K) (key :
     short =
         let all = few (w.front ++ w.rest) (length cells) w.chain.apart (λ p i. let f = within cells heads (at cells b) (w.front ++ w.rest) w.chain.joined p i in omega (arith, f.1)) in
         omega (arith, all, length-append w.front w.rest)
+
+    -- the chain leads through the cell
+    pub used_cell : IsUsed heads (home_in cells heads) cell
+    used_cell =
+        elim (end_is heads b w.front) [
+          | inl e ↦ inl (subst (λ c. c < heads) (sym (w.cell_is ∙ e)) low)
+          | inr f ↦ inr (f.0, b, w.cell_is ∙ f.2, w.chain.only f.0 (in_left f.0 w.front w.rest f.1))
+        ]
 
     -- at the end of the chain
     pub at_end : at cells cell ≡ 0 → Reaches eq keys key cells heads b cell

@@ -1,10 +1,12 @@
 //! The cells of an index: a head for each home, and behind the heads a link for each place.
 //!
-//! A head holds the first place of its home, and a link the place behind its own; 0 ends a chain.
-ghost use Rattle.std.specs.Prelude.{◌≡◌, ℕ, ◌+◌, ◌-◌, ◌*◌, ◌^◌, ◌<◌, ◌≤◌, ◌/◌, ◌++◌, length, vec_len, IfOk, OnOk, OnErr, IsSome, Some, None, ◌==◌, get_or, set, replicate};
-ghost use Rattle.lru_index.specs.Representation.Cells.{IsTable, IsFilled, home_in};
+//! A head holds the first place of its home, and a link the place behind its own; 0 ends a chain. The bits of a cell that no
+//! place takes are those of the hash of that place's key, directly beneath those that tell the home: so a look-up passes most
+//! other keys without a look at them. The greatest tables leave no bit.
+ghost use Rattle.std.specs.Prelude.{◌≡◌, ℕ, ◌+◌, ◌-◌, ◌*◌, ◌^◌, ◌<◌, ◌≤◌, ◌/◌, ◌%◌, ◌++◌, ◌≢◌, length, vec_len, IfOk, OnOk, OnErr, IsSome, Some, None, false, ◌==◌, get_or, set, replicate};
+ghost use Rattle.lru_index.specs.Representation.Cells.{at, IsPower, IsTable, IsFilled, home_in, places_in};
 ghost use Rattle.lru_index.specs.Hashing.{key_hash};
-ghost use Rattle.lru_index.specs.Representation.Walks.{Reaches};
+ghost use Rattle.lru_index.specs.Representation.Walks.{IsTold, Reaches};
 
 use crate::hashing::hash_of;
 use crate::keys::{Keys, Query};
@@ -36,6 +38,7 @@ pub(crate) fn shift_for(most: u32, places: u32) -> u32
     requires most { most ≤ 63 }
     ensures least { 33 ≤ result }
     ensures most { result ≤ most }
+    ensures wide { 33 < result → places ≤ 2 ^ (64 - result) / 4 * 3 + 2 }
 {
     let mut shift = most;
     while shift > LEAST_SHIFT && places_for(heads_of(shift)) < places as usize {
@@ -93,35 +96,92 @@ pub(crate) fn lengthen(cells: &mut Vec<u32>, len: usize) -> Result<(), AllocErro
     cells.resize(len, 0)
 }
 
-/// Puts a place first in its home.
+/// The place that a cell holds.
 #[inline(always)]
-pub(crate) fn put_first(cells: &mut [u32], heads: usize, home: usize, place: u32)
-    requires home { home < heads }
-    requires place { heads + place < length cells.old }
-    ensures { cells.new ≡ set (set cells.old (heads + place) (get_or cells.old home 0)) home place }
+pub(crate) fn place_of(heads: usize, cell: u32) -> u32
+    requires scale { IsPower heads }
+    requires few { heads ≤ 2147483648 }
+    ensures { result ≡ cell % (2 * heads) }
 {
-    cells[heads + place as usize] = cells[home];
-    cells[home] = place;
+    cell & mask_of(heads)
 }
 
-/// The cell that holds the place of the key that is asked for, or the 0 behind the places of its home.
+// The bits of a cell that a place takes.
+#[inline(always)]
+fn mask_of(heads: usize) -> u32
+    requires some { 0 < heads }
+    requires few { heads ≤ 2147483648 }
+    ensures { result ≡ 2 * heads - 1 }
+{
+    (2 * heads - 1) as u32
+}
+
+// Whether the bits of a cell may be these, of which those that a place takes do not count.
+#[inline(always)]
+fn has_bits(heads: usize, cell: u32, bits: u32) -> bool
+    requires scale { IsPower heads }
+    requires few { heads ≤ 2147483648 }
+    ensures { result ≡ false → cell / (2 * heads) ≢ bits / (2 * heads) }
+{
+    cell ^ bits <= mask_of(heads)
+}
+
+/// The home of a hash: its top bits.
+#[inline(always)]
+pub(crate) fn home_of(heads: usize, hash: u64) -> usize
+    requires few { heads ≤ 2147483648 }
+    ensures { result ≡ hash * heads / 2 ^ 64 }
+{
+    ((hash as u128 * heads as u128) >> 64) as usize
+}
+
+/// The bits of a hash beneath those that tell its home, the highest first.
+#[inline(always)]
+pub(crate) fn bits_of(heads: usize, hash: u64) -> u32
+    requires few { heads ≤ 2147483648 }
+    ensures { result ≡ hash * heads / 2 ^ 32 % 2 ^ 32 }
+{
+    (((hash as u128 * heads as u128) >> 32) & 0xFFFF_FFFF) as u32
+}
+
+/// Puts a place first in its home, with the bits of its key's hash.
+#[inline(always)]
+pub(crate) fn put_first(cells: &mut [u32], heads: usize, home: usize, bits: u32, place: u32)
+    requires scale { IsPower heads }
+    requires few { heads ≤ 2147483648 }
+    requires home { home < heads }
+    requires place { heads + place < length cells.old }
+    requires narrow { place < 2 * heads }
+    ensures { cells.new ≡ set (set cells.old (heads + place) (get_or cells.old home 0)) home (bits / (2 * heads) * (2 * heads) + place) }
+{
+    cells[heads + place as usize] = cells[home];
+    cells[home] = (bits - place_of(heads, bits)) | place;
+}
+
+/// The cell that holds the place of the key that is asked for, or the 0 behind the places of its home. Only keys whose hashes
+/// have these bits are read.
 #[inline(always)]
 pub(crate) fn cell_of<K: Hash, Q: Query<K>, T: Keys<K>>(
     cells: &[u32],
     heads: usize,
     home: usize,
+    bits: u32,
     keys: &T,
     query: &Q,
 ) -> usize
-    requires table { IsTable cells.now heads (home_in cells.now heads) }
+    requires scale { IsPower heads }
+    requires few { heads ≤ 2147483648 }
+    requires table { IsTable (places_in cells.now heads) heads (home_in (places_in cells.now heads) heads) }
     requires home { home < heads }
-    requires live { (p : ℕ) → home_in cells.now heads p ≡ Some home → IsSome (T.key_of keys.now p) }
-    ensures { Reaches Q.stands_for (T.key_of keys.now) query.now cells.now heads home result }
+    requires live { (p : ℕ) → home_in (places_in cells.now heads) heads p ≡ Some home → IsSome (T.key_of keys.now p) }
+    requires told { IsTold Q.stands_for (T.key_of keys.now) query.now cells.now heads bits }
+    ensures { Reaches Q.stands_for (T.key_of keys.now) query.now (places_in cells.now heads) heads home result }
 {
     let mut cell = home;
     loop {
-        let place = cells[cell];
-        if place == 0 || query.stands_for(keys.key_at(place)) {
+        let held = cells[cell];
+        let place = place_of(heads, held);
+        if place == 0 || (has_bits(heads, held, bits) && query.stands_for(keys.key_at(place))) {
             return cell;
         }
         cell = heads + place as usize;
@@ -131,15 +191,17 @@ pub(crate) fn cell_of<K: Hash, Q: Query<K>, T: Keys<K>>(
 /// The cell that holds a place of a home.
 #[inline(always)]
 pub(crate) fn cell_before(cells: &[u32], heads: usize, home: usize, place: u32) -> usize
-    requires table { IsTable cells.now heads (home_in cells.now heads) }
+    requires scale { IsPower heads }
+    requires few { heads ≤ 2147483648 }
+    requires table { IsTable (places_in cells.now heads) heads (home_in (places_in cells.now heads) heads) }
     requires home { home < heads }
-    requires stands { home_in cells.now heads place ≡ Some home }
-    ensures walk { Reaches ◌==◌ Some place cells.now heads home result }
-    ensures holds { get_or cells.now result place ≡ place }
+    requires stands { home_in (places_in cells.now heads) heads place ≡ Some home }
+    ensures walk { Reaches ◌==◌ Some place (places_in cells.now heads) heads home result }
+    ensures holds { at (places_in cells.now heads) result ≡ place }
 {
     let mut cell = home;
-    while cells[cell] != place {
-        cell = heads + cells[cell] as usize;
+    while place_of(heads, cells[cell]) != place {
+        cell = heads + place_of(heads, cells[cell]) as usize;
     }
     cell
 }
@@ -157,25 +219,22 @@ pub(crate) fn fill<S: BuildHasher, K: Hash, T: Keys<K>>(
     requires most { shift ≤ 63 }
     requires some { 1 ≤ room }
     requires fits { 2 ^ (64 - shift) + room ≤ length cells.old }
+    requires narrow { room ≤ 2 * 2 ^ (64 - shift) }
     requires none { T.key_of keys.now 0 ≡ None }
-    ensures { IsFilled (key_hash S.BuildHasher S.Hasher.Hasher K.hash_input hash_builder.now) shift room (T.key_of keys.now) cells.new }
+    ensures { IsFilled (key_hash S.BuildHasher S.Hasher.Hasher K.hash_input hash_builder.now) (2 ^ (64 - shift)) shift room (T.key_of keys.now) cells.new }
 {
     cells.fill(0);
     let heads = heads_of(shift);
     for place in 1..room {
         if keys.is_live(place) {
-            let home = home_of(shift, hash_of(hash_builder, keys.key_at(place)));
-            put_first(cells, heads, home, place);
+            let hash = hash_of(hash_builder, keys.key_at(place));
+            put_first(
+                cells,
+                heads,
+                home_of(heads, hash),
+                bits_of(heads, hash),
+                place,
+            );
         }
     }
-}
-
-/// The home of a hash: its top bits.
-#[inline(always)]
-pub(crate) fn home_of(shift: u32, hash: u64) -> usize
-    requires most { shift ≤ 63 }
-    ensures home { result ≡ hash / 2 ^ shift }
-    ensures few { result < 2 ^ (64 - shift) }
-{
-    (hash >> shift) as usize
 }

@@ -4,8 +4,8 @@ ghost use Rattle.lru_index.specs.Hashing.{key_hash, seeded, unseeded};
 ghost use Rattle.lru_index.specs.Index.{room_of, IsEmpty, IsFree, Finds, Inserts, Knows, Drops, gone_at, Indexes};
 
 use crate::cells::{
-    MOST_SHIFT, cell_before, cell_of, empty_cells, fill, heads_of, home_of, lengthen, links_for,
-    put_first, shift_for,
+    MOST_SHIFT, bits_of, cell_before, cell_of, empty_cells, fill, heads_of, home_of, lengthen,
+    links_for, place_of, put_first, shift_for,
 };
 use crate::hashing::{SeededHashes, hash_of};
 use crate::keys::{Keys, Query};
@@ -144,9 +144,10 @@ impl<S: BuildHasher> PlaceIndex<S> {
         requires hash { hash ≡ key_hash S.BuildHasher S.Hasher.Hasher Q.hash_input self.now.hash_builder query }
         ensures { Finds Q.stands_for (T.key_of keys.now) query result }
     {
-        let home = home_of(self.shift, hash);
-        let cell = cell_of(&self.cells, self.heads, home, keys, &query);
-        let found = self.cells[cell];
+        let home = home_of(self.heads, hash);
+        let bits = bits_of(self.heads, hash);
+        let cell = cell_of(&self.cells, self.heads, home, bits, keys, &query);
+        let found = place_of(self.heads, self.cells[cell]);
         if found == 0 {
             return None;
         }
@@ -178,8 +179,9 @@ impl<S: BuildHasher> PlaceIndex<S> {
         ensures room_same { room_of self.new ≡ room_of self.old }
         ensures hashes { self.new.hash_builder ≡ self.old.hash_builder }
     {
-        let home = home_of(self.shift, hash);
-        put_first(&mut self.cells, self.heads, home, place);
+        let home = home_of(self.heads, hash);
+        let bits = bits_of(self.heads, hash);
+        put_first(&mut self.cells, self.heads, home, bits, place);
     }
 
     /// Takes a key's place out, and answers it. Where the key has none, nothing changes.
@@ -222,9 +224,10 @@ impl<S: BuildHasher> PlaceIndex<S> {
         ensures room { room_of self.new ≡ room_of self.old }
         ensures hashes { self.new.hash_builder ≡ self.old.hash_builder }
     {
-        let home = home_of(self.shift, hash);
-        let cell = cell_of(&self.cells, self.heads, home, keys, &query);
-        let place = self.cells[cell];
+        let home = home_of(self.heads, hash);
+        let bits = bits_of(self.heads, hash);
+        let cell = cell_of(&self.cells, self.heads, home, bits, keys, &query);
+        let place = place_of(self.heads, self.cells[cell]);
         if place == 0 {
             return None;
         }
@@ -241,7 +244,7 @@ impl<S: BuildHasher> PlaceIndex<S> {
         ensures hashes { self.new.hash_builder ≡ self.old.hash_builder }
     {
         let next = self.cells[self.heads + place as usize];
-        let home = home_of(self.shift, self.hash_of(key));
+        let home = home_of(self.heads, self.hash_of(key));
         let cell = cell_before(&self.cells, self.heads, home, place);
         self.cells[cell] = next;
     }

@@ -1,9 +1,13 @@
 -- A walk along the chain of a key's home.
-use Rattle.std.specs.Prelude.{◌≡◌, ℕ, Bool, List, [], ◌∷◌, ◌++◌, Option}
+use Rattle.std.specs.Prelude.{◌≡◌, ℕ, ◌*◌, ◌/◌, Bool, List, [], ◌∷◌, ◌++◌, Option}
 use Rattle.lru_index.specs.Index.{HasKey, Differs}
-use Rattle.lru_index.specs.Representation.Cells.{In, Chains, home_in, end_cell}
+use Rattle.lru_index.specs.Representation.Cells.{In, Chains, IsUsed, at, bits_at, home_in, end_cell, places_in}
 
 module _ {K Q : Type 0} (eq : K → Q → Bool) (keys : ℕ → Option K) (key : Q) where
+  -- a cell that holds the place of such a key has its bits
+  abbrev pub IsTold : List ℕ → ℕ → ℕ → Type 0
+  IsTold cells heads bits = (c : ℕ) → IsUsed heads (home_in (places_in cells heads) heads) c → HasKey eq keys key (at (places_in cells heads) c) → bits_at cells heads c ≡ bits / (2 * heads)
+
   -- a cell of the chain of home b, behind places that have other keys
   pub record Walks (cells : List ℕ) (heads b cell : ℕ) : Type 0 where
     pub front : List ℕ

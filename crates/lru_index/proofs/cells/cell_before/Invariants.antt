@@ -1,10 +1,10 @@
 use Rattle.std.proofs.Common.{length, Some, ◌==◌}
-use Rattle.lru_index.specs.Representation.Cells.{at, rest_of}
+use Rattle.lru_index.specs.Representation.Cells.{at, places_in, rest_of}
 use Rattle.lru_index.specs.Representation.Walks.{Walks}
 use Rattle.lru_index.proofs.cells.cell_before.Given as goal
 
 abbrev pub invariant-loop-cell : goal.invariant-loop-cell
-invariant-loop-cell l = Walks ◌==◌ Some l.place l.cells l.heads l.home l.cell
+invariant-loop-cell l = Walks ◌==◌ Some l.place (places_in l.cells l.heads) l.heads l.home l.cell
 
 abbrev pub decreases-loop-cell : goal.decreases-loop-cell
-decreases-loop-cell l = length (rest_of l.cells l.heads (at l.cells l.cell))
+decreases-loop-cell l = length (rest_of (places_in l.cells l.heads) l.heads (at (places_in l.cells l.heads) l.cell))
