@@ -32,7 +32,7 @@ fn cache_comes_back(alloc: Global) -> Result<bool, Fail> {
     let mut folder = folder(alloc)?;
     let mut cache: Cache<u64, u64> = Cache::new(alloc, LIMIT, 9)?;
     for (key, weight) in &ROWS {
-        cache.put(*key, *key + 100, *weight, |_gone| {})?;
+        cache.put(*key, *key ^ 100, *weight, |_gone| {})?;
     }
     let saved = save_cache(alloc, &mut folder, "d", "c", &cache)?;
     let mut again: Cache<u64, u64> = Cache::new(alloc, LIMIT, 9)?;
@@ -43,7 +43,7 @@ fn cache_comes_back(alloc: Global) -> Result<bool, Fail> {
         is_told
             && (rows.len() == 3)
             && rows.iter().zip(ROWS.iter().rev()).all(|(row, (key, weight))| (row.key == *key)
-                & (row.data == *key + 100)
+                & (row.data == (*key ^ 100))
                 & (row.weight == *weight)),
     )
 }
@@ -82,7 +82,7 @@ fn deadlines_come_back(alloc: Global) -> Result<bool, Fail> {
     let mut cache: DeadlineCache<u64, u64> = DeadlineCache::new(alloc, LIMIT, 9)?;
     let times = [40u64, 0, u64::MAX];
     for ((key, weight), deadline) in ROWS.iter().zip(times.iter()) {
-        cache.put_until(*key, *key + 100, *weight, *deadline, |_gone| {})?;
+        cache.put_until(*key, *key ^ 100, *weight, *deadline, |_gone| {})?;
     }
     let saved = save_deadlines(alloc, &mut folder, "d", "c", &cache)?;
     let mut again: DeadlineCache<u64, u64> = DeadlineCache::new(alloc, LIMIT, 9)?;
@@ -94,7 +94,7 @@ fn deadlines_come_back(alloc: Global) -> Result<bool, Fail> {
         is_told
             && (rows.len() == 3)
             && rows.iter().zip(wanted.iter()).all(|(row, (key, deadline, weight))| (row.key == *key)
-                & (row.data == (*key + 100, *deadline))
+                & (row.data == (*key ^ 100, *deadline))
                 & (row.weight == *weight)),
     )
 }
@@ -148,7 +148,7 @@ fn shared_comes_back<R: Wait>(rt: &R, alloc: Global) -> Result<bool, Fail> {
     let mut folder = folder(alloc)?;
     let cache: SharedCache<u64, u64, 2> = SharedCache::new(alloc, LIMIT, 18)?;
     for (key, weight) in &ROWS {
-        cache.put(rt, *key, *key + 100, *weight, |_gone| {})?;
+        cache.put(rt, *key, *key ^ 100, *weight, |_gone| {})?;
     }
     let saved = save_shared(rt, alloc, &mut folder, "d", "c", &cache)?;
     let again: SharedCache<u64, u64, 2> = SharedCache::new(alloc, LIMIT, 18)?;
@@ -171,7 +171,7 @@ fn core_comes_back(alloc: Global) -> Result<bool, Fail> {
     let mut folder = folder(alloc)?;
     let mut core: LruCore<(u64, u64), 2> = LruCore::with_capacity(alloc, LIMIT, 4)?;
     for (key, weight) in [(3u64, 70_000usize), (1, 1), (5, 3)] {
-        core.admit(key, (key, key + 100), weight)?;
+        core.admit(key, (key, key ^ 100), weight)?;
     }
     let saved = save_core(alloc, &mut folder, "d", "c", &core)?;
     let mut again: LruCore<(u64, u64), 2> = LruCore::with_capacity(alloc, LIMIT, 4)?;
@@ -182,7 +182,7 @@ fn core_comes_back(alloc: Global) -> Result<bool, Fail> {
         (restored.generation == Some(saved.generation))
             && (rows.len() == 3)
             && rows.iter().zip(wanted.iter()).all(|(row, (key, weight))| (row.key == *key)
-                & (row.data == *key + 100)
+                & (row.data == (*key ^ 100))
                 & (row.weight == *weight)),
     )
 }
@@ -197,7 +197,7 @@ fn lru_comes_back<R: Wait>(rt: &R, alloc: Global) -> Result<bool, Fail> {
     let mut folder = folder(alloc)?;
     let lru: Lru<(u64, u64), 2> = Lru::with_capacity(alloc, LIMIT, 4)?;
     for (key, weight) in [(3u64, 70_000usize), (1, 1), (5, 3)] {
-        lru.admit(rt, key, (key, key + 100), weight)?;
+        lru.admit(rt, key, (key, key ^ 100), weight)?;
     }
     let saved = save_lru(rt, alloc, &mut folder, "d", "c", &lru)?;
     let again: Lru<(u64, u64), 2> = Lru::with_capacity(alloc, LIMIT, 4)?;
@@ -208,7 +208,7 @@ fn lru_comes_back<R: Wait>(rt: &R, alloc: Global) -> Result<bool, Fail> {
         (restored.generation == Some(saved.generation))
             && (rows.len() == 3)
             && rows.iter().zip(wanted.iter()).all(|(row, (key, weight))| (row.key == *key)
-                & (row.data == *key + 100)
+                & (row.data == (*key ^ 100))
                 & (row.weight == *weight)),
     )
 }
