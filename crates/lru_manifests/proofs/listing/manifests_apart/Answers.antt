@@ -1,4 +1,4 @@
-use Rattle.std.proofs.Common.{refl, sym, subst, get_or}
+use Rattle.std.proofs.Common.{refl, sym, subst}
 use Rattle.lru_manifests.specs.declared.names.PartName.{PartName}
 use Rattle.lru_manifests.specs.declared.names.PartName.TheVariants.{Frame}
 use Rattle.lru_manifests.specs.Listing.{IsAnyManifest}

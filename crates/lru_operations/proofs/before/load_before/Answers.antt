@@ -1,4 +1,4 @@
-use Rattle.std.proofs.Common.{◌≡◌, ⊎_elim, inl, inr, ℕ, List, Some, None, sym, subst}
+use Rattle.std.proofs.Common.{⊎_elim, inl, inr, ℕ, Some, None, sym, subst}
 use Rattle.std.specs.Prelude.{Option}
 use Rattle.lru_folder.specs.Files.{Files}
 use Rattle.lru_folder.specs.Meaning.{Meaning}
