@@ -32,9 +32,9 @@ module _ (dir file_name : List ℕ) where
       → (g s : ℕ) → g < 2 ^ 64 → s < 2 ^ 64 → get m (frame_path dir file_name g s) ≡ get files (frame_path dir file_name g s)
   frames_stay files manifests are m same g s low small =
       let apart : ¬ IsPathOf dir file_name manifests (frame_path dir file_name g s) = λ h.
-          let is = are h.0 h.1.0 in
-          let e : Frame g s ≡ h.0 = one_part dir file_name (Frame g s) h.0 (low, small) is.0 h.1.1 in
-          let no : IsAnyManifest (Frame g s) = subst IsAnyManifest (sym e) is.1 in no in
+      let is = are h.0 h.1.0 in
+      let e : Frame g s ≡ h.0 = one_part dir file_name (Frame g s) h.0 (low, small) is.0 h.1.1 in
+      let no : IsAnyManifest (Frame g s) = subst IsAnyManifest (sym e) is.1 in no in
       same (frame_path dir file_name g s) apart
 
   -- and where frames are removed of generations whose manifests are gone, each generation that has its manifest keeps its frames
@@ -44,14 +44,14 @@ module _ (dir file_name : List ℕ) where
       → (m : Files) → IsSameBut (IsPathOf dir file_name others) mid m → KeepsFrames dir file_name files m
   others_gone files mid others are stay gone m same g s low small had has =
       let apart : ¬ IsPathOf dir file_name others (frame_path dir file_name g s) = λ h.
-          let is = are h.0 h.1.0 in
-          let e : Frame g s ≡ h.0 = one_part dir file_name (Frame g s) h.0 (low, small) is.0 h.1.1 in
-          let none : get mid (manifest_path dir file_name g) ≡ None = subst (λ (n : ℕ). HasManifest dir file_name files n → get mid (manifest_path dir file_name n) ≡ None) (sym (ap generation_of e)) (gone h.0 h.1.0) had in
-          let untouched : ¬ IsPathOf dir file_name others (manifest_path dir file_name g) = λ j.
-              let other = are j.0 j.1.0 in
-              let f : Manifest g ≡ j.0 = one_part dir file_name (Manifest g) j.0 low other.0 j.1.1 in
-              other.1 (subst IsAnyManifest f tt) in
-          nothing_there has.0 (get m (manifest_path dir file_name g)) (same (manifest_path dir file_name g) untouched ∙ none) has.1 in
+      let is = are h.0 h.1.0 in
+      let e : Frame g s ≡ h.0 = one_part dir file_name (Frame g s) h.0 (low, small) is.0 h.1.1 in
+      let none : get mid (manifest_path dir file_name g) ≡ None = subst (λ (n : ℕ). HasManifest dir file_name files n → get mid (manifest_path dir file_name n) ≡ None) (sym (ap generation_of e)) (gone h.0 h.1.0) had in
+      let untouched : ¬ IsPathOf dir file_name others (manifest_path dir file_name g) = λ j.
+      let other = are j.0 j.1.0 in
+      let f : Manifest g ≡ j.0 = one_part dir file_name (Manifest g) j.0 low other.0 j.1.1 in
+      other.1 (subst IsAnyManifest f tt) in
+      nothing_there has.0 (get m (manifest_path dir file_name g)) (same (manifest_path dir file_name g) untouched ∙ none) has.1 in
       same (frame_path dir file_name g s) apart ∙ stay g s low small
 
   -- what is gone stays so where more is removed
@@ -59,8 +59,8 @@ module _ (dir file_name : List ℕ) where
       → (q : List ℕ) → get mid q ≡ None → get m q ≡ None
   still_gone mid m others same gone q none =
       let absent : (x : List ℕ) → get m q ≡ Some x → ⊥ = λ x there.
-          let apart : ¬ IsPathOf dir file_name others q = λ h. nothing_there x (get m q) (ap (λ (p : List ℕ). get m p) h.1.1 ∙ gone h.0 h.1.0) there in
-          nothing_there x (get m q) (same q apart ∙ none) there in
+      let apart : ¬ IsPathOf dir file_name others q = λ h. nothing_there x (get m q) (ap (λ (p : List ℕ). get m p) h.1.1 ∙ gone h.0 h.1.0) there in
+      nothing_there x (get m q) (same q apart ∙ none) there in
       none_or (get m q) absent
 
   -- so all of them are gone
@@ -174,8 +174,8 @@ module _ {F : Type 0} (meaning : Meaning F) (dir file_name : List ℕ) (start on
           pub kept_all : LeavesOnly meaning Keeps start new
           kept_all = then_run meaning Keeps (KeepsFrames dir file_name (meaning.files three)) Keeps start three new kept_saved last (λ m h. h)
               (λ m h g s low small had has.
-                  let there : HasManifest dir file_name (meaning.files three) g = (had.0, same_manifest (meaning.files three) saves.now g low (lower g low had) ∙ had.1) in
-                  h g s low small there has ∙ same_frame (meaning.files three) saves.now g s low small had)
+              let there : HasManifest dir file_name (meaning.files three) g = (had.0, same_manifest (meaning.files three) saves.now g low (lower g low had) ∙ had.1) in
+              h g s low small there has ∙ same_frame (meaning.files three) saves.now g s low small had)
 
 module _ {F : Type 0} (meaning : Meaning F) (dir file_name : List ℕ) (start : F) where
   -- a call more that only looks

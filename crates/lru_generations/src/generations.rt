@@ -126,21 +126,14 @@ fn save_claimed<F: SyncedFolder, K: Stored, V: Stored, S: Source<K, V>>(
     ensures places { F.meaning.keeps folder.old → F.meaning.folders folder.new ≡ F.meaning.folders folder.old }
     ensures kept { F.meaning.keeps folder.old ↔ F.meaning.keeps folder.new }
 {
-    let found = match survey(alloc, folder, dir, file_name) {
-        Err(error) => return Err(error),
-        Ok(found) => found,
-    };
+    let found = survey(alloc, folder, dir, file_name)?;
     let Surveyed {
         parts,
         newest,
         generation,
     } = found;
-    if let Err(error) = remove_leftovers(alloc, folder, dir, file_name, &parts) {
-        return Err(error);
-    }
-    if let Err(error) = save_for_good(alloc, folder, dir, file_name, generation, source) {
-        return Err(error);
-    }
+    remove_leftovers(alloc, folder, dir, file_name, &parts)?;
+    save_for_good(alloc, folder, dir, file_name, generation, source)?;
     let removed = remove_older(alloc, folder, dir, file_name, &parts, newest.generation);
     Ok(Saved {
         generation,

@@ -129,9 +129,9 @@ returns-clause-frames g c k fits listed =
     let are_manifests : (part : PartName) → Contains manifests part → IsPart part × IsAnyManifest part = λ part h. let is = (is_manifest part).0 h in (fits part ((is_older part).0 is.0).0, is.1) in
     let are_others : (part : PartName) → Contains others part → IsPart part × (¬ IsAnyManifest part) = λ part h. let is = (is_other part).0 h in (fits part ((is_older part).0 is.0).0, is.1) in
     let gone : (part : PartName) → Contains others part → HasManifest dir file_name (m.files start) (generation_of part) → get (m.files mid) (manifest_path dir file_name (generation_of part)) ≡ None = λ part h had.
-        let is = (is_older part).0 ((is_other part).0 h).0 in
-        let there = listed (generation_of part) (small_number part (fits part is.0)) had (subst (λ (o : Option ℕ). IsOlder o (Manifest (generation_of part))) (sym c.in-Some.is) is.1) in
-        done.gone k (Manifest (generation_of part)) ((is_manifest (Manifest (generation_of part))).1 ((is_older (Manifest (generation_of part))).1 (there, is.1), tt)) in
+    let is = (is_older part).0 ((is_other part).0 h).0 in
+    let there = listed (generation_of part) (small_number part (fits part is.0)) had (subst (λ (o : Option ℕ). IsOlder o (Manifest (generation_of part))) (sym c.in-Some.is) is.1) in
+    done.gone k (Manifest (generation_of part)) ((is_manifest (Manifest (generation_of part))).1 ((is_older (Manifest (generation_of part))).1 (there, is.1), tt)) in
     then_run m P P P start mid new
     (leaves_more m (IsSameBut (IsPathOf dir file_name manifests) (m.files start)) P
     (λ f same n s low small had has. frames_stay dir file_name (m.files start) manifests are_manifests f same n s low small) start mid first.any_moment)
