@@ -37,3 +37,13 @@ IsUnnamed (Damaged file part) = ⊥
 IsUnnamed (Other file) = ⊥
 IsUnnamed LastGeneration = ⊥
 IsUnnamed InUse = ⊥
+
+-- a call that failed is told of such a file
+abbrev pub IsToldOf : (CheckpointFile → Type 0) → CheckpointError → Type 0
+IsToldOf IsFile (Folder file fault) = IsFile file
+IsToldOf IsFile Memory = Unit {0}
+IsToldOf IsFile (Missing file) = ⊥
+IsToldOf IsFile (Damaged file part) = ⊥
+IsToldOf IsFile (Other file) = ⊥
+IsToldOf IsFile LastGeneration = ⊥
+IsToldOf IsFile InUse = ⊥

@@ -9,7 +9,7 @@ ghost use Rattle.lru_manifests.specs.Names.{frame_path, manifest_path, manifest_
 ghost use Rattle.lru_whole_files.specs.Touching.{IsWritten, TouchesOnly};
 ghost use Rattle.lru_whole_files.specs.Replacing.{IsReplaced, Replaces};
 ghost use Rattle.lru_checkpoints.specs.Checkpoints.{Shards, AreFirm, AreHandedOut, AreMarked, FitsEach, HasFrames, IsFrame, most_shards};
-ghost use Rattle.lru_checkpoints.specs.Causes.{HasSaveReason, IsUnnamed};
+ghost use Rattle.lru_checkpoints.specs.Causes.{HasSaveReason, IsToldOf, IsUnnamed};
 
 use crate::errors::{CheckpointError, CheckpointFile};
 use lru_folder::folder::Folder;
@@ -46,6 +46,7 @@ fn save_frame<F: Folder, K: Stored, V: Stored, S: Source<K, V>>(
         × (F.meaning.keeps folder.old → IsWritten F.meaning (frame_path dir.now file_name.now generation shard)
         (frame_of K.bytes_of V.bytes_of (part_header generation count shard) rows) folder.old folder.new))))) }
     ensures touches { F.meaning.keeps folder.old → TouchesOnly F.meaning (λ q. q ≡ frame_path dir.now file_name.now generation shard) folder.old folder.new }
+    ensures named { IfErr result (IsToldOf (λ file. file ≡ CheckpointFile.Shard shard)) }
     ensures reason { F.meaning.keeps folder.old → IfErr result (HasSaveReason F.meaning dir.now file_name.now generation folder.old folder.new) }
     ensures faults { F.meaning.keeps folder.old → OnOk result (F.meaning.faults folder.new ≡ F.meaning.faults folder.old) }
     ensures places { F.meaning.keeps folder.old → F.meaning.folders folder.new ≡ F.meaning.folders folder.old }
@@ -91,6 +92,7 @@ pub fn save_frames<F: Folder, K: Stored, V: Stored, S: Source<K, V>>(
         × (F.meaning.keeps folder.old → HasFrames K.bytes_of V.bytes_of dir.now file_name.now generation (S.count source.now) shards (F.meaning.files folder.new)
         × AreFirm dir.now file_name.now generation (S.count source.now) (F.meaning.loose folder.new)))))) }
     ensures touches { F.meaning.keeps folder.old → TouchesOnly F.meaning (IsFrame dir.now file_name.now generation) folder.old folder.new }
+    ensures named { IfErr result (IsToldOf (λ file. (shard : ℕ) × ((shard < S.count source.now) × (file ≡ CheckpointFile.Shard shard)))) }
     ensures reason { F.meaning.keeps folder.old → IfErr result (HasSaveReason F.meaning dir.now file_name.now generation folder.old folder.new) }
     ensures faults { F.meaning.keeps folder.old → OnOk result (F.meaning.faults folder.new ≡ F.meaning.faults folder.old) }
     ensures places { F.meaning.keeps folder.old → F.meaning.folders folder.new ≡ F.meaning.folders folder.old }
@@ -136,6 +138,7 @@ pub fn save_manifest<F: Folder>(
     ensures unnamed { F.meaning.keeps folder.old → IfErr result (λ error. ¬ IsUnnamed error
         → TouchesOnly F.meaning (λ q. q ≡ manifest_temp_path dir.now file_name.now manifest.now.generation) folder.old folder.new) }
 
+    ensures named { IfErr result (IsToldOf (λ file. file ≡ CheckpointFile.Manifest)) }
     ensures reason { F.meaning.keeps folder.old → IfErr result (HasSaveReason F.meaning dir.now file_name.now manifest.now.generation folder.old folder.new) }
     ensures faults { F.meaning.keeps folder.old → OnOk result (F.meaning.faults folder.new ≡ F.meaning.faults folder.old) }
     ensures places { F.meaning.keeps folder.old → F.meaning.folders folder.new ≡ F.meaning.folders folder.old }

@@ -38,8 +38,9 @@ fn is_refused(alloc: Global, numbers: &[u64]) -> Result<bool, CheckpointError> {
 
 #[test]
 fn a_manifest_that_claims_too_many_shards(rt: HostRuntime) -> Result<(), Fail> {
-    let are_refused = CLAIMS.map(|numbers| is_refused(rt.alloc(), &numbers));
-    assert_eq!(rt; are_refused, [Ok(true), Ok(true)]);
+    for numbers in CLAIMS.iter() {
+        assert!(rt; is_refused(rt.alloc(), numbers)?);
+    }
     Ok(())
 }
 

@@ -3,3 +3,4 @@ pub mod SavedNext
 pub mod Passing
 pub mod Refusals
 pub mod Telling
+pub mod KeptFrames

@@ -4,13 +4,14 @@ use Rattle.std.proofs.Math.Seq.{drop-cons}
 use Rattle.std.proofs.lemmas.Bool.{cases_lt}
 use Rattle.std.proofs.lemmas.List.{get_or_default, map-append, take-append-drop, take_all, take_more}
 use Rattle.std.proofs.lemmas.List.Elements.{Contains-push_cases}
-use Rattle.std.specs.Prelude.{◌↔◌, AllPairs, Contains, IfOk, map}
+use Rattle.std.specs.Prelude.{◌↔◌, AllPairs, Contains, IfOk, Option, map}
 use Rattle.lru_folder.specs.Files.{Files}
 use Rattle.lru_manifests.specs.declared.names.PartName.{PartName}
 use Rattle.lru_manifests.specs.declared.names.PartName.TheVariants.{Manifest}
 use Rattle.lru_manifests.specs.Listing.{HasParts}
+use Rattle.lru_manifests.specs.Names.{generation_of}
 use Rattle.lru_generations.specs.declared.newest.Passed.{Passed}
-use Rattle.lru_generations.specs.Newest.{AreGenerations, IsFront}
+use Rattle.lru_generations.specs.Newest.{AreGenerations, AreGenerationsBelow, IsBelow, IsFront}
 
 -- none of the first so many holds
 abbrev pub NoneOf : (ℕ → Type 0) → List ℕ → ℕ → Type 0
@@ -74,6 +75,39 @@ generations_so dir file_name files parts generations has found falling = record 
     λ h. (found generation).1 ((has.there (Manifest generation) h.0).1 h.1),
   );
   falling = falling;
+}
+
+-- and those of them that are below a bound
+pub below_so : (dir file_name : List ℕ) (files : Files) (bound : Option ℕ) (parts those : List PartName) (generations : List ℕ) → HasParts dir file_name files parts
+    → ((part : PartName) → Contains those part ↔ (Contains parts part × IsBelow bound (generation_of part)))
+    → ((generation : ℕ) → Contains generations generation ↔ Contains those (Manifest generation)) → AllPairs (λ first later. later < first) generations
+    → AreGenerationsBelow dir file_name files bound generations
+below_so dir file_name files bound parts those generations has below found falling = record {
+  found = λ generation. (
+    λ h. let part = (below (Manifest generation)).0 ((found generation).0 h) in let small = has.fits (Manifest generation) part.0 in
+        (small, ((has.there (Manifest generation) small).0 part.0, part.1)),
+    λ h. (found generation).1 ((below (Manifest generation)).1 ((has.there (Manifest generation) h.0).1 h.1.0, h.1.1)),
+  );
+  falling = falling;
+}
+
+-- without a bound they are all
+pub all_below : (dir file_name : List ℕ) (files : Files) (generations : List ℕ) → AreGenerationsBelow dir file_name files None generations → AreGenerations dir file_name files generations
+all_below dir file_name files generations are = record {
+  found = λ generation. (
+    λ h. let is = (are.found generation).0 h in (is.0, is.1.0),
+    λ h. (are.found generation).1 (h.0, (h.1, tt)),
+  );
+  falling = are.falling;
+}
+
+pub below_none : (dir file_name : List ℕ) (files : Files) (generations : List ℕ) → AreGenerations dir file_name files generations → AreGenerationsBelow dir file_name files None generations
+below_none dir file_name files generations are = record {
+  found = λ generation. (
+    λ h. let is = (are.found generation).0 h in (is.0, (is.1, tt)),
+    λ h. (are.found generation).1 (h.0, h.1.0),
+  );
+  falling = are.falling;
 }
 
 -- what follows of each success

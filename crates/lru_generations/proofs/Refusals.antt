@@ -17,7 +17,9 @@ use Rattle.lru_checkpoints.specs.declared.errors.CheckpointError.{CheckpointErro
 use Rattle.lru_checkpoints.specs.declared.errors.CheckpointError.TheVariants.{Memory, Folder, Missing, Damaged, Other, LastGeneration, InUse}
 use Rattle.lru_checkpoints.specs.Checkpoints.{IsWholeFrame}
 use Rattle.lru_checkpoints.specs.Loads.{IsCallFault, IsFault, IsOtherFrame, IsRefused, IsRefusedByCheck, IsRefusedFrame, IsRefusedManifest, IsRefusedShard}
-use Rattle.lru_generations.specs.Faults.{IsFailed}
+use Rattle.std.specs.Prelude.{IsTrue}
+use Rattle.lru_folder.specs.Places.{can_list}
+use Rattle.lru_generations.specs.Faults.{IsFailed, IsUnlisted}
 
 module _ {F : Type 0} (meaning : Meaning F) (dir file_name : List ℕ) where
   -- what blames a file is told by the files alone
@@ -85,3 +87,20 @@ module _ {F : Type 0} (meaning : Meaning F) (dir file_name : List ℕ) where
     failed_from (Other at) h = h
     failed_from LastGeneration h = h
     failed_from InUse h = h
+
+    -- so it is with names that were not listed
+    pub unlisted_from : meaning.folders mid ≡ meaning.folders start → (error : CheckpointError) → IsUnlisted meaning dir mid new error → IsUnlisted meaning dir start new error
+    unlisted_from places Memory h = h ∙ faults
+    unlisted_from places (Folder at fault) h = (
+      h.0,
+      (
+        h.1.0,
+        subst (λ n. HasReason (¬ IsTrue (can_list (meaning.folders start) dir)) n (meaning.faults new) fault.source) faults
+            (subst (λ f. HasReason (¬ IsTrue (can_list f dir)) (meaning.faults mid) (meaning.faults new) fault.source) places h.1.1),
+      ),
+    )
+    unlisted_from places (Missing at) h = h
+    unlisted_from places (Damaged at part) h = h
+    unlisted_from places (Other at) h = h
+    unlisted_from places LastGeneration h = h
+    unlisted_from places InUse h = h

@@ -4,6 +4,7 @@ use Rattle.lru_folder.specs.Files.{Files}
 use Rattle.lru_checkpoints.specs.Checkpoints.{Shards, HasCheckpoint}
 use Rattle.lru_checkpoints.specs.Loads.{AreSameShards, rows_of}
 use Rattle.lru_generations.specs.declared.loading.Checkpoint.{Checkpoint}
+use Rattle.lru_generations.specs.Newest.{IsBelow}
 
 -- the number of a checkpoint that was loaded
 abbrev pub number_of : {K V : Type 0} → Option (Checkpoint K V) → Option ℕ
@@ -21,6 +22,16 @@ module _ {K V : Type 0} where
     IsLoaded None = (generation : ℕ) → ¬ IsReadable generation
     IsLoaded (Some checkpoint) = HasCheckpoint key_bytes IsKey data_bytes IsData dir file_name checkpoint.generation (rows_of checkpoint.shards.items) files
         × ((higher : ℕ) → checkpoint.generation < higher → ¬ IsReadable higher)
+
+    -- so it is with the generations below a bound
+    abbrev pub IsReadableBelow : Option ℕ → ℕ → Type 0
+    IsReadableBelow bound generation = IsBelow bound generation × IsReadable generation
+
+    abbrev pub IsLoadedBelow : Option ℕ → Option (Checkpoint K V) → Type 0
+    IsLoadedBelow bound None = (generation : ℕ) → ¬ IsReadableBelow bound generation
+    IsLoadedBelow bound (Some checkpoint) = IsBelow bound checkpoint.generation
+        × (HasCheckpoint key_bytes IsKey data_bytes IsData dir file_name checkpoint.generation (rows_of checkpoint.shards.items) files
+        × ((higher : ℕ) → checkpoint.generation < higher → ¬ IsReadableBelow bound higher))
 
   -- it is this checkpoint, with rows that a reader cannot tell apart from these
   abbrev pub IsSameCheckpoint : (K → K → Type 0) → (V → V → Type 0) → ℕ → Shards K V → Option (Checkpoint K V) → Type 0

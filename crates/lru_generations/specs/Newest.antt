@@ -9,6 +9,11 @@ use Rattle.lru_checkpoints.specs.Checkpoints.{IsWhole}
 use Rattle.lru_checkpoints.specs.Loads.{IsFault}
 use Rattle.lru_generations.specs.declared.newest.Passed.{Passed}
 
+-- below a bound, where there is one
+abbrev pub IsBelow : Option ℕ → ℕ → Type 0
+IsBelow None number = Unit {0}
+IsBelow (Some bound) number = number < bound
+
 -- of the numbers that hold this is the highest, or there is none
 abbrev pub IsHighest : (ℕ → Type 0) → Option ℕ → Type 0
 IsHighest Holds None = (number : ℕ) → ¬ Holds number
@@ -26,6 +31,11 @@ module _ (dir file_name : List ℕ) (files : Files) where
   -- or these are just those, the highest first
   pub record AreGenerations (generations : List ℕ) : Type 0 where
     pub found : (generation : ℕ) → Contains generations generation ↔ ((generation < 2 ^ 64) × HasManifest generation)
+    pub falling : AllPairs (λ first later. later < first) generations
+
+  -- so it is with those below a bound
+  pub record AreGenerationsBelow (bound : Option ℕ) (generations : List ℕ) : Type 0 where
+    pub found : (generation : ℕ) → Contains generations generation ↔ ((generation < 2 ^ 64) × (HasManifest generation × IsBelow bound generation))
     pub falling : AllPairs (λ first later. later < first) generations
 
   -- the checkpoint of a generation is whole, by its checks

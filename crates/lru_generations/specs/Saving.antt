@@ -1,5 +1,5 @@
 -- What a save of the next checkpoint leaves.
-use Rattle.std.specs.Prelude.{◌≡◌, ◌⊎◌, ◌<◌, ◌≤◌, ℕ, List, Option, Some, None, is_some, Contains}
+use Rattle.std.specs.Prelude.{◌≡◌, ◌⊎◌, ◌<◌, ◌≤◌, ◌^◌, ℕ, List, Option, Some, None, is_some, Contains, IsSome}
 use Rattle.std.specs.FinMap.{get}
 use Rattle.lru_folder.specs.Files.{Files}
 use Rattle.lru_folder.specs.Folder.{LeavesOnly}
@@ -8,7 +8,7 @@ use Rattle.lru_folder.specs.Meaning.{Meaning}
 use Rattle.lru_frames.specs.declared.row.Row.{Row}
 use Rattle.lru_manifests.specs.declared.names.PartName.{PartName}
 use Rattle.lru_manifests.specs.Listing.{HasParts, IsAbove, IsLeftover}
-use Rattle.lru_manifests.specs.Names.{IsPart, generation_of, part_path, manifest_temp_path}
+use Rattle.lru_manifests.specs.Names.{IsPart, generation_of, part_path, frame_path, manifest_temp_path}
 use Rattle.lru_synced_folder.specs.Names.{IsIn}
 use Rattle.lru_checkpoints.specs.declared.errors.CheckpointError.{CheckpointError}
 use Rattle.lru_checkpoints.specs.declared.errors.CheckpointError.TheVariants.{InUse, LastGeneration}
@@ -16,7 +16,9 @@ use Rattle.lru_checkpoints.specs.Checkpoints.{Shards, HasCheckpoint, HasNew, IsF
 use Rattle.lru_checkpoints.specs.Causes.{HasSaveReason}
 use Rattle.lru_checkpoints.specs.Loads.{IsFault, IsRefused, IsRefusedByCheck}
 use Rattle.lru_generations.specs.declared.newest.Passed.{Passed}
-use Rattle.lru_generations.specs.Newest.{AreGenerations, ArePassed, IsNewest}
+use Rattle.lru_generations.specs.Faults.{IsFailed}
+use Rattle.lru_generations.specs.Newest.{AreGenerations, ArePassed, HasManifest, IsNewest}
+use Rattle.lru_generations.specs.Removing.{NamesOnly}
 
 -- a frame of this generation, or what its manifest is first written to
 abbrev pub IsUnfinished : List ℕ → List ℕ → ℕ → List ℕ → Type 0
@@ -55,6 +57,20 @@ IsOlder (Some newest) part = generation_of part < newest
 
 abbrev pub IsOld : List ℕ → List ℕ → Option ℕ → List ℕ → Type 0
 IsOld dir file_name newest q = (part : PartName) × ((IsPart part × IsOlder newest part) × (q ≡ part_path dir file_name part))
+
+-- an error that names no file but of a part that is older than the one that is kept, and one is kept
+abbrev pub NamesOlder : Option ℕ → CheckpointError → Type 0
+NamesOlder newest error = IsSome newest × ((parts : List PartName) × (((part : PartName) → Contains parts part → IsOlder newest part) × NamesOnly parts error))
+
+-- why such a part may be left: memory was refused, or a call failed
+abbrev pub IsUnremoved : {F : Type 0} → Meaning F → Option ℕ → CheckpointError → Type 0
+IsUnremoved {F} meaning newest error = NamesOlder newest error × ((mid : F) × ((now : F) × IsFailed meaning mid now error))
+
+-- A generation that had its manifest and still has it has the frames that it had.
+abbrev pub KeepsFrames : List ℕ → List ℕ → Files → Files → Type 0
+KeepsFrames dir file_name files m = (generation shard : ℕ) → generation < 2 ^ 64 → shard < 2 ^ 64
+    → HasManifest dir file_name files generation → HasManifest dir file_name m generation
+    → get m (frame_path dir file_name generation shard) ≡ get files (frame_path dir file_name generation shard)
 
 -- why nothing was saved: memory or the device failed, another save has the folder, or no number is left
 abbrev pub IsUnsaved : CheckpointError → Type 0

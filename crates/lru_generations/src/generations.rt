@@ -2,16 +2,18 @@
 ghost use Rattle.std.specs.Prelude.{◌≡◌, ◌↔◌, ◌<◌, ◌≤◌, ◌^◌, ℕ, List, false, IfErr, IfOk, OnOk, Some, None, Contains};
 ghost use Rattle.std.specs.FinMap.{get};
 ghost use Rattle.lru_folder.specs.Files.{Files};
+ghost use Rattle.lru_folder.specs.Folder.{LeavesOnly};
 ghost use Rattle.lru_folder.specs.Names.{has_slash};
 ghost use Rattle.lru_manifests.specs.declared.names.PartName.{PartName};
+ghost use Rattle.lru_manifests.specs.declared.names.PartName.TheVariants.{Manifest};
 ghost use Rattle.lru_manifests.specs.Listing.{IsLeftover};
 ghost use Rattle.lru_manifests.specs.Names.{IsPart, part_path};
 ghost use Rattle.lru_whole_files.specs.Touching.{TouchesOnly};
 ghost use Rattle.lru_checkpoints.specs.Checkpoints.{Shards, AreHandedOut, HasCheckpoint, most_shards};
 ghost use Rattle.lru_checkpoints.specs.Loads.{IsFault};
 ghost use Rattle.lru_generations.specs.Faults.{IsFailed};
-ghost use Rattle.lru_generations.specs.Newest.{IsNewest};
-ghost use Rattle.lru_generations.specs.Saving.{IsForGood, IsLeft, IsOld, IsOlder, IsUnsaved, IsUnused, SavesNext, TellsPassed};
+ghost use Rattle.lru_generations.specs.Newest.{HasManifest, IsNewest};
+ghost use Rattle.lru_generations.specs.Saving.{IsForGood, IsLeft, IsOld, IsOlder, IsUnsaved, IsUnremoved, IsUnused, KeepsFrames, NamesOlder, SavesNext, TellsPassed};
 
 use crate::newest::Passed;
 use crate::removing::remove_parts;
@@ -21,7 +23,7 @@ use lru_checkpoints::errors::CheckpointError;
 use lru_folder::folder::Folder;
 use lru_frames::source::Source;
 use lru_frames::stored::Stored;
-use lru_manifests::listing::{leftovers, older_than};
+use lru_manifests::listing::{leftovers, manifests_apart, older_than};
 use lru_manifests::names::PartName;
 use lru_synced_folder::synced_folder::SyncedFolder;
 use std::alloc::Global;
@@ -36,7 +38,8 @@ pub struct Saved {
     /// The generations above that one which were not whole, and why. Their files are left as they are; a later save removes
     /// them, once a newer one is kept.
     pub passed: Vec<Passed>,
-    /// Whether the files of the generations below the one that is kept are gone, or why some may be left.
+    /// Whether the files of the generations below the one that is kept are gone, or why some may be left: memory or the device
+    /// failed.
     pub removed: Result<(), CheckpointError>,
 }
 
@@ -62,7 +65,8 @@ fn remove_leftovers<F: Folder>(
     remove_parts(alloc, folder, dir, file_name, &left)
 }
 
-// Removes the parts of generations below the one that is kept, if one is.
+// Removes the parts of generations below the one that is kept, if one is: their manifests first, so that what a stop leaves of
+// a generation is unfinished, and not a manifest that tells of frames which are gone.
 fn remove_older<F: Folder>(
     alloc: Global,
     folder: &mut F,
@@ -75,16 +79,25 @@ fn remove_older<F: Folder>(
         → get (F.meaning.files folder.new) (part_path dir.now file_name.now part) ≡ None) }
     ensures touches { F.meaning.keeps folder.old → ((part : PartName) → Contains parts.now part → IsPart part)
         → TouchesOnly F.meaning (IsOld dir.now file_name.now kept) folder.old folder.new }
+
+    // At every moment a generation that has its manifest has its frames, where each manifest that is older is among the parts.
+    ensures frames { F.meaning.keeps folder.old → ((part : PartName) → Contains parts.now part → IsPart part)
+        → ((generation : ℕ) → generation < 2 ^ 64 → HasManifest dir.now file_name.now (F.meaning.files folder.old) generation → IsOlder kept (Manifest generation)
+        → Contains parts.now (Manifest generation))
+        → LeavesOnly F.meaning (KeepsFrames dir.now file_name.now (F.meaning.files folder.old)) folder.old folder.new }
+
+    ensures named { IfErr result (NamesOlder kept) }
+    ensures reason { F.meaning.keeps folder.old → IfErr result (IsFailed F.meaning folder.old folder.new) }
     ensures places { F.meaning.keeps folder.old → F.meaning.folders folder.new ≡ F.meaning.folders folder.old }
     ensures kept { F.meaning.keeps folder.old ↔ F.meaning.keeps folder.new }
 {
     let Some(newest) = kept else {
         return Ok(());
     };
-    let Ok(older) = older_than(alloc, parts, newest) else {
-        return Err(CheckpointError::Memory);
-    };
-    remove_parts(alloc, folder, dir, file_name, &older)
+    let older = older_than(alloc, parts, newest)?;
+    let (manifests, others) = manifests_apart(alloc, &older)?;
+    remove_parts(alloc, folder, dir, file_name, &manifests)?;
+    remove_parts(alloc, folder, dir, file_name, &others)
 }
 
 // The same as `save`, but that the folder is left claimed.
@@ -99,6 +112,7 @@ fn save_claimed<F: SyncedFolder, K: Stored, V: Stored, S: Source<K, V>>(
     requires name { has_slash file_name.now ≡ false }
     ensures saves { F.meaning.keeps folder.old → SavesNext K.bytes_of K.is_value V.bytes_of V.is_value
         dir.now file_name.now (S.hands_out source.now) (S.count source.now) F.meaning folder.old folder.new }
+    ensures frames { F.meaning.keeps folder.old → LeavesOnly F.meaning (KeepsFrames dir.now file_name.now (F.meaning.files folder.old)) folder.old folder.new }
     ensures next { F.meaning.keeps folder.old → IfOk result (λ saved. IsUnused dir.now file_name.now (F.meaning.files folder.old) saved.generation) }
     ensures for_good { F.meaning.keeps folder.old → IfOk result (λ saved. (shards : Shards K V) × (AreHandedOut (S.hands_out source.now) (S.count source.now) shards
         × IsForGood K.bytes_of K.is_value V.bytes_of V.is_value dir.now file_name.now F.meaning saved.generation shards folder.new)) }
@@ -106,26 +120,20 @@ fn save_claimed<F: SyncedFolder, K: Stored, V: Stored, S: Source<K, V>>(
     ensures passed { F.meaning.keeps folder.old → IfOk result (λ saved. TellsPassed F.meaning dir.now file_name.now (F.meaning.files folder.old) saved.kept saved.passed.items) }
     ensures gone { F.meaning.keeps folder.old → IfOk result (λ saved. OnOk saved.removed ((part : PartName) (bytes : List ℕ) → IsPart part → IsOlder saved.kept part
         → get (F.meaning.files folder.old) (part_path dir.now file_name.now part) ≡ Some bytes → get (F.meaning.files folder.new) (part_path dir.now file_name.now part) ≡ None)) }
+    ensures unremoved { F.meaning.keeps folder.old → IfOk result (λ saved. IfErr saved.removed (IsUnremoved F.meaning saved.kept)) }
     ensures error { F.meaning.keeps folder.old → IfErr result IsUnsaved }
     ensures untouched { F.meaning.keeps folder.old → IfErr result (λ error. ¬ IsFault error → F.meaning.files folder.new ≡ F.meaning.files folder.old) }
     ensures places { F.meaning.keeps folder.old → F.meaning.folders folder.new ≡ F.meaning.folders folder.old }
     ensures kept { F.meaning.keeps folder.old ↔ F.meaning.keeps folder.new }
 {
-    let found = match survey(alloc, folder, dir, file_name) {
-        Err(error) => return Err(error),
-        Ok(found) => found,
-    };
+    let found = survey(alloc, folder, dir, file_name)?;
     let Surveyed {
         parts,
         newest,
         generation,
     } = found;
-    if let Err(error) = remove_leftovers(alloc, folder, dir, file_name, &parts) {
-        return Err(error);
-    }
-    if let Err(error) = save_for_good(alloc, folder, dir, file_name, generation, source) {
-        return Err(error);
-    }
+    remove_leftovers(alloc, folder, dir, file_name, &parts)?;
+    save_for_good(alloc, folder, dir, file_name, generation, source)?;
     let removed = remove_older(alloc, folder, dir, file_name, &parts, newest.generation);
     Ok(Saved {
         generation,
@@ -164,6 +172,9 @@ pub fn save<F: SyncedFolder, K: Stored, V: Stored, S: Source<K, V>>(
     ensures saves { F.meaning.keeps folder.old → SavesNext K.bytes_of K.is_value V.bytes_of V.is_value
         dir.now file_name.now (S.hands_out source.now) (S.count source.now) F.meaning folder.old folder.new }
 
+    // Meanwhile a generation that has its manifest has its frames: none is told as damaged for what was removed of it.
+    ensures frames { F.meaning.keeps folder.old → LeavesOnly F.meaning (KeepsFrames dir.now file_name.now (F.meaning.files folder.old)) folder.old folder.new }
+
     // After an Ok each loss leaves the new one, in a generation of which there was no file.
     ensures next { F.meaning.keeps folder.old → IfOk result (λ saved. IsUnused dir.now file_name.now (F.meaning.files folder.old) saved.generation) }
     ensures for_good { F.meaning.keeps folder.old → IfOk result (λ saved. (shards : Shards K V) × (AreHandedOut (S.hands_out source.now) (S.count source.now) shards
@@ -174,6 +185,9 @@ pub fn save<F: SyncedFolder, K: Stored, V: Stored, S: Source<K, V>>(
     ensures passed { F.meaning.keeps folder.old → IfOk result (λ saved. TellsPassed F.meaning dir.now file_name.now (F.meaning.files folder.old) saved.kept saved.passed.items) }
     ensures gone { F.meaning.keeps folder.old → IfOk result (λ saved. OnOk saved.removed ((part : PartName) (bytes : List ℕ) → IsPart part → IsOlder saved.kept part
         → get (F.meaning.files folder.old) (part_path dir.now file_name.now part) ≡ Some bytes → get (F.meaning.files folder.new) (part_path dir.now file_name.now part) ≡ None)) }
+
+    // That a file which is older was not removed has its reason, and names it.
+    ensures unremoved { F.meaning.keeps folder.old → IfOk result (λ saved. IfErr saved.removed (IsUnremoved F.meaning saved.kept)) }
 
     // Where neither memory nor the device failed, nothing was done.
     ensures error { F.meaning.keeps folder.old → IfErr result IsUnsaved }

@@ -48,29 +48,17 @@ pub(crate) fn survey<F: SyncedFolder>(
     ensures places { F.meaning.keeps folder.old → F.meaning.folders folder.new ≡ F.meaning.folders folder.old }
     ensures kept { F.meaning.keeps folder.old ↔ F.meaning.keeps folder.new }
 {
-    if let Err(error) = claim(folder, dir) {
-        return Err(error);
-    }
-    let parts = match parts_of(alloc, folder, dir, file_name) {
-        Err(error) => return Err(error),
-        Ok(parts) => parts,
-    };
+    claim(folder, dir)?;
+    let parts = parts_of(alloc, folder, dir, file_name)?;
     let Some(generation) = generation_above(&parts) else {
         return Err(CheckpointError::LastGeneration);
     };
-    let Ok(generations) = generations_of(alloc, &parts) else {
-        return Err(CheckpointError::Memory);
-    };
-    let newest = match newest_whole(alloc, folder, dir, file_name, &generations) {
-        Err(error) => return Err(error),
-        Ok(newest) => newest,
-    };
-    match sync_names(folder, dir) {
-        Err(error) => Err(error),
-        Ok(()) => Ok(Surveyed {
-            parts,
-            newest,
-            generation,
-        }),
-    }
+    let generations = generations_of(alloc, &parts)?;
+    let newest = newest_whole(alloc, folder, dir, file_name, &generations)?;
+    sync_names(folder, dir)?;
+    Ok(Surveyed {
+        parts,
+        newest,
+        generation,
+    })
 }

@@ -2,6 +2,8 @@
 #![tactic(auto)]
 
 #[cfg(test)]
+mod checkpoint_calls;
+#[cfg(test)]
 mod claims;
 #[cfg(test)]
 mod failing_calls;

@@ -1,5 +1,5 @@
 -- What the bytes of a manifest tell.
-use Rattle.std.proofs.Common.{◌≡◌, ◌≢◌, ℕ, suc, ◌+◌, ◌^◌, ◌<◌, eqb, Bool, true, false, Option, Some, None, List, [], ◌∷◌, length, Result, Ok, Err, refl, sym, ap, subst, ◌∙◌, arith}
+use Rattle.std.proofs.Common.{◌≡◌, ◌≢◌, inl, inr, ℕ, suc, ◌+◌, ◌^◌, ◌<◌, eqb, Bool, true, false, Option, Some, None, List, [], ◌∷◌, length, Result, Ok, Err, refl, sym, ap, subst, ◌∙◌, arith}
 use Rattle.std.specs.Prelude.{not, map, MatchResult, IfOk, IfErr}
 use Rattle.std.specs.Option.{SomeIff, option_eq}
 use Rattle.std.specs.List.{flat_map, AllByRecursion}
@@ -21,11 +21,7 @@ use Rattle.lru_frames.specs.WordLaws.{one_word}
 use Rattle.lru_frames.proofs.EnvelopeLaws.{one_content}
 use Rattle.lru_frames.proofs.FrameLaws.{fits_narrow, one_frame, one_header}
 use Rattle.lru_manifests.specs.declared.manifest.Manifest.{Manifest}
-use Rattle.lru_manifests.specs.Manifests.{IsFrameOf, IsRefused, IsManifest, IsMark, IsWrongManifest, HasOtherContent, part_header, mark_row, row_mark, manifest_content, manifest_bytes}
-
--- numbers as keys and data
-abbrev pub IsNumber : ℕ → Type 0
-IsNumber n = n < 2 ^ 64
+use Rattle.lru_manifests.specs.Manifests.{IsFrameOf, IsNumber, IsRefused, IsManifest, IsMark, IsWrongManifest, HasOtherContent, part_header, mark_row, row_mark, manifest_content, manifest_bytes}
 
 abbrev pub IsSameNumber : ℕ → ℕ → Type 0
 IsSameNumber a b = a ≡ b
@@ -110,10 +106,21 @@ wrong_so (Damaged part.Length) bytes reads h = h
 wrong_so (Damaged part.Magic) bytes reads h = h
 wrong_so (Damaged part.Version) bytes reads h = h
 wrong_so (Damaged part.Check) bytes reads h = h
-wrong_so (Damaged part.Header) bytes reads h =
-    (h.0, (h.1, λ generation marks is same. let e = refused (Damaged part.Header) bytes reads generation marks is (h.1 ∙ ap sealed same) in let f : ⊥ = cc in f))
-wrong_so (Damaged part.Rows) bytes reads h =
-    (h.0, (h.1, λ generation marks is same. let e = refused (Damaged part.Rows) bytes reads generation marks is (h.1 ∙ ap sealed same) in let f : ⊥ = cc in f))
+wrong_so (Damaged part.Header) bytes reads h = (
+  (h.0, (h.1, λ generation marks is same. let e = refused (Damaged part.Header) bytes reads generation marks is (h.1 ∙ ap sealed same) in let f : ⊥ = cc in f)),
+  (h.0, (h.1, inl h.2)),
+)
+wrong_so (Damaged part.Rows) bytes reads h = (
+  (h.0, (h.1, λ generation marks is same. let e = refused (Damaged part.Rows) bytes reads generation marks is (h.1 ∙ ap sealed same) in let f : ⊥ = cc in f)),
+  (h.0, (h.1, inl h.2)),
+)
+
+-- the header of a manifest is that of the last part, and it has one row for each shard
+last_part : (header : Header) (rows : List (Row ℕ ℕ)) (generation : ℕ) (marks : List Mark) → IsFrameOf header rows generation marks → suc header.shard ≡ header.shards
+last_part header rows generation marks is = ap (λ (h : Header). suc h.shard) is.0 ∙ ap (λ (h : Header). h.shards) (sym is.0)
+
+row_each : (header : Header) (rows : List (Row ℕ ℕ)) (generation : ℕ) (marks : List Mark) → IsFrameOf header rows generation marks → length rows ≡ header.shard
+row_each header rows generation marks is = ap length is.1 ∙ length-map marks mark_row ∙ ap (λ (h : Header). h.shard) (sym is.0)
 
 module _ (frame : Frame ℕ ℕ) (bytes : List ℕ) (reads : ReadsFrames (Ok frame) bytes) (found : bytes ≡ frame_of word word frame.header frame.rows.items) where
   -- the frame of a manifest's bytes
@@ -134,8 +141,14 @@ module _ (frame : Frame ℕ ℕ) (bytes : List ℕ) (reads : ReadsFrames (Ok fra
   wrong_frame (Damaged part.Magic) h = absurd h
   wrong_frame (Damaged part.Version) h = absurd h
   wrong_frame (Damaged part.Check) h = absurd h
-  wrong_frame (Damaged part.Header) h = other_content h
-  wrong_frame (Damaged part.Rows) h = other_content h
+  wrong_frame (Damaged part.Header) h = (
+    other_content (λ generation marks is. h (last_part frame.header frame.rows.items generation marks is)),
+    (content_of word word frame.header frame.rows.items, (found, inr (frame.header, (frame.rows.items, (refl, h))))),
+  )
+  wrong_frame (Damaged part.Rows) h = (
+    other_content (λ generation marks is. h.1 (row_each frame.header frame.rows.items generation marks is)),
+    (content_of word word frame.header frame.rows.items, (found, inr (frame.header, (frame.rows.items, (refl, h))))),
+  )
 
   refused_frame : (error : FrameError) → IsRefused error frame.header frame.rows.items → (generation : ℕ) (marks : List Mark) → IsFrameOf frame.header frame.rows.items generation marks → error ≡ Memory
   refused_frame Memory h generation marks is = refl
@@ -143,8 +156,8 @@ module _ (frame : Frame ℕ ℕ) (bytes : List ℕ) (reads : ReadsFrames (Ok fra
   refused_frame (Damaged part.Magic) h generation marks is = absurd h
   refused_frame (Damaged part.Version) h generation marks is = absurd h
   refused_frame (Damaged part.Check) h generation marks is = absurd h
-  refused_frame (Damaged part.Header) h generation marks is = absurd (h generation marks is)
-  refused_frame (Damaged part.Rows) h generation marks is = absurd (h generation marks is)
+  refused_frame (Damaged part.Header) h generation marks is = absurd (h (last_part frame.header frame.rows.items generation marks is))
+  refused_frame (Damaged part.Rows) h generation marks is = absurd (h.1 (row_each frame.header frame.rows.items generation marks is))
 
   -- what is read of a manifest's bytes
   pub written_so : (r : Result Manifest FrameError) → IfOk r (λ manifest. IsFrameOf frame.header frame.rows.items manifest.generation manifest.frames.items)

@@ -29,6 +29,12 @@ IsTemp (Frame generation shard) = ⊥
 IsTemp (Manifest generation) = ⊥
 IsTemp (Temp generation) = Unit {0}
 
+-- the manifest of any generation
+abbrev pub IsAnyManifest : PartName → Type 0
+IsAnyManifest (Frame generation shard) = ⊥
+IsAnyManifest (Manifest generation) = Unit {0}
+IsAnyManifest (Temp generation) = ⊥
+
 -- a part that no manifest tells of
 abbrev pub IsLeftover : List PartName → PartName → Type 0
 IsLeftover parts part = IsTemp part ⊎ (¬ Contains parts (Manifest (generation_of part)))

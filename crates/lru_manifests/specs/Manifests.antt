@@ -1,5 +1,5 @@
 -- A manifest as bytes, and the parts of a checkpoint.
-use Rattle.std.specs.Prelude.{◌≡◌, ◌≢◌, ℕ, suc, ◌<◌, ◌^◌, List, length, map}
+use Rattle.std.specs.Prelude.{◌≡◌, ◌≢◌, ◌⊎◌, ℕ, suc, ◌<◌, ◌^◌, List, length, map}
 use Rattle.std.specs.List.{AllByRecursion}
 use Rattle.lru_frames.specs.declared.errors.Part.TheVariants as part
 use Rattle.lru_frames.specs.declared.errors.FrameError.{FrameError}
@@ -7,7 +7,7 @@ use Rattle.lru_frames.specs.declared.errors.FrameError.TheVariants.{Damaged, Mem
 use Rattle.lru_frames.specs.declared.frame.Header.{Header}
 use Rattle.lru_frames.specs.declared.mark.Mark.{Mark}
 use Rattle.lru_frames.specs.declared.row.Row.{Row}
-use Rattle.lru_frames.specs.Causes.{HasOtherLength, HasOtherMagic, HasOtherVersion, HasOtherCheck}
+use Rattle.lru_frames.specs.Causes.{HasNoHeader, HasOtherLength, HasOtherMagic, HasOtherVersion, HasOtherCheck, HasOtherRows}
 use Rattle.lru_frames.specs.Envelope.{sealed}
 use Rattle.lru_frames.specs.Frame.{content_of, frame_of}
 use Rattle.lru_frames.specs.Words.{word}
@@ -47,11 +47,11 @@ pub record IsManifest (number : ℕ) (marks : List Mark) : Type 0 where
 abbrev pub IsFrameOf : Header → List (Row ℕ ℕ) → ℕ → List Mark → Type 0
 IsFrameOf header rows generation marks = (header ≡ part_header generation (length marks) (length marks)) × (rows ≡ map mark_row marks)
 
--- it is none; where memory ran out, maybe one
+-- it is none, since it is not the last part, or has not one row for each shard; where memory ran out, maybe one
 abbrev pub IsRefused : FrameError → Header → List (Row ℕ ℕ) → Type 0
 IsRefused Memory header rows = Unit {0}
-IsRefused (Damaged part.Header) header rows = (generation : ℕ) (marks : List Mark) → IsFrameOf header rows generation marks → ⊥
-IsRefused (Damaged part.Rows) header rows = (generation : ℕ) (marks : List Mark) → IsFrameOf header rows generation marks → ⊥
+IsRefused (Damaged part.Header) header rows = suc header.shard ≢ header.shards
+IsRefused (Damaged part.Rows) header rows = (suc header.shard ≡ header.shards) × (length rows ≢ header.shard)
 IsRefused (Damaged part.Length) header rows = ⊥
 IsRefused (Damaged part.Magic) header rows = ⊥
 IsRefused (Damaged part.Version) header rows = ⊥
@@ -62,11 +62,27 @@ abbrev pub HasOtherContent : List ℕ → Type 0
 HasOtherContent bytes = (content : List ℕ) × ((bytes ≡ sealed content)
     × ((generation : ℕ) (marks : List Mark) → IsManifest generation marks → content ≢ manifest_content generation marks))
 
+abbrev pub IsNumber : ℕ → Type 0
+IsNumber n = n < 2 ^ 64
+
+-- the content has no header, or that of another part than the last one
+abbrev pub HasOtherPart : List ℕ → Type 0
+HasOtherPart content = HasNoHeader content ⊎ ((header : Header) × ((rows : List (Row ℕ ℕ)) × ((content ≡ content_of word word header rows) × (suc header.shard ≢ header.shards))))
+
+-- it has a header, and behind it no rows of numbers, or of the last part not one for each shard
+abbrev pub HasOtherMarks : List ℕ → Type 0
+HasOtherMarks content = HasOtherRows {K = ℕ} {V = ℕ} word IsNumber word IsNumber content ⊎ ((header : Header) × ((rows : List (Row ℕ ℕ))
+    × ((content ≡ content_of word word header rows) × ((suc header.shard ≡ header.shards) × (length rows ≢ header.shard)))))
+
+-- the content is like this
+abbrev pub HasContent : (List ℕ → Type 0) → List ℕ → Type 0
+HasContent P bytes = (content : List ℕ) × ((bytes ≡ sealed content) × P content)
+
 -- what is wrong with the bytes; where memory ran out, maybe nothing
 abbrev pub IsWrongManifest : FrameError → List ℕ → Type 0
 IsWrongManifest Memory bytes = Unit {0}
-IsWrongManifest (Damaged part.Header) bytes = HasOtherContent bytes
-IsWrongManifest (Damaged part.Rows) bytes = HasOtherContent bytes
+IsWrongManifest (Damaged part.Header) bytes = HasOtherContent bytes × HasContent HasOtherPart bytes
+IsWrongManifest (Damaged part.Rows) bytes = HasOtherContent bytes × HasContent HasOtherMarks bytes
 IsWrongManifest (Damaged part.Length) bytes = HasOtherLength bytes
 IsWrongManifest (Damaged part.Magic) bytes = HasOtherMagic bytes
 IsWrongManifest (Damaged part.Version) bytes = HasOtherVersion bytes

@@ -7,7 +7,7 @@ ghost use Rattle.lru_whole_files.specs.Reading.{IfFolder};
 ghost use Rattle.lru_whole_files.specs.Touching.{TouchesNothing};
 ghost use Rattle.lru_manifests.specs.declared.names.PartName.{PartName};
 ghost use Rattle.lru_manifests.specs.declared.names.PartName.TheVariants.{Manifest};
-ghost use Rattle.lru_manifests.specs.Listing.{HasListReason, HasParts, IsAbove, IsLeftover};
+ghost use Rattle.lru_manifests.specs.Listing.{HasListReason, HasParts, IsAbove, IsAnyManifest, IsLeftover};
 ghost use Rattle.lru_manifests.specs.Names.{IsPart, generation_of, part_text};
 
 use crate::names::{PartName, part_of};
@@ -146,4 +146,24 @@ pub fn older_than(
         }
     }
     Ok(older)
+}
+
+/// The manifests among the parts, and the other parts, both in order.
+pub fn manifests_apart(
+    alloc: Global,
+    parts: &[PartName],
+) -> Result<(Vec<PartName>, Vec<PartName>), AllocError>
+    ensures manifests { IfOk result (λ both. (part : PartName) → Contains both.0.items part ↔ (Contains parts.now part × IsAnyManifest part)) }
+    ensures others { IfOk result (λ both. (part : PartName) → Contains both.1.items part ↔ (Contains parts.now part × (¬ IsAnyManifest part))) }
+{
+    let mut manifests = Vec::new(alloc);
+    let mut others = Vec::new(alloc);
+    for part in parts {
+        match part {
+            PartName::Manifest { .. } => manifests.push(*part)?,
+            PartName::Frame { .. } => others.push(*part)?,
+            PartName::Temp { .. } => others.push(*part)?,
+        }
+    }
+    Ok((manifests, others))
 }

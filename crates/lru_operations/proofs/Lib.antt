@@ -1,4 +1,4 @@
-mod Below
+mod Answered
 mod Lines
 mod Told
 mod Words

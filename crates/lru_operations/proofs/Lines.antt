@@ -9,7 +9,7 @@ use Rattle.lru_operations.specs.Outcomes.{ComesOfRows, ComesOfInput}
 
 pub of_lines : {F : Type 0} (meaning : Meaning F) (dir file_name : List ℕ) (rows : List (Row ℕ ℕ)) (input : List ℕ) (old new : F) → rows_of input ≡ map (λ row. Some row) rows
     → (came : Outcome) → ComesOfRows meaning dir file_name rows old new came → ComesOfInput meaning dir file_name input old new came
-of_lines meaning dir file_name rows input old new e (outcome.Saved generation count passed) h = (rows, (e, h))
+of_lines meaning dir file_name rows input old new e (outcome.Saved generation count passed removed) h = (rows, (e, h))
 of_lines meaning dir file_name rows input old new e outcome.Memory h = h
 of_lines meaning dir file_name rows input old new e (outcome.Refused error) h = h
 of_lines meaning dir file_name rows input old new e outcome.Helped h = absurd h

@@ -1,26 +1,29 @@
 -- What may come of a request.
-use Rattle.std.specs.Prelude.{◌≡◌, ◌⊎◌, ◌%◌, ◌==◌, ℕ, List, [], ◌∷◌, length, map, filter, reverse, slice_get, Option, Some, IfSome, Contains}
+use Rattle.std.specs.Prelude.{◌≡◌, ◌⊎◌, ◌%◌, ◌==◌, ℕ, List, [], ◌∷◌, length, map, filter, reverse, slice_get, Option, Some, None, Result, MatchResult, IfSome, Contains}
 use Rattle.std.specs.Io.KnownBytes.{Appends}
+use Rattle.std.specs.FinMap.{get}
 use Rattle.lru_folder.specs.Meaning.{Meaning}
 use Rattle.lru_frames.specs.declared.row.Row.{Row}
 use Rattle.lru_frames.specs.Words.{word}
 use Rattle.lru_checkpoints.specs.declared.errors.CheckpointError.{CheckpointError}
 use Rattle.lru_checkpoints.specs.Checkpoints.{Shards, AreHandedOut}
 use Rattle.lru_checkpoints.specs.Loads.{IsFault, IsRefused, IsRefusedFrame}
+use Rattle.lru_manifests.specs.declared.names.PartName.{PartName}
+use Rattle.lru_manifests.specs.Names.{IsPart, part_path}
 use Rattle.lru_generations.specs.declared.checking.Told.{Told}
 use Rattle.lru_generations.specs.declared.loading.Loaded.{Loaded}
 use Rattle.lru_generations.specs.declared.newest.Passed.{Passed}
 use Rattle.lru_generations.specs.Faults.{IsFailed, IsUnlisted}
-use Rattle.lru_generations.specs.Loaded.{IsLoaded, number_of}
-use Rattle.lru_generations.specs.Newest.{AreGenerations, ArePassed, IsNewest}
-use Rattle.lru_generations.specs.Saving.{IsForGood, IsUnsaved, IsUnused, SavesNext, TellsPassed}
+use Rattle.lru_generations.specs.Loaded.{IsLoaded, IsLoadedBelow, number_of}
+use Rattle.lru_generations.specs.Newest.{AreGenerations, AreGenerationsBelow, ArePassed, IsHighest, IsNewest}
+use Rattle.lru_generations.specs.Saving.{IsForGood, IsOlder, IsUnremoved, IsUnsaved, IsUnused, SavesNext, TellsPassed}
 use Rattle.lru_generations.specs.Told.{AreAll, IsTold}
 use Rattle.lru_operations.specs.declared.outcome.Outcome.{Outcome}
 use Rattle.lru_operations.specs.declared.outcome.Outcome.TheVariants as outcome
 use Rattle.lru_operations.specs.declared.requests.Misuse.TheVariants as misuse
 use Rattle.lru_operations.specs.declared.requests.WordsError.{WordsError}
 use Rattle.lru_operations.specs.declared.requests.WordsError.TheVariants as words
-use Rattle.lru_operations.specs.Before.{IsWord, CanShowBefore, IsHighestThere}
+use Rattle.lru_operations.specs.Before.{IsWord, CanShow}
 use Rattle.lru_operations.specs.InputRows as input
 use Rattle.lru_operations.specs.Texts.{Held, outcome_text, status_of}
 use Rattle.lru_operations.specs.Requests.{Asked, Help, Save, Show, ShowBefore, Check, Misused, NoMemory}
@@ -49,10 +52,18 @@ module _ {F : Type 0} (meaning : Meaning F) (dir file_name : List ℕ) where
       × ((held : Held) × (AreShardsOf rows held × ((shards : Shards ℕ ℕ) × (AreHandedOut (HandsOut held) (length held) shards
       × IsForGood word IsWord word IsWord dir file_name meaning generation shards new))))
 
-  -- and what is told is each generation above the newest one that was whole
-  abbrev pub IsSavedNext : List (Row ℕ ℕ) → ℕ → List Passed → F → F → Type 0
-  IsSavedNext rows generation passed old new = IsSavedAs rows generation old new
-      × ((kept : Option ℕ) × (IsNewest dir file_name (meaning.files old) kept × TellsPassed meaning dir file_name (meaning.files old) kept passed))
+  -- the files below the one that is kept are gone, or why some may be left is told
+  abbrev pub TellsRemoved : Option ℕ → Result (Unit {0}) CheckpointError → F → F → Type 0
+  TellsRemoved kept removed old new = MatchResult removed
+      (λ done. (part : PartName) (bytes : List ℕ) → IsPart part → IsOlder kept part → get (meaning.files old) (part_path dir file_name part) ≡ Some bytes
+      → get (meaning.files new) (part_path dir file_name part) ≡ None)
+      (IsUnremoved meaning kept)
+
+  -- and what is told is each generation above the newest one that was whole, and what became of those below it
+  abbrev pub IsSavedNext : List (Row ℕ ℕ) → ℕ → List Passed → Result (Unit {0}) CheckpointError → F → F → Type 0
+  IsSavedNext rows generation passed removed old new = IsSavedAs rows generation old new
+      × ((kept : Option ℕ) × (IsNewest dir file_name (meaning.files old) kept × (TellsPassed meaning dir file_name (meaning.files old) kept passed
+      × TellsRemoved kept removed old new)))
 
   -- a save was refused; where neither memory nor the device failed, nothing was done
   abbrev pub IsSaveRefused : F → F → CheckpointError → Type 0
@@ -60,7 +71,7 @@ module _ {F : Type 0} (meaning : Meaning F) (dir file_name : List ℕ) where
 
   -- what comes of the rows of an input
   abbrev pub ComesOfRows : List (Row ℕ ℕ) → F → F → Outcome → Type 0
-  ComesOfRows rows old new (outcome.Saved generation count passed) = (count ≡ length rows) × (meaning.keeps old → IsSavedNext rows generation passed.items old new)
+  ComesOfRows rows old new (outcome.Saved generation count passed removed) = (count ≡ length rows) × (meaning.keeps old → IsSavedNext rows generation passed.items removed old new)
   ComesOfRows rows old new outcome.Memory = new ≡ old
   ComesOfRows rows old new (outcome.Refused error) = meaning.keeps old → IsSaveRefused old new error
   ComesOfRows rows old new outcome.Helped = ⊥
@@ -74,8 +85,8 @@ module _ {F : Type 0} (meaning : Meaning F) (dir file_name : List ℕ) where
   abbrev pub ComesOfInput : List ℕ → F → F → Outcome → Type 0
   ComesOfInput bytes old new (outcome.BadLine number) = input.IsFirstBad (input.rows_of bytes) number × (new ≡ old)
   ComesOfInput bytes old new outcome.Memory = new ≡ old
-  ComesOfInput bytes old new (outcome.Saved generation count passed) = (rows : List (Row ℕ ℕ)) × ((input.rows_of bytes ≡ map (λ row. Some row) rows)
-      × ((count ≡ length rows) × (meaning.keeps old → IsSavedNext rows generation passed.items old new)))
+  ComesOfInput bytes old new (outcome.Saved generation count passed removed) = (rows : List (Row ℕ ℕ)) × ((input.rows_of bytes ≡ map (λ row. Some row) rows)
+      × ((count ≡ length rows) × (meaning.keeps old → IsSavedNext rows generation passed.items removed old new)))
   ComesOfInput bytes old new (outcome.Refused error) = meaning.keeps old → IsSaveRefused old new error
   ComesOfInput bytes old new outcome.Helped = ⊥
   ComesOfInput bytes old new (outcome.Misused misuse) = ⊥
@@ -105,24 +116,30 @@ module _ {F : Type 0} (meaning : Meaning F) (dir file_name : List ℕ) where
       × ((generations : List ℕ) × (AreGenerations dir file_name (meaning.files old) generations
       × ArePassed (IsRefusedRows old new) generations (number_of loaded.newest) loaded.passed.items))
 
+  -- So it is below the newest one that can be read, as if that and those above it were not there.
+  abbrev pub IsShownBefore : F → F → Loaded ℕ ℕ → Type 0
+  IsShownBefore old new loaded = (newest : Option ℕ) × (IsHighest (CanShow dir file_name (meaning.files old)) newest
+      × (IsLoadedBelow word IsWord word IsWord dir file_name (meaning.files old) newest loaded.newest
+      × ((generations : List ℕ) × (AreGenerationsBelow dir file_name (meaning.files old) newest generations
+      × ArePassed (IsRefusedRows old new) generations (number_of loaded.newest) loaded.passed.items))))
+
   abbrev pub ComesOfShow : F → F → Outcome → Type 0
   ComesOfShow old new (outcome.Shown loaded) = IsShown old new loaded
   ComesOfShow old new (outcome.Refused error) = IsUnread old new error
   ComesOfShow old new outcome.Helped = ⊥
   ComesOfShow old new (outcome.Misused misuse) = ⊥
-  ComesOfShow old new (outcome.Saved generation count passed) = ⊥
+  ComesOfShow old new (outcome.Saved generation count passed removed) = ⊥
   ComesOfShow old new (outcome.Checked told) = ⊥
   ComesOfShow old new (outcome.BadLine number) = ⊥
   ComesOfShow old new outcome.Unread = ⊥
   ComesOfShow old new outcome.Memory = ⊥
 
-  -- the checkpoint of the highest generation that can be read and has one above it that can, or there is none
   abbrev pub ComesOfShowBefore : F → F → Outcome → Type 0
-  ComesOfShowBefore old new (outcome.Shown loaded) = IsHighestThere dir file_name (meaning.files old) (CanShowBefore dir file_name (meaning.files old)) loaded.newest
-  ComesOfShowBefore old new (outcome.Refused error) = IsFault error
+  ComesOfShowBefore old new (outcome.Shown loaded) = IsShownBefore old new loaded
+  ComesOfShowBefore old new (outcome.Refused error) = IsUnread old new error
   ComesOfShowBefore old new outcome.Helped = ⊥
   ComesOfShowBefore old new (outcome.Misused misuse) = ⊥
-  ComesOfShowBefore old new (outcome.Saved generation count passed) = ⊥
+  ComesOfShowBefore old new (outcome.Saved generation count passed removed) = ⊥
   ComesOfShowBefore old new (outcome.Checked told) = ⊥
   ComesOfShowBefore old new (outcome.BadLine number) = ⊥
   ComesOfShowBefore old new outcome.Unread = ⊥
@@ -135,7 +152,7 @@ module _ {F : Type 0} (meaning : Meaning F) (dir file_name : List ℕ) where
   ComesOfCheck old new (outcome.Refused error) = IsUnread old new error
   ComesOfCheck old new outcome.Helped = ⊥
   ComesOfCheck old new (outcome.Misused misuse) = ⊥
-  ComesOfCheck old new (outcome.Saved generation count passed) = ⊥
+  ComesOfCheck old new (outcome.Saved generation count passed removed) = ⊥
   ComesOfCheck old new (outcome.Shown loaded) = ⊥
   ComesOfCheck old new (outcome.BadLine number) = ⊥
   ComesOfCheck old new outcome.Unread = ⊥

@@ -2,6 +2,8 @@
 use Rattle.std.specs.Prelude.{◌≡◌, ℕ, List, [], ◌∷◌, Option, Some, None, Result, Ok, Err, String, Vec, codes, false, map, string_bytes, if◌then◌else◌}
 use Rattle.std.specs.declared.alloc.Global.{Global}
 use Rattle.std.specs.Str.{bytes_eq}
+use Rattle.std.specs.declared.io.ErrorKind.{ErrorKind}
+use Rattle.std.specs.declared.io.ErrorKind.TheVariants as kind
 use Rattle.lru_folder.specs.Names.{has_slash}
 use Rattle.lru_operations.specs.declared.requests.Misuse.{Misuse}
 use Rattle.lru_operations.specs.declared.requests.Misuse.TheVariants.{Words, Command, FileName, NoFolder, NoFile, NoText}
@@ -78,3 +80,8 @@ abbrev pub asked_of : Result (Vec (String Global) Global) WordsError → Asked
 asked_of (Ok words) = request_of (map string_bytes words.items)
 asked_of (Err words.Memory) = NoMemory
 asked_of (Err words.NoText) = Misused NoText
+
+-- why the words were not read: the system says that memory was refused, or else that one is no text
+abbrev pub words_error : ErrorKind → WordsError
+words_error kind.OutOfMemory = words.Memory
+words_error _ = words.NoText

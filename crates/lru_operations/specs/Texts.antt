@@ -126,10 +126,18 @@ help_text =
     ++ codes "check DIR FILE  tells of each generation in the folder whether it is whole, highest first\n"
     ++ codes "A generation that is damaged is passed over; its files stay until a newer checkpoint is kept.\n"
 
+-- older files that may be left, and why; nothing where they are gone
+abbrev pub left_line : CheckpointError → List ℕ
+left_line error = codes "older files left: " ++ line (error_text error)
+
+abbrev pub left_text : Result (Unit {0}) CheckpointError → List ℕ
+left_text (Ok done) = []
+left_text (Err error) = left_line error
+
 abbrev pub outcome_text : Outcome → List ℕ
 outcome_text Helped = help_text
 outcome_text (Misused misuse) = misuse_text misuse
-outcome_text (Saved generation rows passed) = saved_text generation rows ++ passed_text passed.items
+outcome_text (Saved generation rows passed removed) = saved_text generation rows ++ (passed_text passed.items ++ left_text removed)
 outcome_text (Shown loaded) = shown_text loaded
 outcome_text (Checked told) = checked_text told.items
 outcome_text (BadLine number) = bad_line_text number
@@ -159,7 +167,7 @@ checked_status told = if list_any (λ one. is_damaged (verdict_of one)) told the
 abbrev pub status_of : Outcome → ℕ
 status_of Helped = 0
 status_of (Misused misuse) = 2
-status_of (Saved generation rows passed) = 0
+status_of (Saved generation rows passed removed) = 0
 status_of (Shown loaded) = shown_status loaded.newest
 status_of (Checked told) = checked_status told.items
 status_of (BadLine number) = 2

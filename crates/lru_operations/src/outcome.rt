@@ -35,6 +35,8 @@ pub enum Outcome {
         rows: u64,
         /// The generations above the one that is kept.
         passed: Vec<Passed>,
+        /// Whether the files below the one that is kept are gone, or why some may be left.
+        removed: Result<(), CheckpointError>,
     },
     /// This was loaded.
     Shown(Loaded<u64, u64>),

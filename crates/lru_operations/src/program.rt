@@ -1,7 +1,9 @@
 //! The program `checkpoint_tool`, over the streams and the folder that it is given.
-ghost use Rattle.std.specs.Prelude.{◌≡◌, ◌≢◌, ◌↔◌, IfSome, IsSome};
+ghost use Rattle.std.specs.Prelude.{◌≡◌, ◌≢◌, ◌↔◌, drop, Err, IfOk, IfSome, IsSome, MatchResult};
+ghost use Rattle.std.specs.IoError.{error_kind};
+ghost use Rattle.std.specs.Vec.Iter.{into_iter_items};
 ghost use Rattle.std.specs.Process.{exit_status};
-ghost use Rattle.lru_operations.specs.Requests.{asked_of};
+ghost use Rattle.lru_operations.specs.Requests.{asked_of, words_error};
 ghost use Rattle.lru_operations.specs.Outcomes.{unread_words, LeavesFiles, LeavesWhole, Tells};
 
 use crate::engine::{run_buffered, tell_buffered};
@@ -9,11 +11,11 @@ use crate::outcome::Outcome;
 use crate::requests::{Misuse, WordsError};
 use lru_streams::input::Input;
 use lru_synced_folder::synced_folder::SyncedFolder;
-use std::alloc::Global;
-use std::env;
-use std::env::Env;
+use std::alloc::{AllocError, Global};
+use std::env::{Args, Env};
 use std::io::{BufWriter, ErrorKind, Write};
 use std::process::ExitCode;
+use std::{env, io};
 
 /// How the program ended.
 #[derive(Drop)]
@@ -24,20 +26,48 @@ pub struct Ended<W> {
     pub written: Option<W>,
 }
 
-/// The words after the program's name, or why they were not read.
-pub fn words<R: Env + AllocGlobal>(rt: &R) -> Result<Vec<String>, WordsError> {
-    let arguments = match env::args(rt) {
-        Ok(arguments) => arguments,
-        Err(error) if error.kind() == ErrorKind::OutOfMemory => return Err(WordsError::Memory),
-        Err(_) => return Err(WordsError::NoText),
-    };
-    let mut words = Vec::new(rt.alloc());
-    for argument in arguments.skip(1) {
-        let Ok(()) = words.push(argument) else {
-            return Err(WordsError::Memory);
-        };
+// The words behind the first one.
+fn behind_first(alloc: Global, arguments: Args) -> Result<Vec<String>, AllocError>
+    ensures { IfOk result (λ words. words.items ≡ drop 1 (into_iter_items arguments)) }
+{
+    let mut rest = arguments;
+    let _program = rest.next();
+    let mut words = Vec::new(alloc);
+    'rest: while let Some(word) = rest.next() {
+        words.push(word)?;
     }
     Ok(words)
+}
+
+// Why the arguments were not read.
+fn words_error(error: &io::Error) -> WordsError
+    ensures { result ≡ words_error (error_kind error.now) }
+{
+    match error.kind() {
+        ErrorKind::OutOfMemory => WordsError::Memory,
+        _ => WordsError::NoText,
+    }
+}
+
+/// The words after the program's name, of its arguments, or why they were not read.
+pub fn words_of(alloc: Global, arguments: io::Result<Args>) -> Result<Vec<String>, WordsError>
+    ensures { MatchResult arguments
+        (λ arguments. MatchResult result (λ words. words.items ≡ drop 1 (into_iter_items arguments)) (λ error. error ≡ WordsError.Memory))
+        (λ error. result ≡ Err (words_error (error_kind error))) }
+{
+    let arguments = match arguments {
+        Err(error) => return Err(words_error(&error)),
+        Ok(arguments) => arguments,
+    };
+    match behind_first(alloc, arguments) {
+        Err(_) => Err(WordsError::Memory),
+        Ok(words) => Ok(words),
+    }
+}
+
+/// The words after the program's name, or why they were not read.
+pub fn words<R: Env + AllocGlobal>(rt: &R) -> Result<Vec<String>, WordsError> {
+    words_of(rt.alloc(), env::args(rt))
 }
 
 // What comes of words that were not read.

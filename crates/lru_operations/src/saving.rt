@@ -75,6 +75,7 @@ fn save_rows<F: SyncedFolder>(
             generation: saved.generation,
             rows: rows.len() as u64,
             passed: saved.passed,
+            removed: saved.removed,
         },
     }
 }

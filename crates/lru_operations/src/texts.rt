@@ -5,7 +5,7 @@ ghost use Rattle.std.specs.Io.KnownBytes.{Appends};
 ghost use Rattle.lru_folder.specs.TextsFault.{fault_text};
 ghost use Rattle.lru_frames.specs.Errors.{part_text};
 ghost use Rattle.lru_checkpoints.specs.Texts.{file_text, error_text};
-ghost use Rattle.lru_operations.specs.Texts.{heading, line, refusal_text, misuse_text, row_line, generation_line, rows_text, saved_text, damaged_text, passed_line, passed_text, told_text, no_checkpoint_text, checked_text, shown_text, bad_line_text, outcome_text, help_text};
+ghost use Rattle.lru_operations.specs.Texts.{heading, line, refusal_text, misuse_text, row_line, generation_line, left_line, left_text, rows_text, saved_text, damaged_text, passed_line, passed_text, told_text, no_checkpoint_text, checked_text, shown_text, bad_line_text, outcome_text, help_text};
 
 use crate::outcome::{Outcome, Verdict, verdict_of};
 use crate::requests::Misuse;
@@ -345,18 +345,53 @@ fn write_saved_line<W: Output>(writer: &mut W, generation: u64, rows: u64) -> io
     )
 }
 
-// A checkpoint that was saved, and then the generations that were passed over.
+// The line of older files that may be left.
+fn write_left_line<W: Output>(writer: &mut W, error: CheckpointError) -> io::Result<()>
+    ensures text { OnOk result (Appends (W.contents writer.old) (W.contents writer.new) (left_line error)) }
+    ensures failed { OnErr result (W.has_failed writer.new) }
+{
+    write_pieces(writer, &[Piece::Text("older files left: ")])?;
+    write_reason(writer, error)
+}
+
+// The line of older files that may be left, and none where they are gone.
+fn write_left<W: Output>(writer: &mut W, removed: &Result<(), CheckpointError>) -> io::Result<()>
+    ensures text { OnOk result (Appends (W.contents writer.old) (W.contents writer.new) (left_text removed.now)) }
+    ensures failed { OnErr result (W.has_failed writer.new) }
+{
+    match removed {
+        Ok(()) => Ok(()),
+        Err(error) => write_left_line(writer, *error),
+    }
+}
+
+// What is told behind the line of a checkpoint that was saved: the generations that were passed over, and older files that may
+// be left.
+fn write_others<W: Output>(
+    writer: &mut W,
+    passed: &[Passed],
+    removed: &Result<(), CheckpointError>,
+) -> io::Result<()>
+    ensures text { OnOk result (Appends (W.contents writer.old) (W.contents writer.new) (passed_text passed.now ++ left_text removed.now)) }
+    ensures failed { OnErr result (W.has_failed writer.new) }
+{
+    write_passed(writer, passed)?;
+    write_left(writer, removed)
+}
+
+// A checkpoint that was saved, and what is told of the others.
 fn write_saved<W: Output>(
     writer: &mut W,
     generation: u64,
     rows: u64,
     passed: &[Passed],
+    removed: &Result<(), CheckpointError>,
 ) -> io::Result<()>
-    ensures text { OnOk result (Appends (W.contents writer.old) (W.contents writer.new) (saved_text generation rows ++ passed_text passed.now)) }
+    ensures text { OnOk result (Appends (W.contents writer.old) (W.contents writer.new) (saved_text generation rows ++ (passed_text passed.now ++ left_text removed.now))) }
     ensures failed { OnErr result (W.has_failed writer.new) }
 {
     write_saved_line(writer, generation, rows)?;
-    write_passed(writer, passed)
+    write_others(writer, passed, removed)
 }
 
 fn write_bad_line<W: Output>(writer: &mut W, number: u64) -> io::Result<()>
@@ -385,7 +420,8 @@ pub fn write_outcome<W: Output>(writer: &mut W, outcome: &Outcome) -> io::Result
             generation,
             rows,
             passed,
-        } => write_saved(writer, *generation, *rows, passed),
+            removed,
+        } => write_saved(writer, *generation, *rows, passed, removed),
         Outcome::Shown(loaded) => write_shown(writer, loaded),
         Outcome::Checked(told) => write_checked(writer, told),
         Outcome::BadLine(number) => write_bad_line(writer, *number),

@@ -239,14 +239,18 @@ fn a_missing_folder_is_a_fault(rt: HostRuntime) -> Result<(), Fail> {
     Ok(())
 }
 
-// How a check may begin after a save that stopped: what it had begun is unfinished, and below these two may be what it had not
-// come to remove.
+// What a check may tell after a save that stopped: what it had begun is unfinished, and so is what it had begun to remove. No
+// generation is damaged.
 static OLD: [&str; 2] = [
     "generation 1 whole\ngeneration 0 whole\n",
     "generation 2 unfinished\ngeneration 1 whole\ngeneration 0 whole\n",
 ];
 
-static NEW: [&str; 1] = ["generation 2 whole\ngeneration 1 whole\n"];
+static NEW: [&str; 3] = [
+    "generation 2 whole\ngeneration 1 whole\n",
+    "generation 2 whole\ngeneration 1 whole\ngeneration 0 unfinished\n",
+    "generation 2 whole\ngeneration 1 whole\ngeneration 0 whole\n",
+];
 
 // A save that stops at a call, and what is found then.
 #[derive(Drop)]
@@ -254,7 +258,7 @@ struct AfterStop {
     is_saved: bool,
     is_old: bool,
     is_new: bool,
-    // the newest that is shown is whole, and so is the one below it; what was begun above it is unfinished
+    // each generation is whole or unfinished
     is_checked: bool,
 }
 
@@ -279,10 +283,10 @@ fn shows(alloc: Global, folder: &mut MemoryFolder, text: &str) -> Result<bool, A
     answers(alloc, folder, "show d c", "", 0, text)
 }
 
-// Whether a check begins with one of these.
+// Whether a check tells one of these.
 fn checks(alloc: Global, folder: &mut MemoryFolder, texts: &[&str]) -> Result<bool, AllocError> {
     let text = written(alloc, folder, "check d c")?;
-    Ok(texts.iter().any(|begin| text.starts_with(begin.as_bytes())))
+    Ok(texts.iter().any(|told| text.as_slice() == told.as_bytes()))
 }
 
 #[test]
@@ -296,5 +300,35 @@ fn a_save_that_stops_leaves_the_old_rows_or_the_new_ones(rt: HostRuntime) -> Res
         news = news.saturating_add(usize::from(found.is_new));
     }
     assert!(rt; (0 < news) & (news < 60));
+    Ok(())
+}
+
+// What a save tells of which one removal failed: the file that was not removed first.
+static LEFT: [&str; 5] = [
+    "generation 2 rows 1\nolder files left: manifest: input or output failed\n",
+    "generation 2 rows 1\nolder files left: shard 0: input or output failed\n",
+    "generation 2 rows 1\nolder files left: shard 1: input or output failed\n",
+    "generation 2 rows 1\nolder files left: shard 2: input or output failed\n",
+    "generation 2 rows 1\nolder files left: shard 3: input or output failed\n",
+];
+
+// How many of the calls of a save, each failing in turn, make it tell this, with the status of a save that was done.
+fn told_by(alloc: Global, text: &str) -> Result<usize, AllocError> {
+    let mut count = 0usize;
+    for call in 0..60 {
+        let mut folder = with_two(alloc)?;
+        folder.fail_at(call, 0);
+        if saves(alloc, &mut folder, "1 3 1\n", text)? {
+            count = count.saturating_add(1);
+        }
+    }
+    Ok(count)
+}
+
+#[test]
+fn an_older_file_that_is_left_is_told(rt: HostRuntime) -> Result<(), Fail> {
+    for text in LEFT.iter() {
+        assert_eq!(rt; told_by(rt.alloc(), text)?, 1, "{text}");
+    }
     Ok(())
 }

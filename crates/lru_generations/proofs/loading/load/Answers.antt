@@ -1,79 +1,32 @@
-use Rattle.std.proofs.Common.{◌<◌, ℕ, List, sym, subst}
-use Rattle.std.specs.Prelude.{IfOk}
+use Rattle.std.proofs.Common.{List, ℕ, Some, None}
+use Rattle.std.specs.Prelude.{Option}
 use Rattle.lru_folder.specs.Files.{Files}
 use Rattle.lru_folder.specs.Meaning.{Meaning}
-use Rattle.lru_manifests.specs.declared.names.PartName.{PartName}
-use Rattle.lru_manifests.specs.Listing.{HasParts}
-use Rattle.lru_whole_files.proofs.Touched.{touches_then}
-use Rattle.lru_checkpoints.specs.Checkpoints.{Shards, HasCheckpoint}
-use Rattle.lru_generations.specs.Loaded.{IsLoaded, IsReadable, IsSameCheckpoint}
-use Rattle.lru_generations.specs.Newest.{AreGenerations, HasAllManifests}
-use Rattle.lru_generations.proofs.Passing.{generations_so, if_ok}
-use Rattle.lru_generations.proofs.Refusals.{frame_again}
+use Rattle.lru_generations.specs.declared.loading.Checkpoint.{Checkpoint}
+use Rattle.lru_generations.specs.Loaded.{IsLoaded, IsLoadedBelow}
+use Rattle.lru_generations.proofs.Passing.{all_below, if_ok}
 use Rattle.lru_generations.proofs.loading.load.Goals as goal
+
+-- below no bound is each generation
+without : {K V : Type 0} (key_bytes : K → List ℕ) (IsKey : K → Type 0) (data_bytes : V → List ℕ) (IsData : V → Type 0) (dir file_name : List ℕ) (files : Files) (newest : Option (Checkpoint K V))
+    → IsLoadedBelow key_bytes IsKey data_bytes IsData dir file_name files None newest → IsLoaded key_bytes IsKey data_bytes IsData dir file_name files newest
+without key_bytes IsKey data_bytes IsData dir file_name files None h = λ n there. h n (tt, there)
+without key_bytes IsKey data_bytes IsData dir file_name files (Some checkpoint) h = (h.1.0, λ n lt there. h.1.1 n lt (tt, there))
 
 pub returns-clause-loaded : goal.returns-clause-loaded
 returns-clause-loaded g c k =
-    let m : Meaning _ = g.F.Folder.meaning in
     let K = g.K.Stored in
     let V = g.V.Stored in
-    let dir = c.args.dir.now in
-    let file_name = c.args.file_name.now in
-    let start = c.args.folder.now in
-    let numbers = c.in_ok-generations.generations.items in
-    let parts = subst (λ (l : List PartName). HasParts dir file_name (m.files start) l) (sym c.deref.ensures.value) (c.in_ok-parts.ensures.parts k) in
-    let are = generations_so dir file_name (m.files start) c.deref.result.now numbers parts c.in_ok-generations.ensures.found c.in_ok-generations.ensures.falling in
-    let given = subst (λ (l : List ℕ). AreGenerations dir file_name (m.files start) l) (sym c.deref-2.ensures.value) are in
-    subst (λ (f : Files). HasAllManifests dir file_name f c.deref-2.result.now
-    → IfOk c.load_newest.result (λ loaded. IsLoaded K.bytes_of K.is_value V.bytes_of V.is_value dir file_name f loaded.newest)) (c.parts_of.ensures.files k)
-    (c.load_newest.ensures.loaded (c.parts_of.ensures.kept.0 k)) (λ n small there. (given.found n).1 (small, there))
+    if_ok c.load_below.result _ _
+    (λ loaded h. without K.bytes_of K.is_value V.bytes_of V.is_value c.args.dir.now c.args.file_name.now (g.F.Folder.meaning.files c.args.folder.now) loaded.newest h)
+    (c.load_below.ensures.loaded k)
 
 pub returns-clause-written : goal.returns-clause-written
-returns-clause-written g c k =
-    let m : Meaning _ = g.F.Folder.meaning in
-    let K = g.K.Stored in
-    let V = g.V.Stored in
-    let dir = c.args.dir.now in
-    let file_name = c.args.file_name.now in
-    let start = c.args.folder.now in
-    let numbers = c.in_ok-generations.generations.items in
-    let parts = subst (λ (l : List PartName). HasParts dir file_name (m.files start) l) (sym c.deref.ensures.value) (c.in_ok-parts.ensures.parts k) in
-    let are = generations_so dir file_name (m.files start) c.deref.result.now numbers parts c.in_ok-generations.ensures.found c.in_ok-generations.ensures.falling in
-    let given = subst (λ (l : List ℕ). AreGenerations dir file_name (m.files start) l) (sym c.deref-2.ensures.value) are in
-    subst (λ (f : Files). HasAllManifests dir file_name f c.deref-2.result.now → (generation : ℕ) (shards : Shards g.row.K.Denot g.row.V.Denot)
-    → HasCheckpoint K.bytes_of K.is_value V.bytes_of V.is_value dir file_name generation shards f
-    → ((higher : ℕ) → generation < higher → ¬ IsReadable K.bytes_of K.is_value V.bytes_of V.is_value dir file_name f higher)
-    → IfOk c.load_newest.result (λ loaded. IsSameCheckpoint K.is_same V.is_same generation shards loaded.newest)) (c.parts_of.ensures.files k)
-    (c.load_newest.ensures.written (c.parts_of.ensures.kept.0 k)) (λ n small there. (given.found n).1 (small, there))
+returns-clause-written g c k generation shards h highest = c.load_below.ensures.written k generation shards h tt (λ n lt there. highest n lt there.1)
 
 pub returns-clause-passed : goal.returns-clause-passed
 returns-clause-passed g c k =
     let m : Meaning _ = g.F.Folder.meaning in
-    let K = g.K.Stored in
-    let V = g.V.Stored in
-    let dir = c.args.dir.now in
-    let file_name = c.args.file_name.now in
-    let start = c.args.folder.now in
-    let mid = c.parts_of.new.folder in
-    let new = c.load_newest.new.folder in
-    let numbers = c.in_ok-generations.generations.items in
-    let parts = subst (λ (l : List PartName). HasParts dir file_name (m.files start) l) (sym c.deref.ensures.value) (c.in_ok-parts.ensures.parts k) in
-    let are = generations_so dir file_name (m.files start) c.deref.result.now numbers parts c.in_ok-generations.ensures.found c.in_ok-generations.ensures.falling in
-    let given = subst (λ (l : List ℕ). AreGenerations dir file_name (m.files start) l) (sym c.deref-2.ensures.value) are in
-    if_ok c.load_newest.result _ _
-    (λ loaded p. (
-      c.deref-2.result.now,
-      (
-        given,
-        record {
-          front = p.front;
-          unblamed = p.unblamed;
-          reason = λ one h. frame_again m dir file_name mid new start new (c.parts_of.ensures.files k) K.bytes_of K.is_value V.bytes_of V.is_value
-              one.generation one.error (p.unblamed one h) (p.reason one h);
-        },
-      ),
-    )) (c.load_newest.ensures.passed (c.parts_of.ensures.kept.0 k))
-
-pub returns-clause-touches : goal.returns-clause-touches
-returns-clause-touches g c k =
-    touches_then g.F.Folder.meaning (λ q. ⊥) c.args.folder.now c.parts_of.new.folder c.load_newest.new.folder (c.parts_of.ensures.touches k) (c.load_newest.ensures.touches (c.parts_of.ensures.kept.0 k))
+    if_ok c.load_below.result _ _
+    (λ loaded h. (h.0, (all_below c.args.dir.now c.args.file_name.now (m.files c.args.folder.now) h.0 h.1.0, h.1.1)))
+    (c.load_below.ensures.passed k)

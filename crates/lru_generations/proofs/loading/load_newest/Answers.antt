@@ -1,6 +1,7 @@
-use Rattle.std.proofs.Common.{◌≡◌, inl, inr, ℕ, List, [], ◌∷◌, ◌++◌, length, get_or, refl, sym, ◌∙◌, ap, subst, arith}
+use Rattle.std.proofs.Common.{◌≡◌, inl, inr, ℕ, ◌<◌, ◌≤◌, List, [], ◌∷◌, ◌++◌, length, get_or, refl, sym, ◌∙◌, ap, subst, arith}
 use Rattle.std.proofs.lemmas.Bool.{cases_lt}
-use Rattle.std.specs.Prelude.{Contains}
+use Rattle.std.proofs.lemmas.List.Elements.{Contains-get_or}
+use Rattle.std.specs.Prelude.{Contains, Option}
 use Rattle.lru_folder.specs.Files.{Files}
 use Rattle.lru_folder.specs.Meaning.{Meaning}
 use Rattle.lru_manifests.specs.Manifests.{manifest_bytes}
@@ -8,16 +9,36 @@ use Rattle.lru_whole_files.proofs.Touched.{touches_started, touches_then}
 use Rattle.lru_checkpoints.specs.Checkpoints.{HasCheckpoint}
 use Rattle.lru_checkpoints.specs.Loads.{IsFault, IsRefused, IsRefusedFrame, rows_of}
 use Rattle.lru_generations.specs.declared.newest.Passed.{Passed}
-use Rattle.lru_generations.specs.Loaded.{IsReadable}
-use Rattle.lru_generations.specs.Newest.{HasAllManifests}
-use Rattle.lru_generations.proofs.Passing.{each_more, front_all, front_at, map_more, none_at_all, none_higher, none_more, numbers_of}
+use Rattle.lru_generations.specs.Loaded.{IsReadable, IsReadableBelow}
+use Rattle.lru_generations.specs.Newest.{AreGenerationsBelow, IsBelow}
+use Rattle.lru_generations.proofs.Passing.{NoneOf, each_more, front_all, front_at, map_more, none_at_all, none_higher, none_more, numbers_of}
 use Rattle.lru_generations.proofs.Refusals.{frame_again}
 use Rattle.lru_generations.proofs.loading.load_newest.Goals as goal
 
--- what can be read has a manifest
-module _ {K V : Type 0} (key_bytes : K → List ℕ) (IsKey : K → Type 0) (data_bytes : V → List ℕ) (IsData : V → Type 0) (dir file_name : List ℕ) (files : Files) where
-  among : (generations : List ℕ) → HasAllManifests dir file_name files generations → (n : ℕ) → IsReadable key_bytes IsKey data_bytes IsData dir file_name files n → Contains generations n
-  among generations all n w = all n w.1.numbers.generation (manifest_bytes n w.1.marks, w.1.manifest)
+module _ {K V : Type 0} (key_bytes : K → List ℕ) (IsKey : K → Type 0) (data_bytes : V → List ℕ) (IsData : V → Type 0) (dir file_name : List ℕ) (files : Files)
+    (bound : Option ℕ) (generations : List ℕ) (are : AreGenerationsBelow dir file_name files bound generations) where
+  abbrev Readable : ℕ → Type 0
+  Readable = IsReadable key_bytes IsKey data_bytes IsData dir file_name files
+
+  abbrev Below : ℕ → Type 0
+  Below = IsReadableBelow key_bytes IsKey data_bytes IsData dir file_name files bound
+
+  -- what can be read below the bound has a manifest there
+  among : (n : ℕ) → Below n → Contains generations n
+  among n w = (are.found n).1 (w.1.1.numbers.generation, ((manifest_bytes n w.1.1.marks, w.1.1.manifest), w.0))
+
+  -- each of these is below the bound
+  below_at : (i : ℕ) → i < length generations → IsBelow bound (get_or generations i 0)
+  below_at i lt = ((are.found (get_or generations i 0)).0 (Contains-get_or generations i 0 lt)).1.1
+
+  narrow : (i : ℕ) → NoneOf Readable generations i → NoneOf Below generations i
+  narrow i none k lt w = none k lt w.1
+
+  top : (i : ℕ) → i < length generations → NoneOf Readable generations i → (n : ℕ) → get_or generations i 0 < n → ¬ Below n
+  top i lt none = none_higher Below generations among are.falling i lt (narrow i none)
+
+  at_all : (i : ℕ) → length generations ≤ i → NoneOf Readable generations i → (n : ℕ) → ¬ Below n
+  at_all i le none = none_at_all Below generations among i le (narrow i none)
 
 pub loop-generation-init : goal.loop-generation-init
 loop-generation-init g c =
@@ -35,7 +56,7 @@ loop-generation-init g c =
     }
 
 pub returns-in-Ok-clause-loaded : goal.returns-in-Ok-clause-loaded
-returns-in-Ok-clause-loaded g c k all =
+returns-in-Ok-clause-loaded g c k bound are =
     let m : Meaning _ = g.F.Folder.meaning in
     let K = g.K.Stored in
     let V = g.V.Stored in
@@ -45,13 +66,15 @@ returns-in-Ok-clause-loaded g c k all =
     let files = m.files c.args.folder.now in
     let numbers = c.args.generations.now in
     let i = c.loop-generation.generation-index in (
-      subst (λ (f : Files). HasCheckpoint K.bytes_of K.is_value V.bytes_of V.is_value dir file_name (get_or numbers i 0) (rows_of c.in-Ok.shards.items) f) (so_far.files k) (c.in-Ok.ensures.found (so_far.kept.0 k)),
-      none_higher (IsReadable K.bytes_of K.is_value V.bytes_of V.is_value dir file_name files) numbers (among K.bytes_of K.is_value V.bytes_of V.is_value dir file_name files numbers all)
-          c.requires.falling i c.loop-generation-test.true (so_far.none k),
+      below_at K.bytes_of K.is_value V.bytes_of V.is_value dir file_name files bound numbers are i c.loop-generation-test.true,
+      (
+        subst (λ (f : Files). HasCheckpoint K.bytes_of K.is_value V.bytes_of V.is_value dir file_name (get_or numbers i 0) (rows_of c.in-Ok.shards.items) f) (so_far.files k) (c.in-Ok.ensures.found (so_far.kept.0 k)),
+        top K.bytes_of K.is_value V.bytes_of V.is_value dir file_name files bound numbers are i c.loop-generation-test.true (so_far.none k),
+      ),
     )
 
 pub returns-in-Ok-clause-written : goal.returns-in-Ok-clause-written
-returns-in-Ok-clause-written g c k all generation shards h top =
+returns-in-Ok-clause-written g c k bound are generation shards h low highest =
     let m : Meaning _ = g.F.Folder.meaning in
     let K = g.K.Stored in
     let V = g.V.Stored in
@@ -64,12 +87,12 @@ returns-in-Ok-clause-written g c k all generation shards h top =
     let n = get_or numbers i 0 in
     let k-1 = so_far.kept.0 k in
     let found = subst (λ (f : Files). HasCheckpoint K.bytes_of K.is_value V.bytes_of V.is_value dir file_name n (rows_of c.in-Ok.shards.items) f) (so_far.files k) (c.in-Ok.ensures.found k-1) in
-    let higher = none_higher (IsReadable K.bytes_of K.is_value V.bytes_of V.is_value dir file_name files) numbers (among K.bytes_of K.is_value V.bytes_of V.is_value dir file_name files numbers all)
-    c.requires.falling i c.loop-generation-test.true (so_far.none k) in
+    let higher = top K.bytes_of K.is_value V.bytes_of V.is_value dir file_name files bound numbers are i c.loop-generation-test.true (so_far.none k) in
+    let here = below_at K.bytes_of K.is_value V.bytes_of V.is_value dir file_name files bound numbers are i c.loop-generation-test.true in
     let same : n ≡ generation = elim (cases_lt n generation) [
-      | inl lt ↦ absurd (higher generation lt (shards, h))
+      | inl lt ↦ absurd (higher generation lt (low, (shards, h)))
       | inr le ↦ elim (cases_lt generation n) [
-        | inl lt ↦ absurd (top n lt (rows_of c.in-Ok.shards.items, found))
+        | inl lt ↦ absurd (highest n lt (here, (rows_of c.in-Ok.shards.items, found)))
         | inr ge ↦ omega (arith, le, ge)
       ]
     ] in (
@@ -138,24 +161,18 @@ loop-generation-preserved g c =
     }
 
 pub returns-clause-loaded : goal.returns-clause-loaded
-returns-clause-loaded g c k all =
+returns-clause-loaded g c k bound are =
     let K = g.K.Stored in
     let V = g.V.Stored in
-    let files = g.F.Folder.meaning.files c.args.folder.now in
-    let numbers = c.args.generations.now in
-    none_at_all (IsReadable K.bytes_of K.is_value V.bytes_of V.is_value c.args.dir.now c.args.file_name.now files) numbers
-    (among K.bytes_of K.is_value V.bytes_of V.is_value c.args.dir.now c.args.file_name.now files numbers all)
+    at_all K.bytes_of K.is_value V.bytes_of V.is_value c.args.dir.now c.args.file_name.now (g.F.Folder.meaning.files c.args.folder.now) bound c.args.generations.now are
     c.loop-generation.generation-index c.loop-generation-test.false (c.loop-generation.invariant.none k)
 
 pub returns-clause-written : goal.returns-clause-written
-returns-clause-written g c k all generation shards h top =
+returns-clause-written g c k bound are generation shards h low highest =
     let K = g.K.Stored in
     let V = g.V.Stored in
-    let files = g.F.Folder.meaning.files c.args.folder.now in
-    let numbers = c.args.generations.now in
-    none_at_all (IsReadable K.bytes_of K.is_value V.bytes_of V.is_value c.args.dir.now c.args.file_name.now files) numbers
-    (among K.bytes_of K.is_value V.bytes_of V.is_value c.args.dir.now c.args.file_name.now files numbers all)
-    c.loop-generation.generation-index c.loop-generation-test.false (c.loop-generation.invariant.none k) generation (shards, h)
+    at_all K.bytes_of K.is_value V.bytes_of V.is_value c.args.dir.now c.args.file_name.now (g.F.Folder.meaning.files c.args.folder.now) bound c.args.generations.now are
+    c.loop-generation.generation-index c.loop-generation-test.false (c.loop-generation.invariant.none k) generation (low, (shards, h))
 
 pub returns-clause-passed : goal.returns-clause-passed
 returns-clause-passed g c k =
