@@ -9,9 +9,8 @@
 //! line that says which, and status 2. A checkpoint that was not loaded or saved: a line that says why, and status 1.
 #![tactic(auto)]
 
-use lru_cache_captures::shared::{SharedSource, restore_shards};
-use lru_generations::generations::save;
-use lru_generations::loading::{Loaded, load};
+use lru_cache_checkpoints::restored::RestoreError;
+use lru_cache_checkpoints::shared::{load_shared, save_shared};
 use lru_host_folder::host_folder::HostFolder;
 use lru_shared::shared::SharedCache;
 use std::alloc::{AllocError, Global};
@@ -97,23 +96,20 @@ fn come_back<R: Print + Wait>(
     dir: &str,
     pages: &Pages,
 ) -> io::Result<bool> {
-    let Loaded { newest, passed } = match load(alloc, folder, dir, NAME) {
-        Ok(loaded) => loaded,
-        Err(error) => {
+    // Under a smaller budget than the last run's, the pages that were used longest ago go.
+    let restored = match load_shared(rt, alloc, folder, dir, NAME, pages) {
+        Ok(restored) => restored,
+        Err(RestoreError::Unloaded(error)) => {
             println!(rt; "not loaded: {error}")?;
             return Ok(false);
         }
+        Err(RestoreError::Refused(refused)) => {
+            println!(rt; "not put back: {}", refused.cause)?;
+            return Ok(false);
+        }
     };
-    for it in &passed {
+    for it in &restored.passed {
         println!(rt; "passed over generation {}: {}", it.generation, it.error)?;
-    }
-    let Some(checkpoint) = newest else {
-        return Ok(true);
-    };
-    // Under a smaller budget than the last run's, the pages that were used longest ago go, or one is too heavy.
-    if let Err(refused) = restore_shards(rt, pages, checkpoint.shards) {
-        println!(rt; "not put back: {}", refused.cause)?;
-        return Ok(false);
     }
     Ok(true)
 }
@@ -126,8 +122,7 @@ fn keep<R: Print + Wait>(
     dir: &str,
     pages: &Pages,
 ) -> io::Result<ExitCode> {
-    let source = SharedSource { rt, cache: pages };
-    match save(alloc, folder, dir, NAME, &source) {
+    match save_shared(rt, alloc, folder, dir, NAME, pages) {
         Ok(saved) => println!(rt; "saved as generation {}", saved.generation)?,
         Err(error) => {
             println!(rt; "not saved: {error}")?;

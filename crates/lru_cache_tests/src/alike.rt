@@ -2,7 +2,7 @@
 use std::hash::{Hash, Hasher};
 
 /// A key whose hash is that of every other.
-#[derive(Clone, Copy, Debug, Default, PartialEq, Eq)]
+#[derive(Clone, Copy, Debug, PartialEq, Eq)]
 pub struct Alike(pub u8);
 
 impl Hash for Alike {

@@ -74,7 +74,7 @@ fn put_answer<K: Debug, V: Debug>(
 }
 
 /// Puts an entry, and answers the text of what it answers and shows to its visitor.
-pub fn put<K: Hash + Debug + Default + Drop, V: Debug + Drop>(
+pub fn put<K: Hash + Debug + Drop, V: Debug + Drop>(
     alloc: Global,
     cache: &mut DeadlineCache<K, V>,
     (key, value): (K, V),
@@ -108,7 +108,7 @@ fn used<A: Debug, K: Debug, V: Debug>(
 }
 
 // Gives a key's entry another value and another deadline, and answers those that it had, and its weight.
-fn update<K: Hash + Debug + Default + Drop, V: Debug + Drop + Copy>(
+fn update<K: Hash + Debug + Drop, V: Debug + Drop + Copy>(
     alloc: Global,
     cache: &mut DeadlineCache<K, V>,
     (time, key): (u64, &K),
@@ -125,7 +125,7 @@ fn update<K: Hash + Debug + Default + Drop, V: Debug + Drop + Copy>(
 }
 
 // Sweeps so many entries, and answers the text of what is shown to its visitor.
-fn sweep<K: Hash + Debug + Default + Drop, V: Debug + Drop>(
+fn sweep<K: Hash + Debug + Drop, V: Debug + Drop>(
     alloc: Global,
     cache: &mut DeadlineCache<K, V>,
     time: u64,
@@ -143,7 +143,7 @@ fn sweep<K: Hash + Debug + Default + Drop, V: Debug + Drop>(
 }
 
 // Lets all entries go, and answers the text of what is shown to its visitor.
-fn clear<K: Hash + Debug + Default + Drop, V: Debug + Drop>(
+fn clear<K: Hash + Debug + Drop, V: Debug + Drop>(
     alloc: Global,
     cache: &mut DeadlineCache<K, V>,
 ) -> Result<String, AllocError> {
@@ -189,7 +189,7 @@ fn answer_of<K, V>(
     call: &Call<K, V>,
 ) -> Result<String, AllocError>
 where
-    K: Hash + Debug + Default + Drop + Copy,
+    K: Hash + Debug + Drop + Copy,
     V: Debug + Drop + Copy,
 {
     match call {
@@ -215,7 +215,7 @@ pub fn fault<K, V>(
     steps: &[Step<K, V>],
 ) -> Result<Option<usize>, AllocError>
 where
-    K: Hash + Debug + Default + Drop + Copy,
+    K: Hash + Debug + Drop + Copy,
     V: Debug + Drop + Copy,
 {
     for (place, (call, answer, left)) in steps.iter().enumerate() {

@@ -1,10 +1,13 @@
-//! Tests of `lru_cache` and `lru_deadlines`: lists of calls worked out by hand, keys that are texts, and want of memory.
+//! Tests of `lru_cache` and `lru_deadlines`: lists of calls worked out by hand, keys that are texts, what is dropped, and want of
+//! memory.
 #![tactic(auto)]
 
 #[cfg(test)]
 mod alike;
 #[cfg(test)]
 mod cache_tests;
+#[cfg(test)]
+mod counted;
 #[cfg(test)]
 mod deadline_memory_tests;
 #[cfg(test)]
@@ -13,6 +16,8 @@ mod deadline_steps;
 mod deadline_tests;
 #[cfg(test)]
 mod deadline_text_tests;
+#[cfg(test)]
+mod drop_tests;
 #[cfg(test)]
 mod made_tests;
 #[cfg(test)]

@@ -65,7 +65,7 @@ pub fn taken<K: Debug, V: Debug>(
 }
 
 /// Puts an entry, and answers the text of what it answers and shows to its visitor.
-pub fn put<K: Hash + Debug + Default + Drop, V: Debug + Drop>(
+pub fn put<K: Hash + Debug + Drop, V: Debug + Drop>(
     alloc: Global,
     cache: &mut Cache<K, V>,
     key: K,
@@ -84,7 +84,7 @@ pub fn put<K: Hash + Debug + Default + Drop, V: Debug + Drop>(
 }
 
 // The same where a closure answers the weight.
-fn put_weighed<K: Hash + Debug + Default + Drop, V: Debug + Drop>(
+fn put_weighed<K: Hash + Debug + Drop, V: Debug + Drop>(
     alloc: Global,
     cache: &mut Cache<K, V>,
     key: K,
@@ -139,7 +139,7 @@ fn update<K: Hash, V: Copy>(cache: &mut Cache<K, V>, key: &K, value: V) -> Optio
 
 // Gives a key's entry another value and another weight, and answers the text of what is shown to its visitor, or of the
 // entry that was too heavy.
-fn reweigh<K: Hash + Debug + Default + Drop, V: Debug + Drop + Copy>(
+fn reweigh<K: Hash + Debug + Drop, V: Debug + Drop + Copy>(
     alloc: Global,
     cache: &mut Cache<K, V>,
     key: &K,
@@ -174,7 +174,7 @@ fn reweigh<K: Hash + Debug + Default + Drop, V: Debug + Drop + Copy>(
 }
 
 // Sets the limits, and answers the text of what is shown to its visitor.
-fn set_limits<K: Hash + Debug + Default + Drop, V: Debug + Drop>(
+fn set_limits<K: Hash + Debug + Drop, V: Debug + Drop>(
     alloc: Global,
     cache: &mut Cache<K, V>,
     most_weight: usize,
@@ -192,7 +192,7 @@ fn set_limits<K: Hash + Debug + Default + Drop, V: Debug + Drop>(
 }
 
 // Lets all entries go, and answers the text of what is shown to its visitor.
-fn clear<K: Hash + Debug + Default + Drop, V: Debug + Drop>(
+fn clear<K: Hash + Debug + Drop, V: Debug + Drop>(
     alloc: Global,
     cache: &mut Cache<K, V>,
 ) -> Result<String, AllocError> {
@@ -208,7 +208,7 @@ fn clear<K: Hash + Debug + Default + Drop, V: Debug + Drop>(
 }
 
 // The same from the first on.
-fn drain<K: Hash + Debug + Default + Drop, V: Debug + Drop>(
+fn drain<K: Hash + Debug + Drop, V: Debug + Drop>(
     alloc: Global,
     cache: &mut Cache<K, V>,
 ) -> Result<String, AllocError> {
@@ -224,7 +224,7 @@ fn drain<K: Hash + Debug + Default + Drop, V: Debug + Drop>(
 }
 
 // Keeps the entries that weigh at most this, and answers the text of what is shown to its test.
-fn retain<K: Hash + Debug + Default + Drop, V: Debug + Drop>(
+fn retain<K: Hash + Debug + Drop, V: Debug + Drop>(
     alloc: Global,
     cache: &mut Cache<K, V>,
     most: usize,
@@ -242,7 +242,7 @@ fn retain<K: Hash + Debug + Default + Drop, V: Debug + Drop>(
 }
 
 // Keeps of so many entries those that weigh at most this, and answers the text of what is shown to its test and to its visitor.
-fn retain_last<K: Hash + Debug + Default + Drop, V: Debug + Drop>(
+fn retain_last<K: Hash + Debug + Drop, V: Debug + Drop>(
     alloc: Global,
     cache: &mut Cache<K, V>,
     most: usize,
@@ -303,7 +303,7 @@ fn answer_of<K, V>(
     call: &Call<K, V>,
 ) -> Result<String, AllocError>
 where
-    K: Hash + Debug + Default + Drop + Copy,
+    K: Hash + Debug + Drop + Copy,
     V: Debug + Drop + Copy,
 {
     match call {
@@ -351,7 +351,7 @@ pub fn fault<K, V>(
     steps: &[Step<K, V>],
 ) -> Result<Option<usize>, AllocError>
 where
-    K: Hash + Debug + Default + Drop + Copy,
+    K: Hash + Debug + Drop + Copy,
     V: Debug + Drop + Copy,
 {
     for (place, (call, answer, left)) in steps.iter().enumerate() {

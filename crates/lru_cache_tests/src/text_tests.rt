@@ -20,13 +20,7 @@ fn puts(
     (key, value, weight): (&str, &str, usize),
     answer: &str,
 ) -> Result<bool, AllocError> {
-    let answers = put(
-        alloc,
-        cache,
-        text(alloc, key)?,
-        text(alloc, value)?,
-        weight,
-    )?;
+    let answers = put(alloc, cache, text(alloc, key)?, text(alloc, value)?, weight)?;
     Ok(answers.as_str() == answer)
 }
 
@@ -60,13 +54,7 @@ static TWO: [Put; 2] = [(("a", "x", 2), "new, gone:"), (("b", "y", 3), "new, gon
 fn texts_are_put(rt: HostRuntime) -> Result<(), Fail> {
     let mut cache = Cache::with_seed(rt.alloc(), 6, 9, 11)?;
     assert!(rt; put_all(rt.alloc(), &mut cache, &PUTS)?);
-    assert!(rt;
-        is_shown(
-            rt.alloc(),
-            &cache,
-            "2 6: \"c\"=\"w\" 3, \"a\"=\"z\" 3,"
-        )?
-    );
+    assert!(rt; is_shown(rt.alloc(), &cache, "2 6: \"c\"=\"w\" 3, \"a\"=\"z\" 3,")?);
     Ok(())
 }
 
@@ -75,11 +63,7 @@ fn calls_answer(alloc: Global, cache: &mut Texts) -> Result<bool, AllocError> {
     let key = text(alloc, "a")?;
     let is_there = look(alloc, cache, &key)?.as_str() == "true Some(\"x\") Some(2)";
     let is_first = cache.promote(&key)
-        & is_shown(
-            alloc,
-            cache,
-            "2 5: \"a\"=\"x\" 2, \"b\"=\"y\" 3,",
-        )?;
+        & is_shown(alloc, cache, "2 5: \"a\"=\"x\" 2, \"b\"=\"y\" 3,")?;
     let removed = taken(alloc, &cache.remove(&key))?;
     let is_gone = look(alloc, cache, &key)?.as_str() == "false None None";
     let last = taken(alloc, &cache.pop_last())?;
@@ -127,17 +111,9 @@ fn weigh_their_length(alloc: Global, cache: &mut Texts) -> Result<bool, AllocErr
         & is_put_weighed(alloc, cache, "b", "uv")?;
     let (a, b) = (text(alloc, "a")?, text(alloc, "b")?);
     let is_last = cache.demote(&b)
-        & is_shown(
-            alloc,
-            cache,
-            "2 5: \"a\"=\"xyz\" 3, \"b\"=\"uv\" 2,",
-        )?;
+        & is_shown(alloc, cache, "2 5: \"a\"=\"xyz\" 3, \"b\"=\"uv\" 2,")?;
     let is_less = is_emptied(cache, &a)
-        & is_shown(
-            alloc,
-            cache,
-            "2 2: \"a\"=\"\" 0, \"b\"=\"uv\" 2,",
-        )?;
+        & is_shown(alloc, cache, "2 2: \"a\"=\"\" 0, \"b\"=\"uv\" 2,")?;
     let first = taken(alloc, &cache.pop_first())?;
     Ok(are_put & is_last & is_less & (first.as_str() == "took \"a\"=\"\" 0,"))
 }
@@ -156,20 +132,14 @@ fn are_asked_by_texts(alloc: Global, cache: &mut Texts) -> Result<bool, AllocErr
         & cache
             .peek_by("a")
             .is_some_and(|value| value.as_str() == "x");
-    let is_missing = !cache.contains_by("c")
-        & !cache.promote_by("ab");
+    let is_missing = !cache.contains_by("c") & !cache.promote_by("ab");
     let is_first = cache.contains_by("a")
         & cache.promote_by("a")
-        & is_shown(
-            alloc,
-            cache,
-            "2 5: \"a\"=\"x\" 2, \"b\"=\"y\" 3,",
-        )?;
+        & is_shown(alloc, cache, "2 5: \"a\"=\"x\" 2, \"b\"=\"y\" 3,")?;
     let lent = cache.update_by("b", |value: &mut String, weight: usize| {
         (value.len(), weight)
     });
-    let is_lent = (lent == Some((1, 3)))
-        & cache.update_by("", |_value, _weight| ()).is_none();
+    let is_lent = (lent == Some((1, 3))) & cache.update_by("", |_value, _weight| ()).is_none();
     let none = taken(alloc, &cache.remove_by(""))?;
     let removed = taken(alloc, &cache.remove_by("b"))?;
     let are_taken = (none.as_str() == "none") & (removed.as_str() == "took \"b\"=\"y\" 3,");

@@ -1,5 +1,5 @@
-//! Tests of `lru_list`, `lru_index` and `lru_rows`: lists of calls worked out by hand, what the iterators show, and how long the
-//! chains of an index become.
+//! Tests of `lru_list`, `lru_index`, `lru_rows` and `lru_pairs`: lists of calls worked out by hand, what the iterators show, and
+//! how long the chains of an index become.
 #![tactic(auto)]
 
 #[cfg(test)]
@@ -7,7 +7,11 @@ mod hashing_tests;
 #[cfg(test)]
 mod iter_tests;
 #[cfg(test)]
+mod labels;
+#[cfg(test)]
 mod linked_list_tests;
+#[cfg(test)]
+mod pairs_tests;
 #[cfg(test)]
 mod place_index_tests;
 #[cfg(test)]
