@@ -54,8 +54,8 @@ impl Order for Texts {
         match self.texts.get(key as usize) {
             Some(text) => {
                 self.cache
-                .update_by(text.as_str(), |value, _| *value)
-                .is_some()
+                    .update_by(text.as_str(), |value, _| *value)
+                    .is_some()
             }
             None => false,
         }
