@@ -241,7 +241,7 @@ fn chain_of_colliding(alloc: Global, seed: u64, count: u32) -> Result<u64, Alloc
 #[test]
 fn keys_that_collide_under_another_seed_do_not(rt: HostRuntime) -> Result<(), Fail> {
     let other = chain_of_colliding(rt.alloc(), 2, 64 * MILLION)?;
-    let same = chain_of_colliding(rt.alloc(), 1, MILLION)?;
+    let same = chain_of_colliding(rt.alloc(), 1, 64 * MILLION)?;
     assert!(rt; other <= LONGEST && same > LONGEST);
     Ok(())
 }
