@@ -1,5 +1,5 @@
 -- Laws of an index and the keys that it is the index of.
-use Rattle.std.proofs.Common.{◌≡◌, ℕ, ◌+◌, ◌-◌, ◌*◌, ◌/◌, ◌%◌, ◌^◌, ◌<◌, ◌≤◌, ◌⊎◌, Bool, false, cond, List, ◌∷◌, ◌++◌, length, get_or, map, set, replicate, refl, sym, ap, ◌∙◌, subst, arith, inl, inr, Option, Some, None, IsSome, is_some}
+use Rattle.std.proofs.Common.{◌≡◌, ℕ, ◌+◌, ◌-◌, ◌*◌, ◌/◌, ◌^◌, ◌<◌, ◌≤◌, ◌⊎◌, Bool, false, cond, List, ◌∷◌, ◌++◌, length, get_or, map, set, replicate, refl, sym, ap, ◌∙◌, subst, arith, inl, inr, Option, Some, None, IsSome, is_some}
 use Rattle.std.specs.Prelude.{IsTrue}
 use Rattle.std.specs.List.{range_with_len}
 use Rattle.std.specs.Option.{option_map}
@@ -7,12 +7,12 @@ use Rattle.std.specs.Cmp.{IsEquivalence}
 use Rattle.std.proofs.lemmas.List.{length-set, get_or_past}
 use Rattle.std.proofs.lemmas.List.FromFn.{length-map-range_with_len, get_or-map-range_with_len}
 use Rattle.std.proofs.lemmas.Bool.{cases_eq, cases_Bool, cases_lt, cases_order, both_ways, lt-ltb, le-ltb}
-use Rattle.lru_index.specs.Index.{put, gone, known_of, HasKey, IsAbsent, Indexes}
-use Rattle.lru_index.specs.Representation.Cells.{at, place_at, bits_at, places_in, Chains, IsTable, IsUsed, Marks, IsKept, IsFilled, known_in, bits_along, home_in, home_of, rest_bits, homes_by, index_of, below, end_cell}
+use Rattle.lru_index.specs.Index.{put, gone, IsAbsent, Indexes}
+use Rattle.lru_index.specs.Representation.Cells.{at, places_in, Chains, IsTable, Marks, IsKept, IsFilled, known_in, bits_along, home_in, home_of, rest_bits, homes_by, index_of, below, end_cell}
 use Rattle.lru_index.specs.Representation.Walks.{IsTold, Reaches}
 use Rattle.lru_index.proofs.Chained.{in_right, end_within}
 use Rattle.lru_index.proofs.Tables.{put_here, put_other, gone_here, gone_other, some_is, none_is, shown, kept, along, linked, inserted, removed, empty_table}
-use Rattle.lru_index.proofs.Marked.{at_places, length_places, places_none, leads, known_is, known_parts, marks_along, no_marks, put_marks, put_marks_here, put_marks_other, places_put, cut_marks, cut_marks_same, places_cut}
+use Rattle.lru_index.proofs.Marked.{at_places, length_places, places_none, known_is, known_parts, marks_along, no_marks, put_marks, put_marks_here, put_marks_other, places_put, cut_marks, cut_marks_same, places_cut}
 use Rattle.lru_index.proofs.Scales.{joined, home_part}
 use Rattle.lru_index.proofs.Walked.{all_passed}
 

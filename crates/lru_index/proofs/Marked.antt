@@ -1,5 +1,5 @@
 -- Laws of the bits that cells hold above their places.
-use Rattle.std.proofs.Common.{◌≡◌, ℕ, ◌+◌, ◌-◌, ◌*◌, ◌/◌, ◌%◌, ◌^◌, ◌<◌, ◌≤◌, ◌⊎◌, true, false, cond, eqb, List, [], ◌∷◌, ◌++◌, length, set, get_or, map, replicate, suc, zero, refl, sym, ap, ◌∙◌, subst, arith, inl, inr, Option, Some, None}
+use Rattle.std.proofs.Common.{◌≡◌, ℕ, ◌+◌, ◌-◌, ◌*◌, ◌/◌, ◌%◌, ◌^◌, ◌<◌, ◌≤◌, ◌⊎◌, cond, eqb, List, [], ◌∷◌, ◌++◌, length, set, get_or, map, replicate, suc, zero, refl, sym, ap, ◌∙◌, subst, arith, inl, inr, Option, Some, None}
 use Rattle.std.specs.Option.{option_map}
 use Rattle.std.proofs.Math.ListN.{get_or-map}
 use Rattle.std.proofs.Math.Nat.{zero-mod}
@@ -7,9 +7,9 @@ use Rattle.std.proofs.lemmas.Nat.{mod-mul-add, div-mul-add, pow_pos}
 use Rattle.std.proofs.lemmas.List.{map-set, map-append, length-map, get_or-set_same, get_or-set_other, length-set, get_or_append_left}
 use Rattle.std.proofs.lemmas.Bool.{eq-eqb, ne_eqb, cases_eq}
 use Rattle.lru_index.specs.Index.{put, gone}
-use Rattle.lru_index.specs.Representation.Cells.{In, at, place_at, bits_at, places_in, IsChain, Chains, IsTable, IsUsed, Marks, bits_along, known_in, home_in}
+use Rattle.lru_index.specs.Representation.Cells.{In, at, place_at, bits_at, places_in, IsChain, IsTable, IsUsed, Marks, bits_along, known_in}
 use Rattle.lru_index.proofs.Chained.{few, within}
-use Rattle.lru_index.proofs.Tables.{put_here, put_other, gone_here, gone_other, some_is, none_is, shown, linked}
+use Rattle.lru_index.proofs.Tables.{put_other, gone_here, gone_other, some_is, none_is, shown, linked}
 
 -- ---- the places of cells
 module _ (cells : List ℕ) (heads : ℕ) where

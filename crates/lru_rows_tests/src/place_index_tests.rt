@@ -1,5 +1,9 @@
 //! An index over keys that stand in a vector.
+ghost use Rattle.std.specs.Prelude.{◌*◌, ◌/◌, ◌%◌, ◌^◌};
+ghost use Rattle.lru_index.specs.Hashing.{written};
+
 use crate::table::{Rows, add, add_colliding, add_steps, longest, no_rows, take, take_at, take_by};
+use lru_index::hashing::{SeededHasher, SeededHashes};
 use lru_index::place_index::PlaceIndex;
 use std::alloc::{AllocError, Global};
 use std::hash::{BuildHasher, Hasher};
@@ -33,6 +37,46 @@ impl BuildHasher for Same {
 
     fn build_hasher(&self) -> Same {
         *self
+    }
+}
+
+// A hasher of a seed, of whose hashes the top bits alone are left, as many as tell the homes of a million keys. So the bits of all
+// cells are 0, and a look-up reads each key of its chain.
+#[derive(Clone, Copy)]
+struct Coarse {
+    hasher: SeededHasher,
+}
+
+impl Hasher for Coarse {
+    ghost write = { λ s bytes. record s { hasher = written s.hasher bytes } };
+
+    ghost finish = { λ s. s.hasher.state / 2 ^ 43 * 2 ^ 43 % 2 ^ 64 };
+
+    #[inline(always)]
+    fn finish(&self) -> u64 {
+        self.hasher.finish() >> 43 << 43
+    }
+
+    #[inline(always)]
+    fn write(&mut self, bytes: &[u8]) {
+        self.hasher.write(bytes);
+    }
+}
+
+impl BuildHasher for Coarse {
+    type Hasher = Coarse;
+
+    ghost build_hasher = { λ s. s };
+
+    #[inline(always)]
+    fn build_hasher(&self) -> Coarse {
+        *self
+    }
+}
+
+fn top_bits(hashes: SeededHashes) -> Coarse {
+    Coarse {
+        hasher: hashes.initial,
     }
 }
 
@@ -154,7 +198,11 @@ fn one_chain_holds_all_keys(rt: HostRuntime) -> Result<(), Fail> {
 
 fn chain_of_steps(alloc: Global, first: u64, step: u64) -> Result<u64, AllocError> {
     let mut rows = no_rows(alloc)?;
-    let mut index = PlaceIndex::with_capacity(alloc, 0)?;
+    let mut index = PlaceIndex::with_capacity_and_hasher(
+        alloc,
+        0,
+        top_bits(SeededHashes::fixed()),
+    )?;
     add_steps(&mut rows, &mut index, first, step, MILLION)?;
     Ok(longest(&rows, &index))
 }
@@ -184,7 +232,8 @@ fn chains_of_runs_are_short(rt: HostRuntime) -> Result<(), Fail> {
 // The longest chain of keys that collide under the seed 1, of so many, under another one.
 fn chain_of_colliding(alloc: Global, seed: u64, count: u32) -> Result<u64, AllocError> {
     let mut rows = no_rows(alloc)?;
-    let mut index = PlaceIndex::with_capacity_and_seed(alloc, 0, seed)?;
+    let hashes = top_bits(SeededHashes::with_seed(seed));
+    let mut index = PlaceIndex::with_capacity_and_hasher(alloc, 0, hashes)?;
     add_colliding(&mut rows, &mut index, 1, count)?;
     Ok(longest(&rows, &index))
 }
@@ -192,7 +241,26 @@ fn chain_of_colliding(alloc: Global, seed: u64, count: u32) -> Result<u64, Alloc
 #[test]
 fn keys_that_collide_under_another_seed_do_not(rt: HostRuntime) -> Result<(), Fail> {
     let other = chain_of_colliding(rt.alloc(), 2, 64 * MILLION)?;
-    let same = chain_of_colliding(rt.alloc(), 1, MILLION)?;
+    let same = chain_of_colliding(rt.alloc(), 1, 64 * MILLION)?;
     assert!(rt; other <= LONGEST && same > LONGEST);
+    Ok(())
+}
+
+// How many keys are read to find none of so many others.
+fn reads_in_vain(alloc: Global) -> Result<u64, AllocError> {
+    let mut rows = no_rows(alloc)?;
+    let mut index = PlaceIndex::with_capacity(alloc, 0)?;
+    add_steps(&mut rows, &mut index, 0, 1, 10_000)?;
+    rows.reads.set(0);
+    for key in 10_000..20_000u64 {
+        let _place = index.find(&rows, &key);
+    }
+    Ok(rows.reads.get())
+}
+
+#[test]
+fn the_bits_of_cells_spare_looks_at_other_keys(rt: HostRuntime) -> Result<(), Fail> {
+    // 17 bits of each hash stand in its cell
+    assert!(rt; reads_in_vain(rt.alloc())? <= 3);
     Ok(())
 }

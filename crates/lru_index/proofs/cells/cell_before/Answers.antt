@@ -1,4 +1,4 @@
-use Rattle.std.proofs.Common.{◌≡◌, ◌==◌, ℕ, Some, arith, length, ◌<◌, sym, ◌∙◌, subst}
+use Rattle.std.proofs.Common.{◌≡◌, ◌==◌, Some, arith, sym, ◌∙◌}
 use Rattle.lru_index.specs.Representation.Cells.{at, places_in}
 use Rattle.lru_index.proofs.Marked.{at_places, length_places}
 use Rattle.lru_index.proofs.Walked.{start, cell_within, onward, nearer}

@@ -1,6 +1,6 @@
-use Rattle.std.proofs.Common.{◌≡◌, ◌*◌, ◌/◌, ℕ, true, false, arith, inl, inr, refl, length, ◌<◌, ap, sym, ◌∙◌, subst}
+use Rattle.std.proofs.Common.{◌≡◌, false, arith, inl, inr, ap, sym, ◌∙◌, subst}
 use Rattle.std.proofs.lemmas.Bool.{cases_Bool, false≢true}
-use Rattle.lru_index.specs.Representation.Cells.{at, bits_at, places_in}
+use Rattle.lru_index.specs.Representation.Cells.{at, places_in}
 use Rattle.lru_index.proofs.Tables.{some_is}
 use Rattle.lru_index.proofs.Marked.{at_places, length_places}
 use Rattle.lru_index.proofs.Walked.{start, cell_within, used_cell, at_end, is_home, at_key, onward, nearer}

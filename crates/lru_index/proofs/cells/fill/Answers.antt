@@ -1,4 +1,4 @@
-use Rattle.std.proofs.Common.{◌≡◌, ◌<◌, ℕ, length, get_or, set, replicate, ◌+◌, ◌-◌, ◌*◌, ◌/◌, ◌%◌, ◌^◌, None, arith, refl, sym, ap, ◌∙◌, subst}
+use Rattle.std.proofs.Common.{◌≡◌, ◌<◌, length, get_or, set, replicate, ◌+◌, ◌-◌, ◌*◌, ◌/◌, ◌%◌, ◌^◌, None, arith, refl, sym, ap, ◌∙◌, subst}
 use Rattle.lru_index.specs.Hashing.{key_hash}
 use Rattle.lru_index.specs.Representation.Cells.{IsScale, IsFilled}
 use Rattle.lru_index.proofs.Calls.{home_is, home_within, bits_are, bits_fit}

@@ -1,4 +1,4 @@
-use Rattle.std.proofs.Common.{◌≡◌, ◌+◌, ◌*◌, ◌-◌, ◌/◌, ◌<◌, ◌≤◌, length, arith}
+use Rattle.std.proofs.Common.{◌-◌, ◌/◌, length, arith}
 use Rattle.std.proofs.lemmas.Bool.{le-leb, lt-leb, lt-ltb, le-ltb}
 use Rattle.lru_index.specs.Hashing.{short_word}
 use Rattle.lru_index.proofs.hashing.read_short.Goals as goal

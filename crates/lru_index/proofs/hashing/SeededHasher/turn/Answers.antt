@@ -1,5 +1,4 @@
 use Rattle.std.proofs.Common.{◌≡◌, ℕ, ◌+◌, ◌-◌, ◌*◌, ◌/◌, ◌%◌, ◌^◌, bit_or, ap, ◌∙◌, arith}
-use Rattle.lru_index.specs.declared.hashing.SeededHasher.{SeededHasher}
 use Rattle.lru_index.specs.Hashing.{turned}
 use Rattle.lru_index.proofs.hashing.SeededHasher.turn.Goals as goal
 

@@ -1,4 +1,4 @@
-use Rattle.std.proofs.Common.{◌<◌, ◌+◌, ap, sym, subst}
+use Rattle.std.proofs.Common.{◌<◌, ap, sym, subst}
 use Rattle.lru_index.specs.Hashing.{hash_by, key_hash}
 use Rattle.lru_index.proofs.Calls.{hash_is, home_is, home_within, bits_are, within_is, found_is, absent_is, live_given, told_given}
 use Rattle.lru_index.proofs.place_index.PlaceIndex.find_hashed.Goals as goal
