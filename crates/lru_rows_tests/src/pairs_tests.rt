@@ -71,12 +71,14 @@ fn taken(alloc: Global, pair: &Option<Taken<Label, Worth>>) -> Result<String, Al
 fn put(
     alloc: Global,
     pairs: &mut Labels,
-    (key, value): (Label, Worth),
+    key: Label,
+    value: Worth,
     weight: usize,
 ) -> Result<String, AllocError> {
+    let number = key.number;
     if let Some(place) = pairs.find(&key) {
         let was = pairs.exchange(place, key, value);
-        pairs.set_weight(place, weight);
+        let _ = set_weight(pairs, &label(number, '-'), weight);
         return taken(alloc, &Some(was));
     }
     match pairs.push_first(key, value, weight) {
@@ -129,7 +131,8 @@ fn answer_of(alloc: Global, pairs: &mut Labels, call: Call) -> Result<String, Al
             put(
                 alloc,
                 pairs,
-                (label(number, letter), Worth { amount }),
+                label(number, letter),
+                Worth { amount },
                 weight,
             )
         }
@@ -237,9 +240,13 @@ fn free_places_are_used_again(rt: HostRuntime) -> Result<(), Fail> {
 
 // Pushes a pair by its number, if that has none.
 fn push(pairs: &mut Labels, number: u32) -> Result<(), Unpushed<Label, Worth>> {
-    if pairs.find(&label(number, '-')).is_none() {
-        let amount = number as u64;
-        let _place = pairs.push_first(label(number, 'a'), Worth { amount }, 1)?;
+    let key = label(number, 'a');
+    let amount = number as u64;
+    match pairs.find(&key) {
+        Some(_) => {}
+        None => {
+            let _place = pairs.push_first(key, Worth { amount }, 1)?;
+        }
     }
     Ok(())
 }
