@@ -42,9 +42,9 @@ where
     used
 }
 
-/// Whether so many rows of this weight are within the limits.
+// Whether so many rows of this weight are within the limits.
 #[inline(always)]
-pub fn fits(weight: usize, len: usize, most_weight: usize, most_rows: usize) -> bool
+fn fits(weight: usize, len: usize, most_weight: usize, most_rows: usize) -> bool
     ensures { result ≡ (nat_le weight most_weight && nat_le len most_rows) }
 {
     weight <= most_weight && len <= most_rows

@@ -247,9 +247,6 @@ module _ {K V : Type 0} where
       ]
 
   module _ (eq : K → K → Bool) (laws : IsEquivalence eq) where
-    times_key : K → List (Placed K V) → ℕ
-    times_key key rows = count_by (λ (r : Placed K V). eq r.key key) rows
-
     -- no key has two rows
     none_more : (key : K) (rs : List (Placed K V)) → ((p : ℕ) (k : K) → keys_at rs p ≡ Some k → eq k key ≡ false) → Once rs → count_by (λ (r : Placed K V). eq r.key key) rs ≡ 0
     none_more key [] none once = refl
@@ -306,9 +303,6 @@ module _ {K V S : Type 0} (eq : K → K → Bool) (hash : S → K → ℕ) (node
   finds_by stands_for query agree (Some p) (k, found, same) =
       let r = key_there nodes.held.rows p k found in
       (r.0, key_row stands_for query eq agree nodes.held.rows kept.laid.once kept.indexed.once p r.0 r.1 (ap (λ x. stands_for x query) r.2 ∙ same), r.1)
-
-  pub finds_key : IsEquivalence eq → (key : K) (o : Option ℕ) → index_Finds eq (keys_at nodes.held.rows) key o → Finds eq nodes.held.rows key o
-  finds_key laws key o found = finds_by eq key (agreeing eq laws key) o found
 
   -- a place that was found has a row
   pub at_found : {Q : Type 0} (stands_for : K → Q → Bool) (query : Q) (p : ℕ) → index_Finds stands_for (keys_at nodes.held.rows) query (Some p) → IsAt nodes.held.rows p
@@ -430,11 +424,6 @@ kept_none eq hash nodes index is valid empty room = record {
   indexed = subst (λ l. Indexes eq hash index (keys_at l.held.rows)) (sym is) (of_none eq hash index empty);
   indexable = omega (arith, room, ap (λ l. l.room) is);
 }
-
--- the row that is taken out
-pub taken_row : {K V : Type 0} (o : Option (Placed K V)) (t : Taken K V) → option_map taken o ≡ Some t → (r : Placed K V) × (o ≡ Some r) × (t ≡ taken r)
-taken_row None t e = absurd (false≢true (ap is_some e))
-taken_row (Some r) t e = (r, refl, some_of t (taken r) (sym e))
 
 module _ {K V : Type 0} where
   -- the last row, by its place

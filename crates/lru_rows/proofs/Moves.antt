@@ -53,7 +53,7 @@ without_length (p ∷ ps) i =
     (λ e. omega (arith, without_length ps i, subst (λ z. times z (p.0 ∷ indices_of ps) ≡ 1 + times z (indices_of ps)) e (times_here p.0 (indices_of ps))))
     (λ ne. omega (arith, without_length ps i, times_other i p.0 (indices_of ps) ne))
 
-pub without_times : {K : Type 0} (ps : List (ℕ × K)) (i : ℕ) → times i (indices_of (list_without ps i)) ≡ 0
+without_times : {K : Type 0} (ps : List (ℕ × K)) (i : ℕ) → times i (indices_of (list_without ps i)) ≡ 0
 without_times [] i = refl
 without_times (p ∷ ps) i =
     by_place i p ps (λ rest. times i (indices_of rest) ≡ 0) (λ e. without_times ps i) (λ ne. times_other i p.0 (indices_of (list_without ps i)) ne ∙ without_times ps i)
