@@ -20,8 +20,8 @@ use Rattle.lru_cache.proofs.Placing.{front_absent, rows_fit, leaves_rows}
 use Rattle.lru_cache.proofs.Putting.{all_left}
 use Rattle.lru_cache.proofs.Views.{entries_are}
 
-module _ {K V F : Type 0} (eq : K → K → Bool) (r : Recency K V) (used_is most_weight most_entries : ℕ) (kept : IsKept r used_is most_weight most_entries) (c : Cached K V)
-    (view : cached_in r most_weight most_entries ≡ c) (valid : IsRecency eq r.rows) (key : K) (none : row_of eq r.rows key ≡ None) (Step : F → Entry K V → F → Type 0) (visit : F) (w : ℕ) (light : w ≤ most_weight) (some : 0 < most_entries)
+module _ {K V F S : Type 0} (eq : K → K → Bool) (r : Recency K V) (hashes : S) (used_is most_weight most_entries : ℕ) (kept : IsKept r used_is most_weight most_entries) (c : Cached K V S)
+    (view : cached_in r hashes most_weight most_entries ≡ c) (valid : IsRecency eq r.rows) (key : K) (none : row_of eq r.rows key ≡ None) (Step : F → Entry K V → F → Type 0) (visit : F) (w : ℕ) (light : w ≤ most_weight) (some : 0 < most_entries)
     (r' : Recency K V) (s : Shrinks Step visit (most_weight - w) (most_entries - 1) r r') where
   left_rows : r'.rows ≡ s.front
   left_rows = ap (λ (x : Recency K V). x.rows) s.left
@@ -36,16 +36,19 @@ module _ {K V F : Type 0} (eq : K → K → Bool) (r : Recency K V) (used_is mos
   absent_left = ap (λ rs. row_of eq rs key) left_rows ∙ front_absent eq key s.front s.back (ap (λ rs. row_of eq rs key) (sym s.parts) ∙ none)
 
   are : entries_in r.rows ≡ c.entries
-  are = entries_are eq r used_is most_weight most_entries kept c view
+  are = entries_are eq r hashes used_is most_weight most_entries kept c view
 
   no_entry : entry_of eq c.entries key ≡ None
   no_entry = ap (λ es. entry_of eq es key) (sym are) ∙ entry-row eq r.rows key ∙ ap (option_map entry_in) none
 
   same_weight : most_weight ≡ c.most_weight
-  same_weight = ap (λ (x : Cached K V). x.most_weight) view
+  same_weight = ap (λ (x : Cached K V S). x.most_weight) view
 
   same_most : most_entries ≡ c.most_entries
-  same_most = ap (λ (x : Cached K V). x.most_entries) view
+  same_most = ap (λ (x : Cached K V S). x.most_entries) view
+
+  same_hashes : hashes ≡ c.hashes
+  same_hashes = ap (λ (x : Cached K V S). x.hashes) view
 
   leaves : Leaves (c.most_weight - w) (c.most_entries - 1) (without eq c.entries key) (entries_in s.front) (entries_in s.back)
   leaves =
@@ -73,16 +76,17 @@ module _ {K V F : Type 0} (eq : K → K → Bool) (r : Recency K V) (used_is mos
       few = omega (arith, ap length rows_now, s.fits.1, some);
     }
 
-    view_fresh : cached_in new most_weight most_entries ≡ with_entries c (entry key v w ∷ entries_in s.front)
+    view_fresh : cached_in new hashes most_weight most_entries ≡ with_entries c (entry key v w ∷ entries_in s.front)
     view_fresh =
-        ap (λ x. cached_in x most_weight most_entries) is
-        ∙ ap (λ rs. record { entries = entry key v w ∷ entries_in rs; places = length (placed p key v w ∷ rs) + (r'.free - 1); most_weight = most_weight; most_entries = most_entries }) left_rows
-        ∙ ap (λ n. record { entries = entry key v w ∷ entries_in s.front; places = n; most_weight = most_weight; most_entries = most_entries })
-        (omega (arith, left_free, long, ap (λ (x : Cached K V). x.places) view, length-entries s.front))
-        ∙ ap (λ n. record { entries = entry key v w ∷ entries_in s.front; places = max c.places (length (entry key v w ∷ entries_in s.front)); most_weight = n; most_entries = most_entries }) same_weight
-        ∙ ap (λ n. record { entries = entry key v w ∷ entries_in s.front; places = max c.places (length (entry key v w ∷ entries_in s.front)); most_weight = c.most_weight; most_entries = n }) same_most
+        ap (λ x. cached_in x hashes most_weight most_entries) is
+        ∙ ap (λ rs. record { entries = entry key v w ∷ entries_in rs; places = length (placed p key v w ∷ rs) + (r'.free - 1); most_weight = most_weight; most_entries = most_entries; hashes = hashes }) left_rows
+        ∙ ap (λ n. record { entries = entry key v w ∷ entries_in s.front; places = n; most_weight = most_weight; most_entries = most_entries; hashes = hashes })
+        (omega (arith, left_free, long, ap (λ (x : Cached K V S). x.places) view, length-entries s.front))
+        ∙ ap (λ n. record { entries = entry key v w ∷ entries_in s.front; places = max c.places (length (entry key v w ∷ entries_in s.front)); most_weight = n; most_entries = most_entries; hashes = hashes }) same_weight
+        ∙ ap (λ n. record { entries = entry key v w ∷ entries_in s.front; places = max c.places (length (entry key v w ∷ entries_in s.front)); most_weight = c.most_weight; most_entries = n; hashes = hashes }) same_most
+        ∙ ap (λ h. record { entries = entry key v w ∷ entries_in s.front; places = max c.places (length (entry key v w ∷ entries_in s.front)); most_weight = c.most_weight; most_entries = c.most_entries; hashes = h }) same_hashes
 
-    pub puts_fresh : Puts eq Step visit c key v w (Ok None) (cached_in new most_weight most_entries)
+    pub puts_fresh : Puts eq Step visit c key v w (Ok None) (cached_in new hashes most_weight most_entries)
     puts_fresh = (
       (omega (arith, light, same_weight), omega (arith, some, same_most)),
       (sym no_entry, (entries_in s.front, (entries_in s.back, (leaves, (s.shown, view_fresh))))),
@@ -114,11 +118,11 @@ module _ {K V F : Type 0} (eq : K → K → Bool) (r : Recency K V) (used_is mos
         (subst (λ n. Fit (most_weight - w) (n - 1) (entries_in s.front)) same_most (rows_fit (most_weight - w) (most_entries - 1) s.front s.fits)))
 
     may_refuse : (told : NoPlace) → LacksPlace r told → MayRefuse eq c key w (cause_of told)
-    may_refuse NoMemory lack = (no_entry, (fit, (omega (arith, lack.0, ap length are, length-entries r.rows), omega (arith, lack.1, ap length are, length-entries r.rows, ap (λ (x : Cached K V). x.places) view))))
+    may_refuse NoMemory lack = (no_entry, (fit, (omega (arith, lack.0, ap length are, length-entries r.rows), omega (arith, lack.1, ap length are, length-entries r.rows, ap (λ (x : Cached K V S). x.places) view))))
     may_refuse NoMore lack = (no_entry, (fit, omega (arith, lack, ap length are, length-entries r.rows)))
 
-    pub refuses_fresh : (v : V) (new : Recency K V) → new ≡ r' → (back : Refused K V) → back.cause ≡ cause_of cause → back.key ≡ key → back.value ≡ v → Puts eq Step visit c key v w (Err back) (cached_in new most_weight most_entries)
+    pub refuses_fresh : (v : V) (new : Recency K V) → new ≡ r' → (back : Refused K V) → back.cause ≡ cause_of cause → back.key ≡ key → back.value ≡ v → Puts eq Step visit c key v w (Err back) (cached_in new hashes most_weight most_entries)
     refuses_fresh v new is back cause_is key_is value_is = (
       subst (MayRefuse eq c key w) (sym cause_is) (may_refuse cause (subst (λ x. LacksPlace x cause) unchanged lacks)),
-      (key_is, (value_is, ap (λ x. cached_in x most_weight most_entries) (is ∙ unchanged) ∙ view)),
+      (key_is, (value_is, ap (λ x. cached_in x hashes most_weight most_entries) (is ∙ unchanged) ∙ view)),
     )

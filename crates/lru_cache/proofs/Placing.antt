@@ -59,18 +59,19 @@ module _ {K V F : Type 0} (Step : F → Entry K V → F → Type 0) (visit : F) 
   }
 
   -- which limits the cache has then
-  pub limits_set : (used_is most_weight most_entries : ℕ) (c : Cached K V) → cached_in r most_weight most_entries ≡ c → Limits Step visit c a n (cached_in r' a n)
-  limits_set used_is most_weight most_entries c view = (
+  pub limits_set : {S : Type 0} (hashes : S) (used_is most_weight most_entries : ℕ) (c : Cached K V S) → cached_in r hashes most_weight most_entries ≡ c → Limits Step visit c a n (cached_in r' hashes a n)
+  limits_set {S} hashes used_is most_weight most_entries c view = (
     entries_in s.front,
     (
       entries_in s.back,
       (
-        subst (λ es. Leaves a n es (entries_in s.front) (entries_in s.back)) (ap (λ (x : Cached K V). x.entries) view) leaves_rows,
+        subst (λ es. Leaves a n es (entries_in s.front) (entries_in s.back)) (ap (λ (x : Cached K V S). x.entries) view) leaves_rows,
         (
           s.shown,
-          ap (λ x. cached_in x a n) s.left
-              ∙ ap (λ m. record { entries = entries_in s.front; places = m; most_weight = a; most_entries = n })
-              (omega (arith, ap length s.parts, length-append s.front s.back, ap (λ (x : Cached K V). x.places) view)),
+          ap (λ x. cached_in x hashes a n) s.left
+              ∙ ap (λ m. record { entries = entries_in s.front; places = m; most_weight = a; most_entries = n; hashes = hashes })
+              (omega (arith, ap length s.parts, length-append s.front s.back, ap (λ (x : Cached K V S). x.places) view))
+              ∙ ap (λ h. record { entries = entries_in s.front; places = c.places; most_weight = a; most_entries = n; hashes = h }) (ap (λ (x : Cached K V S). x.hashes) view),
         ),
       ),
     ),
@@ -81,7 +82,7 @@ none_long [] short = refl
 none_long (x ∷ xs) short = absurd (omega (arith, short))
 
 -- where nothing may be left, all go
-module _ {K V F : Type 0} (Step : F → Entry K V → F → Type 0) (visit : F) (r r' : Recency K V) (s : Shrinks Step visit 0 0 r r') (most_weight most_entries : ℕ) where
+module _ {K V F S : Type 0} (Step : F → Entry K V → F → Type 0) (visit : F) (r r' : Recency K V) (s : Shrinks Step visit 0 0 r r') (hashes : S) (most_weight most_entries : ℕ) where
   none_left : s.front ≡ []
   none_left = none_long s.front s.fits.1
 
@@ -91,10 +92,10 @@ module _ {K V F : Type 0} (Step : F → Entry K V → F → Type 0) (visit : F) 
   left_empty : r' ≡ recency [] (r.free + length s.back)
   left_empty = s.left ∙ ap (λ rs. recency rs (r.free + length s.back)) none_left
 
-  pub clears : (c : Cached K V) → cached_in r most_weight most_entries ≡ c → Clears Step visit c (cached_in r' most_weight most_entries)
+  pub clears : (c : Cached K V S) → cached_in r hashes most_weight most_entries ≡ c → Clears Step visit c (cached_in r' hashes most_weight most_entries)
   clears c view = (
-    subst (λ es. IsShown Step visit es) (ap entries_in (sym all_went) ∙ ap (λ (x : Cached K V). x.entries) view) s.shown,
-    ap (λ x. cached_in x most_weight most_entries) left_empty
-        ∙ ap (λ n. record { entries = []; places = n; most_weight = most_weight; most_entries = most_entries }) (omega (arith, ap length all_went))
-        ∙ ap (λ (x : Cached K V). with_entries x []) view,
+    subst (λ es. IsShown Step visit es) (ap entries_in (sym all_went) ∙ ap (λ (x : Cached K V S). x.entries) view) s.shown,
+    ap (λ x. cached_in x hashes most_weight most_entries) left_empty
+        ∙ ap (λ n. record { entries = []; places = n; most_weight = most_weight; most_entries = most_entries; hashes = hashes }) (omega (arith, ap length all_went))
+        ∙ ap (λ (x : Cached K V S). with_entries x []) view,
   )

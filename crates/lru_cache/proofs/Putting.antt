@@ -26,9 +26,9 @@ none_is None e = refl
 none_is (Some a) e = absurd (false≢true (sym e))
 
 -- an entry that is within the limits that are kept is within those of the cache
-pub fits_alone : {K V : Type 0} (r : Recency K V) (most_weight most_entries : ℕ) (c : Cached K V) → cached_in r most_weight most_entries ≡ c → (w : ℕ) → w ≤ most_weight → 0 < most_entries →
+pub fits_alone : {K V S : Type 0} (r : Recency K V) (hashes : S) (most_weight most_entries : ℕ) (c : Cached K V S) → cached_in r hashes most_weight most_entries ≡ c → (w : ℕ) → w ≤ most_weight → 0 < most_entries →
     (w ≤ c.most_weight) × (0 < c.most_entries)
-fits_alone r most_weight most_entries c view w light some = subst (λ x. (w ≤ x.most_weight) × (0 < x.most_entries)) view (light, some)
+fits_alone r hashes most_weight most_entries c view w light some = subst (λ x. (w ≤ x.most_weight) × (0 < x.most_entries)) view (light, some)
 
 module _ {K V : Type 0} (eq : K → K → Bool) where
   -- how many entries are left without a key's
@@ -59,22 +59,22 @@ module _ {K V : Type 0} (eq : K → K → Bool) where
       ∙ ap (λ xs. e ∷ xs) (all_left es key (sym (ap (λ b. cond b (Some e) (entry_of eq es key)) is) ∙ none)))
 
   -- an entry that was put in place of its key's, and the others go that have to
-  module _ (old : Cached K V) (valid : IsCache eq old) (key : K) (v : V) (w u : ℕ) (m : Cached K V) (m_is : m ≡ with_entries old (entry key v u ∷ without eq old.entries key)) (e : Entry K V) (had : entry_of eq old.entries key ≡ Some e) where
+  module _ {S : Type 0} (old : Cached K V S) (valid : IsCache eq old) (key : K) (v : V) (w u : ℕ) (m : Cached K V S) (m_is : m ≡ with_entries old (entry key v u ∷ without eq old.entries key)) (e : Entry K V) (had : entry_of eq old.entries key ≡ Some e) where
     one_fewer : length (without eq old.entries key) + 1 ≤ length old.entries
     one_fewer = one_less old.entries key (ap is_some had)
 
     entries_now : m.entries ≡ entry key v u ∷ without eq old.entries key
-    entries_now = ap (λ (c : Cached K V). c.entries) m_is
+    entries_now = ap (λ (c : Cached K V S). c.entries) m_is
 
     pub some_put : 0 < length m.entries
     some_put = omega (arith, ap length entries_now)
 
     same_places : (es : List (Entry K V)) → with_entries m es ≡ with_entries old es
     same_places es =
-        ap (λ (c : Cached K V). with_entries c es) m_is
-        ∙ ap (λ n. record { entries = es; places = n; most_weight = old.most_weight; most_entries = old.most_entries }) (omega (arith, valid.placed, one_fewer))
+        ap (λ (c : Cached K V S). with_entries c es) m_is
+        ∙ ap (λ n. record { entries = es; places = n; most_weight = old.most_weight; most_entries = old.most_entries; hashes = old.hashes }) (omega (arith, valid.placed, one_fewer))
 
-    pub settled_puts : {F : Type 0} (Step : F → Entry K V → F → Type 0) (visit : F) (new : Cached K V) → (w ≤ old.most_weight) × (0 < old.most_entries) → Settles Step visit m w new → Puts eq Step visit old key v w (Ok (Some e)) new
+    pub settled_puts : {F : Type 0} (Step : F → Entry K V → F → Type 0) (visit : F) (new : Cached K V S) → (w ≤ old.most_weight) × (0 < old.most_entries) → Settles Step visit m w new → Puts eq Step visit old key v w (Ok (Some e)) new
     settled_puts Step visit new fits (x, (rest, (is, (front, (gone, (l, (shown, new_is))))))) =
         let whole : x ∷ rest ≡ entry key v u ∷ without eq old.entries key = sym is ∙ entries_now in (
           fits,
@@ -85,8 +85,8 @@ module _ {K V : Type 0} (eq : K → K → Bool) where
               (
                 gone,
                 (
-                  subst (λ a. Leaves (a - w) (old.most_entries - 1) (without eq old.entries key) front gone) (ap (λ (c : Cached K V). c.most_weight) m_is)
-                      (subst (λ n. Leaves (m.most_weight - w) (n - 1) (without eq old.entries key) front gone) (ap (λ (c : Cached K V). c.most_entries) m_is)
+                  subst (λ a. Leaves (a - w) (old.most_entries - 1) (without eq old.entries key) front gone) (ap (λ (c : Cached K V S). c.most_weight) m_is)
+                      (subst (λ n. Leaves (m.most_weight - w) (n - 1) (without eq old.entries key) front gone) (ap (λ (c : Cached K V S). c.most_entries) m_is)
                       (subst (λ es. Leaves (m.most_weight - w) (m.most_entries - 1) es front gone) (same_tail x (entry key v u) rest (without eq old.entries key) whole) l)),
                   (
                     shown,
@@ -99,13 +99,13 @@ module _ {K V : Type 0} (eq : K → K → Bool) where
         )
 
   -- a key without an entry is used by nothing, and one is put of it
-  module _ (old : Cached K V) (valid : IsCache eq old) (key : K) (none : entry_of eq old.entries key ≡ None) (m : Cached K V) (m_is : m ≡ with_entries old (used eq old.entries key)) where
+  module _ {S : Type 0} (old : Cached K V S) (valid : IsCache eq old) (key : K) (none : entry_of eq old.entries key ≡ None) (m : Cached K V S) (m_is : m ≡ with_entries old (used eq old.entries key)) where
     pub same_unused : m ≡ old
     same_unused =
         m_is ∙ ap (with_entries old) (ap (λ o. option_map_or (λ e. e ∷ without eq old.entries key) o old.entries) none)
-        ∙ ap (λ n. record { entries = old.entries; places = n; most_weight = old.most_weight; most_entries = old.most_entries }) (omega (arith, valid.placed))
+        ∙ ap (λ n. record { entries = old.entries; places = n; most_weight = old.most_weight; most_entries = old.most_entries; hashes = old.hashes }) (omega (arith, valid.placed))
 
-    module _ {F : Type 0} (Step : F → Entry K V → F → Type 0) (visit : F) (v : V) (w : ℕ) (new : Cached K V) where
+    module _ {F : Type 0} (Step : F → Entry K V → F → Type 0) (visit : F) (v : V) (w : ℕ) (new : Cached K V S) where
       from_old : (o : Option (Entry K V)) → Puts eq Step visit old key v w (Ok o) new → Puts eq Step visit old key v w (Ok None) new
       from_old o puts = (puts.0, (sym none, puts.1.1))
 

@@ -29,10 +29,10 @@ module _ {K Q V : Type 0} (stands : K → Q → Bool) (query : Q) (same_key : K 
       (λ e. omega (arith, fewer_stand x.key e xs, once x.key, keyed-cons stands query x xs, counts stands x query true e, keyed-cons same_key x.key x xs, counts same_key x x.key true (itself x.key)))
       (λ e. omega (arith, one_stands xs (λ k. omega (arith, once k, keyed-cons same_key k x xs)), keyed-cons stands query x xs, counts stands x query false e))
 
-module _ {K Q V : Type 0} (same_key : K → K → Bool) (r : Recency K V) (used_is most_weight most_entries : ℕ) (kept : IsKept r used_is most_weight most_entries) (c : Cached K V)
-    (view : cached_in r most_weight most_entries ≡ c) (stands : K → Q → Bool) (query : Q) where
+module _ {K Q V S : Type 0} (same_key : K → K → Bool) (r : Recency K V) (hashes : S) (used_is most_weight most_entries : ℕ) (kept : IsKept r used_is most_weight most_entries) (c : Cached K V S)
+    (view : cached_in r hashes most_weight most_entries ≡ c) (stands : K → Q → Bool) (query : Q) where
   same_entries : entries_in r.rows ≡ c.entries
-  same_entries = entries_are same_key r used_is most_weight most_entries kept c view
+  same_entries = entries_are same_key r hashes used_is most_weight most_entries kept c view
 
   found_entry : entry_of stands c.entries query ≡ option_map entry_in (row_of stands r.rows query)
   found_entry = ap (λ es. entry_of stands es query) (sym same_entries) ∙ entry-row stands r.rows query
@@ -58,7 +58,7 @@ module _ {K Q V : Type 0} (same_key : K → K → Bool) (r : Recency K V) (used_
   unchanged : with_entries c c.entries ≡ c
   unchanged =
       subst (λ x. with_entries x x.entries ≡ x) view
-      (ap (λ n. record { entries = entries_in r.rows; places = n; most_weight = most_weight; most_entries = most_entries }) (omega (arith, length-entries r.rows)))
+      (ap (λ n. record { entries = entries_in r.rows; places = n; most_weight = most_weight; most_entries = most_entries; hashes = hashes }) (omega (arith, length-entries r.rows)))
 
   pub query_unused : Finds stands r.rows query None → c ≡ with_entries c (used stands c.entries query)
   query_unused none =
@@ -71,9 +71,9 @@ module _ {K Q V : Type 0} (same_key : K → K → Bool) (r : Recency K V) (used_
   pub query_untaken : (o : Option (Entry K V)) → o ≡ None → row_of stands r.rows query ≡ None → o ≡ entry_of stands c.entries query
   query_untaken o is none = is ∙ sym (found_entry ∙ ap (option_map entry_in) none)
 
-  pub query_kept_all : (r' : Recency K V) → r' ≡ r → row_of stands r.rows query ≡ None → cached_in r' most_weight most_entries ≡ with_entries c (without stands c.entries query)
+  pub query_kept_all : (r' : Recency K V) → r' ≡ r → row_of stands r.rows query ≡ None → cached_in r' hashes most_weight most_entries ≡ with_entries c (without stands c.entries query)
   query_kept_all r' is none =
-      ap (λ x. cached_in x most_weight most_entries) is ∙ view ∙ sym unchanged
+      ap (λ x. cached_in x hashes most_weight most_entries) is ∙ view ∙ sym unchanged
       ∙ ap (with_entries c) (sym (ap (λ es. without stands es query) (sym same_entries) ∙ absent_without stands query r.rows none ∙ same_entries))
 
   module _ (itself : (k : K) → IsTrue (same_key k k)) (agree : (x y : K) → IsTrue (stands x query) → IsTrue (stands y query) → IsTrue (same_key x y)) (valid : IsRecency same_key r.rows) where
@@ -100,10 +100,10 @@ module _ {K Q V : Type 0} (same_key : K → K → Bool) (r : Recency K V) (used_
         few = omega (arith, kept.few, as_long);
       })
 
-      pub query_view_used : (r' : Recency K V) → r' ≡ recency (promoted r.rows p) r.free → cached_in r' most_weight most_entries ≡ with_entries c (used stands c.entries query)
+      pub query_view_used : (r' : Recency K V) → r' ≡ recency (promoted r.rows p) r.free → cached_in r' hashes most_weight most_entries ≡ with_entries c (used stands c.entries query)
       query_view_used r' is =
-          ap (λ x. cached_in x most_weight most_entries) (is ∙ ap (λ rs. recency rs r.free) first)
-          ∙ with_rows same_key r used_is most_weight most_entries kept c view (finds.0 ∷ rows_without r.rows p) r.free (omega (arith, as_long))
+          ap (λ x. cached_in x hashes most_weight most_entries) (is ∙ ap (λ rs. recency rs r.free) first)
+          ∙ with_rows same_key r hashes used_is most_weight most_entries kept c view (finds.0 ∷ rows_without r.rows p) r.free (omega (arith, as_long))
           ∙ ap (with_entries c)
           (ap (λ es. entry_in finds.0 ∷ es) others
           ∙ sym (ap (λ o. option_map_or (λ e. e ∷ without stands c.entries query) o c.entries) (found_entry ∙ ap (option_map entry_in) finds.1)))
@@ -136,7 +136,7 @@ module _ {K Q V : Type 0} (same_key : K → K → Bool) (r : Recency K V) (used_
           few = omega (arith, kept.few, as_long);
         })
 
-        pub query_view_updated : UpdatesEntry stands post c query (Some answer) (cached_in r'' most_weight most_entries)
+        pub query_view_updated : UpdatesEntry stands post c query (Some answer) (cached_in r'' hashes most_weight most_entries)
         query_view_updated = (
           entry_in finds.0,
           (
@@ -145,8 +145,8 @@ module _ {K Q V : Type 0} (same_key : K → K → Bool) (r : Recency K V) (used_
               updates.2,
               (
                 subst (λ x. Updates post x.value x.weight answer updates.2) row_is updates.3,
-                ap (λ x. cached_in x most_weight most_entries) rows_now
-                    ∙ with_rows same_key r used_is most_weight most_entries kept c view (placed finds.0.place finds.0.key updates.2 finds.0.weight ∷ rows_without r.rows p) r.free (omega (arith, as_long))
+                ap (λ x. cached_in x hashes most_weight most_entries) rows_now
+                    ∙ with_rows same_key r hashes used_is most_weight most_entries kept c view (placed finds.0.place finds.0.key updates.2 finds.0.weight ∷ rows_without r.rows p) r.free (omega (arith, as_long))
                     ∙ ap (λ es. with_entries c (entry finds.0.key updates.2 finds.0.weight ∷ es)) others,
               ),
             ),
@@ -180,8 +180,8 @@ module _ {K Q V : Type 0} (same_key : K → K → Bool) (r : Recency K V) (used_
       pub query_answer : Some (entry t.key t.value t.weight) ≡ entry_of stands c.entries query
       query_answer = ap (λ (x : Taken K V). Some (entry x.key x.value x.weight)) removes.2 ∙ sym (found_entry ∙ ap (option_map entry_in) removes.1)
 
-      pub query_view_gone : cached_in r' most_weight most_entries ≡ with_entries c (without stands c.entries query)
+      pub query_view_gone : cached_in r' hashes most_weight most_entries ≡ with_entries c (without stands c.entries query)
       query_view_gone =
-          ap (λ x. cached_in x most_weight most_entries) removes.3
-          ∙ with_rows same_key r used_is most_weight most_entries kept c view (rows_without r.rows removes.0.place) (r.free + 1) (omega (arith, gone_long))
+          ap (λ x. cached_in x hashes most_weight most_entries) removes.3
+          ∙ with_rows same_key r hashes used_is most_weight most_entries kept c view (rows_without r.rows removes.0.place) (r.free + 1) (omega (arith, gone_long))
           ∙ ap (with_entries c) (entries-without stands query r.rows removes.0 removes.1 valid.places one ∙ ap (λ es. without stands es query) same_entries)

@@ -41,17 +41,17 @@ module _ {K V : Type 0} where
 
 -- what the cache is then
 module _ {K V F : Type 0} (step : F → Bor K → Bor V → ℕ → Bool → F → Type 0) (keep : F) (r r' : Recency K V) (s : RetainsRows step keep r r') where
-  pub retains : (most_weight most_entries : ℕ) (c : Cached K V) → cached_in r most_weight most_entries ≡ c → Retains step keep c (cached_in r' most_weight most_entries)
-  retains most_weight most_entries c view = record {
+  pub retains : {S : Type 0} (hashes : S) (most_weight most_entries : ℕ) (c : Cached K V S) → cached_in r hashes most_weight most_entries ≡ c → Retains step keep c (cached_in r' hashes most_weight most_entries)
+  retains {S} hashes most_weight most_entries c view = record {
     asked = s.asked;
     left = s.left;
-    all = s.all ∙ ap (λ (x : Cached K V). x.entries) view;
+    all = s.all ∙ ap (λ (x : Cached K V S). x.entries) view;
     called = s.called;
     kept =
-        ap (λ es. record { entries = es; places = length r'.rows + r'.free; most_weight = most_weight; most_entries = most_entries }) s.kept
-        ∙ ap (λ n. record { entries = kept_of s.asked; places = n; most_weight = most_weight; most_entries = most_entries })
+        ap (λ es. record { entries = es; places = length r'.rows + r'.free; most_weight = most_weight; most_entries = most_entries; hashes = hashes }) s.kept
+        ∙ ap (λ n. record { entries = kept_of s.asked; places = n; most_weight = most_weight; most_entries = most_entries; hashes = hashes })
         (omega (arith, s.free_is, ap length s.kept, length-entries r'.rows))
-        ∙ ap (λ (x : Cached K V). with_entries x (kept_of s.asked)) view;
+        ∙ ap (λ (x : Cached K V S). with_entries x (kept_of s.asked)) view;
   }
 
   pub kept_retained : (most_weight most_entries used used' : ℕ) → IsKept r used most_weight most_entries → used' ≡ weight_in r'.rows → IsKept r' used' most_weight most_entries
@@ -62,20 +62,20 @@ module _ {K V F : Type 0} (step : F → Bor K → Bor V → ℕ → Bool → F �
   }
 
 module _ {K V F G : Type 0} (step : F → Bor K → Bor V → ℕ → Bool → F → Type 0) (keep : F) (Step : G → Entry K V → G → Type 0) (visit : G) (most : ℕ) (r r' : Recency K V) (s : RetainsLastRows step keep Step visit most r r') where
-  pub retains_last : (most_weight most_entries : ℕ) (c : Cached K V) → cached_in r most_weight most_entries ≡ c → RetainsLast step keep Step visit most c (cached_in r' most_weight most_entries)
-  retains_last most_weight most_entries c view = record {
+  pub retains_last : {S : Type 0} (hashes : S) (most_weight most_entries : ℕ) (c : Cached K V S) → cached_in r hashes most_weight most_entries ≡ c → RetainsLast step keep Step visit most c (cached_in r' hashes most_weight most_entries)
+  retains_last {S} hashes most_weight most_entries c view = record {
     front = s.front;
     asked = s.asked;
     left = s.left;
-    all = ap (λ (x : Cached K V). x.entries) (sym view) ∙ s.all;
-    many = s.many ∙ ap (min most) (sym (length-entries r.rows) ∙ ap (λ (x : Cached K V). length x.entries) view);
+    all = ap (λ (x : Cached K V S). x.entries) (sym view) ∙ s.all;
+    many = s.many ∙ ap (min most) (sym (length-entries r.rows) ∙ ap (λ (x : Cached K V S). length x.entries) view);
     called = s.called;
     shown = s.shown;
     kept =
-        ap (λ es. record { entries = es; places = length r'.rows + r'.free; most_weight = most_weight; most_entries = most_entries }) s.kept
-        ∙ ap (λ n. record { entries = s.front ++ kept_of s.asked; places = n; most_weight = most_weight; most_entries = most_entries })
+        ap (λ es. record { entries = es; places = length r'.rows + r'.free; most_weight = most_weight; most_entries = most_entries; hashes = hashes }) s.kept
+        ∙ ap (λ n. record { entries = s.front ++ kept_of s.asked; places = n; most_weight = most_weight; most_entries = most_entries; hashes = hashes })
         (omega (arith, s.free_is, ap length s.kept, length-entries r'.rows))
-        ∙ ap (λ (x : Cached K V). with_entries x (s.front ++ kept_of s.asked)) view;
+        ∙ ap (λ (x : Cached K V S). with_entries x (s.front ++ kept_of s.asked)) view;
   }
 
   pub kept_retained_last : (most_weight most_entries used used' : ℕ) → IsKept r used most_weight most_entries → used' ≡ weight_in r'.rows → IsKept r' used' most_weight most_entries

@@ -17,8 +17,8 @@ same_tail a b xs ys e = cc
 pub weighed : {K V : Type 0} {post : Bor K → Bor V → ℕ → Type 0} {w : ℕ} (key : Bor K) (value : Bor V) → post key value w → Weighs post key.now value.now w
 weighed key value called = record { key = key; value = value; shows_key = refl; shows_value = refl; called = called }
 
-module _ {K V F : Type 0} (eq : K → K → Bool) (post : MutBor V → ℕ → ℕ → MutBor V → Type 0) (Step : F → Entry K V → F → Type 0) (visit : F) (old : Cached K V) (placed : length old.entries ≤ old.places)
-    (key : K) (w : ℕ) (m : Cached K V) (u : UpdatesEntry eq post old key (Some w) m) where
+module _ {K V F S : Type 0} (eq : K → K → Bool) (post : MutBor V → ℕ → ℕ → MutBor V → Type 0) (Step : F → Entry K V → F → Type 0) (visit : F) (old : Cached K V S) (placed : length old.entries ≤ old.places)
+    (key : K) (w : ℕ) (m : Cached K V S) (u : UpdatesEntry eq post old key (Some w) m) where
   abbrev others : List (Entry K V)
   others = without eq old.entries key
 
@@ -29,7 +29,7 @@ module _ {K V F : Type 0} (eq : K → K → Bool) (post : MutBor V → ℕ → �
   one_fewer = one_less eq old.entries key (ap is_some u.1.0)
 
   entries_now : m.entries ≡ lent ∷ others
-  entries_now = ap (λ (c : Cached K V). c.entries) u.1.1.1.1
+  entries_now = ap (λ (c : Cached K V S). c.entries) u.1.1.1.1
 
   pub some_now : 0 < length m.entries
   some_now = omega (arith, ap length entries_now)
@@ -37,17 +37,17 @@ module _ {K V F : Type 0} (eq : K → K → Bool) (post : MutBor V → ℕ → �
   -- other entries in the cache that the value was changed in
   same_places : (es : List (Entry K V)) → with_entries m es ≡ with_entries old es
   same_places es =
-      ap (λ (c : Cached K V). with_entries c es) u.1.1.1.1
-      ∙ ap (λ n. record { entries = es; places = n; most_weight = old.most_weight; most_entries = old.most_entries }) (omega (arith, placed, one_fewer))
+      ap (λ (c : Cached K V S). with_entries c es) u.1.1.1.1
+      ∙ ap (λ n. record { entries = es; places = n; most_weight = old.most_weight; most_entries = old.most_entries; hashes = old.hashes }) (omega (arith, placed, one_fewer))
 
   same_most_weight : m.most_weight ≡ old.most_weight
-  same_most_weight = ap (λ (c : Cached K V). c.most_weight) u.1.1.1.1
+  same_most_weight = ap (λ (c : Cached K V S). c.most_weight) u.1.1.1.1
 
   same_most_entries : m.most_entries ≡ old.most_entries
-  same_most_entries = ap (λ (c : Cached K V). c.most_entries) u.1.1.1.1
+  same_most_entries = ap (λ (c : Cached K V S). c.most_entries) u.1.1.1.1
 
   -- the entry is too heavy
-  pub too_heavy : old.most_weight < w → (x : Entry K V) (new : Cached K V) → PopsFirst m (Some x) new → Reweighs eq post Step visit old key (Err (entry x.key x.value w)) new
+  pub too_heavy : old.most_weight < w → (x : Entry K V) (new : Cached K V S) → PopsFirst m (Some x) new → Reweighs eq post Step visit old key (Err (entry x.key x.value w)) new
   too_heavy heavy x new (rest, (is, new_is)) =
       let whole : x ∷ rest ≡ lent ∷ others = sym is ∙ entries_now in
       let x_is : x ≡ lent = same_head x lent rest others whole in (
@@ -68,7 +68,7 @@ module _ {K V F : Type 0} (eq : K → K → Bool) (post : MutBor V → ℕ → �
       )
 
   -- or the others go that have to
-  pub settled : w ≤ old.most_weight → (new : Cached K V) → Settles Step visit m w new → Reweighs eq post Step visit old key (Ok true) new
+  pub settled : w ≤ old.most_weight → (new : Cached K V S) → Settles Step visit m w new → Reweighs eq post Step visit old key (Ok true) new
   settled light new (x, (rest, (is, (front, (gone, (l, (shown, new_is))))))) =
       let whole : x ∷ rest ≡ lent ∷ others = sym is ∙ entries_now in
       let x_is : x ≡ lent = same_head x lent rest others whole in (

@@ -21,8 +21,8 @@ same_tail a b xs ys e = cc
 nil_cons : {A : Type 0} (a : A) (xs : List A) → [] ≡ a ∷ xs → ⊥
 nil_cons a xs e = cc
 
-module _ {K V : Type 0} (eq : K → K → Bool) (r : Recency K V) (used_is most_weight most_entries : ℕ) (kept : IsKept r used_is most_weight most_entries) (c : Cached K V)
-    (view : cached_in r most_weight most_entries ≡ c) (valid : IsRecency eq r.rows) (p : ℕ) (told : Some p ≡ option_map (λ (y : Placed K V). y.place) (first_row r.rows)) where
+module _ {K V S : Type 0} (eq : K → K → Bool) (r : Recency K V) (hashes : S) (used_is most_weight most_entries : ℕ) (kept : IsKept r used_is most_weight most_entries) (c : Cached K V S)
+    (view : cached_in r hashes most_weight most_entries ≡ c) (valid : IsRecency eq r.rows) (p : ℕ) (told : Some p ≡ option_map (λ (y : Placed K V). y.place) (first_row r.rows)) where
   abbrev x : Placed K V
   x = (first_told r.rows p told).0
 
@@ -121,24 +121,24 @@ module _ {K V : Type 0} (eq : K → K → Bool) (r : Recency K V) (used_is most_
             needed = λ e rest to fit. needed_by s.back refl e rest to fit;
           }
 
-          pub view_settled : Settles Step visit c w (cached_in r3 most_weight most_entries)
+          pub view_settled : Settles Step visit c w (cached_in r3 hashes most_weight most_entries)
           view_settled = (
             entry_in x,
             (
               entries_in xs,
               (
-                sym (entries_are eq r used_is most_weight most_entries kept c view) ∙ ap entries_in rows_are,
+                sym (entries_are eq r hashes used_is most_weight most_entries kept c view) ∙ ap entries_in rows_are,
                 (
                   entries_in fs,
                   (
                     entries_in s.back,
                     (
-                      subst (λ a. Leaves (a - w) (c.most_entries - 1) (entries_in xs) (entries_in fs) (entries_in s.back)) (ap (λ (y : Cached K V). y.most_weight) view)
-                          (subst (λ n. Leaves (most_weight - w) (n - 1) (entries_in xs) (entries_in fs) (entries_in s.back)) (ap (λ (y : Cached K V). y.most_entries) view) leaves),
+                      subst (λ a. Leaves (a - w) (c.most_entries - 1) (entries_in xs) (entries_in fs) (entries_in s.back)) (ap (λ (y : Cached K V S). y.most_weight) view)
+                          (subst (λ n. Leaves (most_weight - w) (n - 1) (entries_in xs) (entries_in fs) (entries_in s.back)) (ap (λ (y : Cached K V S). y.most_entries) view) leaves),
                       (
                         s.shown,
-                        ap (λ y. cached_in y most_weight most_entries) rows3
-                            ∙ with_rows eq r used_is most_weight most_entries kept c view (now ∷ fs) (r.free + length s.back) (omega (arith, ap length rows_are, ap length others_are, length-append fs s.back)),
+                        ap (λ y. cached_in y hashes most_weight most_entries) rows3
+                            ∙ with_rows eq r hashes used_is most_weight most_entries kept c view (now ∷ fs) (r.free + length s.back) (omega (arith, ap length rows_are, ap length others_are, length-append fs s.back)),
                       ),
                     ),
                   ),

@@ -27,17 +27,17 @@ parts_in : {K V : Type 0} (rows : List (Placed K V)) → map rows_entry_of rows 
 parts_in [] = refl
 parts_in (r ∷ rs) = ap (λ ps. (r.key, r.value, r.weight) ∷ ps) (parts_in rs)
 
-module _ {K V : Type 0} (eq : K → K → Bool) (r : Recency K V) (used_is most_weight most_entries : ℕ) (kept : IsKept r used_is most_weight most_entries) (c : Cached K V)
-    (view : cached_in r most_weight most_entries ≡ c) where
+module _ {K V S : Type 0} (eq : K → K → Bool) (r : Recency K V) (hashes : S) (used_is most_weight most_entries : ℕ) (kept : IsKept r used_is most_weight most_entries) (c : Cached K V S)
+    (view : cached_in r hashes most_weight most_entries ≡ c) where
   pub entries_are : entries_in r.rows ≡ c.entries
-  entries_are = ap (λ (x : Cached K V). x.entries) view
+  entries_are = ap (λ (x : Cached K V S). x.entries) view
 
   -- a cache whose entries stand for these rows
-  pub with_rows : (rows : List (Placed K V)) (free : ℕ) → length rows + free ≡ max (length r.rows + r.free) (length rows) → cached_in (recency rows free) most_weight most_entries ≡ with_entries c (entries_in rows)
+  pub with_rows : (rows : List (Placed K V)) (free : ℕ) → length rows + free ≡ max (length r.rows + r.free) (length rows) → cached_in (recency rows free) hashes most_weight most_entries ≡ with_entries c (entries_in rows)
   with_rows rows free is =
-      ap (λ n. record { entries = entries_in rows; places = n; most_weight = most_weight; most_entries = most_entries })
+      ap (λ n. record { entries = entries_in rows; places = n; most_weight = most_weight; most_entries = most_entries; hashes = hashes })
       (is ∙ ap (max (length r.rows + r.free)) (sym (length-entries rows)))
-      ∙ ap (λ (x : Cached K V). with_entries x (entries_in rows)) view
+      ∙ ap (λ (x : Cached K V S). with_entries x (entries_in rows)) view
 
   pub weighs : used_is ≡ weight_of c.entries
   weighs = kept.used_is ∙ sym (weight-entries r.rows) ∙ ap weight_of entries_are
@@ -111,7 +111,7 @@ module _ {K V : Type 0} (eq : K → K → Bool) (r : Recency K V) (used_is most_
     same_entries : with_entries c c.entries ≡ c
     same_entries =
         subst (λ x. with_entries x x.entries ≡ x) view
-        (ap (λ n. record { entries = entries_in r.rows; places = n; most_weight = most_weight; most_entries = most_entries })
+        (ap (λ n. record { entries = entries_in r.rows; places = n; most_weight = most_weight; most_entries = most_entries; hashes = hashes })
         (max_left (length r.rows + r.free) (length (entries_in r.rows)) (omega (arith, length-entries r.rows))))
 
     pub view_unupdated : {R : Type 0} (post : MutBor V → ℕ → R → MutBor V → Type 0) (o : Option R) → o ≡ None → Finds eq r.rows key None → UpdatesEntry eq post c key o c
@@ -131,8 +131,8 @@ module _ {K V : Type 0} (eq : K → K → Bool) (r : Recency K V) (used_is most_
     nothing_gone none =
         sym same_entries ∙ ap (with_entries c) (sym (ap (λ es. without eq es key) (sym entries_are) ∙ absent_without eq key r.rows none ∙ entries_are))
 
-    pub view_unremoved : (r' : Recency K V) → r' ≡ r → row_of eq r.rows key ≡ None → cached_in r' most_weight most_entries ≡ with_entries c (without eq c.entries key)
-    view_unremoved r' is none = ap (λ x. cached_in x most_weight most_entries) is ∙ view ∙ nothing_gone none
+    pub view_unremoved : (r' : Recency K V) → r' ≡ r → row_of eq r.rows key ≡ None → cached_in r' hashes most_weight most_entries ≡ with_entries c (without eq c.entries key)
+    view_unremoved r' is none = ap (λ x. cached_in x hashes most_weight most_entries) is ∙ view ∙ nothing_gone none
 
     module _ (valid : IsRecency eq r.rows) where
       -- the key's entry goes first
@@ -161,9 +161,9 @@ module _ {K V : Type 0} (eq : K → K → Bool) (r : Recency K V) (used_is most_
           few = omega (arith, kept.few, as_long);
         })
 
-        pub view_used : (r' : Recency K V) → r' ≡ recency (promoted r.rows p) r.free → cached_in r' most_weight most_entries ≡ with_entries c (used eq c.entries key)
+        pub view_used : (r' : Recency K V) → r' ≡ recency (promoted r.rows p) r.free → cached_in r' hashes most_weight most_entries ≡ with_entries c (used eq c.entries key)
         view_used r' is =
-            ap (λ x. cached_in x most_weight most_entries) (is ∙ ap (λ rs. recency rs r.free) first)
+            ap (λ x. cached_in x hashes most_weight most_entries) (is ∙ ap (λ rs. recency rs r.free) first)
             ∙ with_rows (finds.0 ∷ rows_without r.rows p) r.free (omega (arith, as_long))
             ∙ ap (with_entries c)
             (ap (λ es. entry_in finds.0 ∷ es) others
@@ -180,9 +180,9 @@ module _ {K V : Type 0} (eq : K → K → Bool) (r : Recency K V) (used_is most_
           few = omega (arith, kept.few, as_long, length-append (rows_without r.rows p) (finds.0 ∷ []));
         })
 
-        pub view_demoted : (r' : Recency K V) → r' ≡ recency (rows_demoted r.rows p) r.free → cached_in r' most_weight most_entries ≡ with_entries c (demoted eq c.entries key)
+        pub view_demoted : (r' : Recency K V) → r' ≡ recency (rows_demoted r.rows p) r.free → cached_in r' hashes most_weight most_entries ≡ with_entries c (demoted eq c.entries key)
         view_demoted r' is =
-            ap (λ x. cached_in x most_weight most_entries) (is ∙ ap (λ rs. recency rs r.free) last)
+            ap (λ x. cached_in x hashes most_weight most_entries) (is ∙ ap (λ rs. recency rs r.free) last)
             ∙ with_rows (rows_without r.rows p ++ finds.0 ∷ []) r.free (omega (arith, as_long, length-append (rows_without r.rows p) (finds.0 ∷ [])))
             ∙ ap (with_entries c)
             (map-append entry_in (rows_without r.rows p) (finds.0 ∷ []) ∙ ap (λ es. es ++ entry_in finds.0 ∷ []) others
@@ -214,7 +214,7 @@ module _ {K V : Type 0} (eq : K → K → Bool) (r : Recency K V) (used_is most_
             few = omega (arith, kept.few, as_long);
           })
 
-          pub view_updated : UpdatesEntry eq post c key (Some answer) (cached_in r'' most_weight most_entries)
+          pub view_updated : UpdatesEntry eq post c key (Some answer) (cached_in r'' hashes most_weight most_entries)
           view_updated = (
             entry_in finds.0,
             (
@@ -223,7 +223,7 @@ module _ {K V : Type 0} (eq : K → K → Bool) (r : Recency K V) (used_is most_
                 updates.2,
                 (
                   subst (λ x. Updates post x.value x.weight answer updates.2) row_is updates.3,
-                  ap (λ x. cached_in x most_weight most_entries) rows_now
+                  ap (λ x. cached_in x hashes most_weight most_entries) rows_now
                       ∙ with_rows (placed finds.0.place finds.0.key updates.2 finds.0.weight ∷ rows_without r.rows p) r.free (omega (arith, as_long))
                       ∙ ap (λ es. with_entries c (entry finds.0.key updates.2 finds.0.weight ∷ es)) others,
                 ),
@@ -256,9 +256,9 @@ module _ {K V : Type 0} (eq : K → K → Bool) (r : Recency K V) (used_is most_
             few = omega (arith, kept.few, as_long);
           })
 
-          pub view_put : cached_in r'' most_weight most_entries ≡ with_entries c (entry k v t.weight ∷ without eq c.entries key)
+          pub view_put : cached_in r'' hashes most_weight most_entries ≡ with_entries c (entry k v t.weight ∷ without eq c.entries key)
           view_put =
-              ap (λ x. cached_in x most_weight most_entries) rows_put
+              ap (λ x. cached_in x hashes most_weight most_entries) rows_put
               ∙ with_rows (placed p k v t.weight ∷ rows_without r.rows p) r.free (omega (arith, as_long))
               ∙ ap (λ es. with_entries c (entry k v t.weight ∷ es)) others
 
@@ -294,9 +294,9 @@ module _ {K V : Type 0} (eq : K → K → Bool) (r : Recency K V) (used_is most_
         pub answer_gone : Some (entry t.key t.value t.weight) ≡ entry_of eq c.entries key
         answer_gone = ap (λ (x : Taken K V). Some (entry x.key x.value x.weight)) removes.2 ∙ sym (found_entry ∙ ap (option_map entry_in) removes.1)
 
-        pub view_gone : cached_in r' most_weight most_entries ≡ with_entries c (without eq c.entries key)
+        pub view_gone : cached_in r' hashes most_weight most_entries ≡ with_entries c (without eq c.entries key)
         view_gone =
-            ap (λ x. cached_in x most_weight most_entries) removes.3
+            ap (λ x. cached_in x hashes most_weight most_entries) removes.3
             ∙ with_rows (rows_without r.rows removes.0.place) (r.free + 1) (omega (arith, gone_long))
             ∙ ap (with_entries c) (entries-without eq key r.rows removes.0 removes.1 valid.places (valid.keys key) ∙ ap (λ es. without eq es key) entries_are)
 
@@ -321,23 +321,23 @@ module _ {K V : Type 0} (eq : K → K → Bool) (r : Recency K V) (used_is most_
       few = omega (arith, kept.few, last_long);
     })
 
-    pub view_popped : PopsLast c (Some (entry t.key t.value t.weight)) (cached_in r' most_weight most_entries)
+    pub view_popped : PopsLast c (Some (entry t.key t.value t.weight)) (cached_in r' hashes most_weight most_entries)
     view_popped = (
       entries_in pops.1,
       (
         sym entries_are ∙ ap entries_in pops.2 ∙ map-append entry_in pops.1 (pops.0 ∷ [])
             ∙ ap (λ e. entries_in pops.1 ++ e ∷ []) (sym (ap (λ (x : Taken K V). entry x.key x.value x.weight) pops.3)),
-        ap (λ x. cached_in x most_weight most_entries) pops.4 ∙ with_rows pops.1 (r.free + 1) (omega (arith, last_long)),
+        ap (λ x. cached_in x hashes most_weight most_entries) pops.4 ∙ with_rows pops.1 (r.free + 1) (omega (arith, last_long)),
       ),
     )
 
   -- or the first
-  pub view_popped_first : (t : Taken K V) (r' : Recency K V) → RowsPopsFirst r (Some t) r' → PopsFirst c (Some (entry t.key t.value t.weight)) (cached_in r' most_weight most_entries)
+  pub view_popped_first : (t : Taken K V) (r' : Recency K V) → RowsPopsFirst r (Some t) r' → PopsFirst c (Some (entry t.key t.value t.weight)) (cached_in r' hashes most_weight most_entries)
   view_popped_first t r' pops = (
     entries_in pops.1,
     (
       sym entries_are ∙ ap entries_in pops.2 ∙ ap (λ e. e ∷ entries_in pops.1) (sym (ap (λ (x : Taken K V). entry x.key x.value x.weight) pops.3)),
-      ap (λ x. cached_in x most_weight most_entries) pops.4 ∙ with_rows pops.1 (r.free + 1) (omega (arith, ap length pops.2)),
+      ap (λ x. cached_in x hashes most_weight most_entries) pops.4 ∙ with_rows pops.1 (r.free + 1) (omega (arith, ap length pops.2)),
     ),
   )
 

@@ -6,9 +6,9 @@ use Rattle.lru_cache.specs.Cache.{Cached}
 
 module _ {K V : Type 0} where
   -- the cache that these rows are
-  abbrev pub cached_in : Recency K V → ℕ → ℕ → Cached K V
-  cached_in r most_weight most_entries =
-      record { entries = entries_in r.rows; places = length r.rows + r.free; most_weight = most_weight; most_entries = most_entries }
+  abbrev pub cached_in : {S : Type 0} → Recency K V → S → ℕ → ℕ → Cached K V S
+  cached_in r hashes most_weight most_entries =
+      record { entries = entries_in r.rows; places = length r.rows + r.free; most_weight = most_weight; most_entries = most_entries; hashes = hashes }
 
   -- what is kept: the sum of the weights, and no more than the limits
   pub record IsKept (r : Recency K V) (used most_weight most_entries : ℕ) : Type 0 where

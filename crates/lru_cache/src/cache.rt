@@ -1,14 +1,16 @@
 //! A cache of one owner.
 ghost use Rattle.std.specs.Prelude.{◌≡◌, ◌+◌, ◌<◌, ◌≤◌, None, length, map, is_some, nat_eq, IfOk};
 ghost use Rattle.std.specs.Option.{option_map, option_copied};
+ghost use Rattle.lru_index.specs.Hashing.{key_hash, seeded, unseeded};
 ghost use Rattle.lru_rows.specs.Rows.{most_rows};
-ghost use Rattle.lru_cache.specs.Cache.{empty, entry_of, without, used, demoted, parts_of, with_entries, cause_of, Puts, PutsWeighed, PopsLast, PopsFirst, IsLast, Limits, Clears, Drains, Retains, RetainsLast, UpdatesEntry, Reweighs, Settles, UsesOrPuts, IsCache};
+ghost use Rattle.lru_cache.specs.Cache.{empty, hashes_from, entry_of, without, used, demoted, parts_of, with_entries, cause_of, Puts, PutsWeighed, PopsLast, PopsFirst, IsLast, Limits, Clears, Drains, Retains, RetainsLast, UpdatesEntry, Reweighs, Settles, UsesOrPuts, IsCache};
 ghost use Rattle.lru_entries.specs.Entries.{weight_of, entry};
 
 use lru_entries::draining::drain;
 pub use lru_entries::entry::Entry;
 use lru_entries::keeping::{retain, retain_last};
 use lru_entries::shrinking::shrink;
+use lru_index::alike::SameHashes;
 use lru_index::hashing::SeededHashes;
 use lru_index::keys::Query;
 use lru_pairs::iter::{PairsEntries, PairsKeys};
@@ -107,11 +109,11 @@ impl<K: Hash, V, S: BuildHasher> Model for Cache<K, V, S> {
     ghost use Rattle.lru_cache.specs.Cache.{Cached, cached_code};
     ghost use Rattle.lru_cache.specs.Representation.{cached_in, IsKept};
 
-    ghost Value = { Cached K V };
+    ghost Value = { Cached K V S };
 
-    ghost coded = { cached_code K.code V.code };
+    ghost coded = { cached_code K.code V.code S.code };
 
-    ghost view = { λ c. cached_in c.rows.held c.most_weight c.most_entries };
+    ghost view = { λ c. cached_in c.rows.held c.rows.hashes c.most_weight c.most_entries };
 
     ghost invariant = { λ c. IsKept c.rows.held c.weight c.most_weight c.most_entries };
 }
@@ -124,14 +126,9 @@ impl<K: Hash + Drop, V: Drop> Cache<K, V, SeededHashes> {
     ///
     /// There is no memory.
     pub fn new(alloc: Global, most_weight: usize, most_entries: usize) -> Result<Self, AllocError>
-        ensures { IfOk result (λ cache. cache ≡ empty most_weight most_entries) }
+        ensures { IfOk result (λ cache. cache ≡ empty (hashes_from unseeded) most_weight most_entries) }
     {
-        Ok(Cache {
-            rows: Pairs::with_capacity(alloc, 0)?,
-            weight: 0,
-            most_weight,
-            most_entries,
-        })
+        Cache::with_hasher(alloc, most_weight, most_entries, SeededHashes::fixed())
     }
 
     /// A cache as `new` makes it, with a seed for the hashes: who picks the keys and does not know it can't pick keys that
@@ -146,10 +143,33 @@ impl<K: Hash + Drop, V: Drop> Cache<K, V, SeededHashes> {
         most_entries: usize,
         seed: u64,
     ) -> Result<Self, AllocError>
-        ensures { IfOk result (λ cache. cache ≡ empty most_weight most_entries) }
+        ensures { IfOk result (λ cache. cache ≡ empty (hashes_from (seeded seed)) most_weight most_entries) }
+    {
+        Cache::with_hasher(
+            alloc,
+            most_weight,
+            most_entries,
+            SeededHashes::with_seed(seed),
+        )
+    }
+}
+
+impl<K: Hash + Drop, V: Drop, S: BuildHasher + Drop> Cache<K, V, S> {
+    /// A cache as `new` makes it, over hashers of the caller's.
+    ///
+    /// # Errors
+    ///
+    /// There is no memory.
+    pub fn with_hasher(
+        alloc: Global,
+        most_weight: usize,
+        most_entries: usize,
+        hash_builder: S,
+    ) -> Result<Self, AllocError>
+        ensures { IfOk result (λ cache. cache ≡ empty hash_builder most_weight most_entries) }
     {
         Ok(Cache {
-            rows: Pairs::with_capacity_and_seed(alloc, 0, seed)?,
+            rows: Pairs::with_capacity_and_hasher(alloc, 0, hash_builder)?,
             weight: 0,
             most_weight,
             most_entries,
@@ -221,15 +241,14 @@ impl<K: Hash, V, S: BuildHasher> Cache<K, V, S> {
     pub fn contains_by<Q: Query<K>>(&self, query: Q) -> bool
         ensures { result ≡ is_some (entry_of Q.stands_for self.now.entries query) }
     {
-        self.rows.find_by(query).is_some()
+        self.contains_hashed(query, self.hash_of(&query))
     }
 
     /// As `peek`, by what stands for the key.
     pub fn peek_by<Q: Query<K>>(&self, query: Q) -> Option<&V>
         ensures { option_copied result ≡ option_map (λ e. e.value) (entry_of Q.stands_for self.now.entries query) }
     {
-        let found = self.rows.find_by(query)?;
-        Some(self.rows.value_at(found))
+        self.peek_hashed(query, self.hash_of(&query))
     }
 
     /// As `weight_of`, by what stands for the key.
@@ -325,7 +344,63 @@ impl<K: Hash, V, S: BuildHasher> Cache<K, V, S> {
         requires { U.IsAlwaysCallable update }
         ensures { UpdatesEntry Q.stands_for (U.post update) self.old query result self.new }
     {
-        let found = self.rows.find_by(query)?;
+        let hash = self.hash_of(&query);
+        self.update_hashed(query, hash, update)
+    }
+
+    /// The hash of a key, or of a query for one, with which the calls by `.._hashed` can be asked, so that one hash serves
+    /// several calls.
+    #[inline(always)]
+    pub fn hash_of<Q: Hash>(&self, query: &Q) -> u64
+        ensures { result ≡ key_hash S.BuildHasher S.Hasher.Hasher Q.hash_input self.now.hashes query.now }
+    {
+        self.rows.hash_of(query)
+    }
+
+    /// `hash_of`, where a hash of the query is known, and what made it: unless that hashes otherwise than this cache does,
+    /// the query is not hashed again.
+    #[inline(always)]
+    pub fn hash_as<Q: Hash>(&self, query: &Q, hash: u64, hashes: &S) -> u64
+    where
+        S: SameHashes,
+        requires { hash ≡ key_hash S.BuildHasher S.Hasher.Hasher Q.hash_input hashes.now query.now }
+        ensures { result ≡ key_hash S.BuildHasher S.Hasher.Hasher Q.hash_input self.now.hashes query.now }
+    {
+        self.rows.hash_as(query, hash, hashes)
+    }
+
+    /// `contains_by`, where the query's hash is known.
+    #[inline(always)]
+    pub fn contains_hashed<Q: Query<K>>(&self, query: Q, hash: u64) -> bool
+        requires { hash ≡ key_hash S.BuildHasher S.Hasher.Hasher Q.hash_input self.now.hashes query }
+        ensures { result ≡ is_some (entry_of Q.stands_for self.now.entries query) }
+    {
+        self.rows.find_hashed(query, hash).is_some()
+    }
+
+    /// `peek_by`, where the query's hash is known.
+    #[inline(always)]
+    pub fn peek_hashed<Q: Query<K>>(&self, query: Q, hash: u64) -> Option<&V>
+        requires { hash ≡ key_hash S.BuildHasher S.Hasher.Hasher Q.hash_input self.now.hashes query }
+        ensures { option_copied result ≡ option_map (λ e. e.value) (entry_of Q.stands_for self.now.entries query) }
+    {
+        let found = self.rows.find_hashed(query, hash)?;
+        Some(self.rows.value_at(found))
+    }
+
+    /// `update_by`, where the query's hash is known.
+    #[inline(always)]
+    pub fn update_hashed<Q: Query<K>, R, U: FnOnce(&mut V, usize) -> R + Drop>(
+        &mut self,
+        query: Q,
+        hash: u64,
+        update: U,
+    ) -> Option<R>
+        requires hash { hash ≡ key_hash S.BuildHasher S.Hasher.Hasher Q.hash_input self.old.hashes query }
+        requires update { U.IsAlwaysCallable update }
+        ensures { UpdatesEntry Q.stands_for (U.post update) self.old query result self.new }
+    {
+        let found = self.rows.find_hashed(query, hash)?;
         self.rows.promote(found);
         Some(self.rows.update(found, update))
     }
@@ -350,10 +425,30 @@ impl<K: Hash + Drop, V: Drop, S: BuildHasher> Cache<K, V, S> {
         requires { F.IsAlwaysCallable visit }
         ensures { Puts K.eq (λ p x q. F.step p x tt q) visit self.old key value weight result self.new }
     {
+        let hash = self.hash_of(&key);
+        self.put_hashed(key, value, weight, hash, visit)
+    }
+
+    /// `put`, where the key's hash is known.
+    ///
+    /// # Errors
+    ///
+    /// As for `put`.
+    pub fn put_hashed<F: FnMut(Entry<K, V>) + Drop>(
+        &mut self,
+        key: K,
+        value: V,
+        weight: usize,
+        hash: u64,
+        visit: F,
+    ) -> Result<Option<Entry<K, V>>, Refused<K, V>>
+        requires hash { hash ≡ key_hash S.BuildHasher S.Hasher.Hasher K.hash_input self.old.hashes key }
+        requires visit { F.IsAlwaysCallable visit }
+        ensures { Puts K.eq (λ p x q. F.step p x tt q) visit self.old key value weight result self.new }
+    {
         if weight > self.most_weight || self.most_entries == 0 {
             return Err(Refused::new(Cause::TooHeavy, key, value));
         }
-        let hash = self.rows.hash_of(&key);
         if let Some(place) = self.rows.find_hashed(&key, hash) {
             self.rows.promote(place);
             let was = self.rows.exchange(place, key, value);
@@ -592,7 +687,18 @@ impl<K: Hash + Drop, V: Drop, S: BuildHasher> Cache<K, V, S> {
         ensures answer { result ≡ entry_of Q.stands_for self.old.entries query }
         ensures entries { self.new ≡ with_entries self.old (without Q.stands_for self.old.entries query) }
     {
-        let row = self.rows.remove_by(query)?;
+        let hash = self.hash_of(&query);
+        self.remove_hashed(query, hash)
+    }
+
+    /// `remove_by`, where the query's hash is known.
+    #[inline(always)]
+    pub fn remove_hashed<Q: Query<K>>(&mut self, query: Q, hash: u64) -> Option<Entry<K, V>>
+        requires { hash ≡ key_hash S.BuildHasher S.Hasher.Hasher Q.hash_input self.old.hashes query }
+        ensures answer { result ≡ entry_of Q.stands_for self.old.entries query }
+        ensures entries { self.new ≡ with_entries self.old (without Q.stands_for self.old.entries query) }
+    {
+        let row = self.rows.remove_hashed(query, hash)?;
         self.weight -= row.weight;
         Some(Entry {
             key: row.key,

@@ -69,19 +69,19 @@ module _ {K V : Type 0} (eq : K → K → Bool) where
       ))
 
   -- what comes of rows that are put, where all of them fit
-  abbrev Outcome : Result ℕ (Refused K V) → ℕ → List (Entry K V) → Cached K V → Type 0
+  abbrev Outcome : {S : Type 0} → Result ℕ (Refused K V) → ℕ → List (Entry K V) → Cached K V S → Type 0
   Outcome answer left es new = MatchResult answer (λ n. (n ≡ left) × (new.entries ≡ es)) (λ refused. refused.cause ≡ Memory)
 
   module _ (same : (k : K) → eq k k ≡ true) where
     -- the first of them
-    record IsFirst (old : Cached K V) (row : Row K V) : Type 0 where
+    record IsFirst {S : Type 0} (old : Cached K V S) (row : Row K V) : Type 0 where
       pub apart : without eq old.entries row.key ≡ old.entries
       pub fits : Fit (old.most_weight - row.weight) (old.most_entries - 1) old.entries
       pub light : row.weight ≤ old.most_weight
       pub some : 0 < old.most_entries
       pub short : length old.entries < most_rows
 
-    first : (old : Cached K V) (row : Row K V) → IsGood old.most_weight old.most_entries (entry_of row ∷ old.entries) → IsFirst old row
+    first : {S : Type 0} (old : Cached K V S) (row : Row K V) → IsGood old.most_weight old.most_entries (entry_of row ∷ old.entries) → IsFirst old row
     first old row good =
         let weight = sum_by-cons (λ x. x.weight) (entry_of row) old.entries in
         let count = sum_by-cons (λ x. cond (eq x.key row.key) 1 0) (entry_of row) old.entries in
@@ -94,30 +94,30 @@ module _ {K V : Type 0} (eq : K → K → Bool) where
           short = omega (arith, good.short);
         }
 
-    why : (old : Cached K V) (row : Row K V) (cause : Cause) → IsFirst old row → (cause ≡ TooHeavy → ⊥) → MayRefuse eq old row.key row.weight cause → cause ≡ Memory
+    why : {S : Type 0} (old : Cached K V S) (row : Row K V) (cause : Cause) → IsFirst old row → (cause ≡ TooHeavy → ⊥) → MayRefuse eq old row.key row.weight cause → cause ≡ Memory
     why old row Memory h other may = refl
     why old row TooHeavy h other may = absurd (other refl)
     why old row Full h other may = absurd (omega (arith, h.short, may.1.1))
 
-    stays : (old mid : Cached K V) (row : Row K V) → IsFirst old row → PutsOrLeaves eq old row (Ok false) mid
+    stays : {S : Type 0} (old mid : Cached K V S) (row : Row K V) → IsFirst old row → PutsOrLeaves eq old row (Ok false) mid
         → (mid.entries ≡ entry_of row ∷ old.entries) × ((mid.most_weight ≡ old.most_weight) × (mid.most_entries ≡ old.most_entries))
-    stays old mid row h puts =
+    stays {S} old mid row h puts =
         let all = all_stay (old.most_weight - row.weight) (old.most_entries - 1) old.entries puts.0 puts.1.0 h.fits
         (subst (λ es. Leaves (old.most_weight - row.weight) (old.most_entries - 1) es puts.0 puts.1.0) h.apart puts.1.1.0) in
         let new = puts.1.1.1 in
-        (ap (λ (c : Cached K V). c.entries) new ∙ ap (λ (es : List (Entry K V)). entry_of row ∷ es) all, (ap (λ (c : Cached K V). c.most_weight) new, ap (λ (c : Cached K V). c.most_entries) new))
+        (ap (λ (c : Cached K V S). c.entries) new ∙ ap (λ (es : List (Entry K V)). entry_of row ∷ es) all, (ap (λ (c : Cached K V S). c.most_weight) new, ap (λ (c : Cached K V S). c.most_entries) new))
 
-    back : (rows : List (Row K V)) (old new : Cached K V) (left : ℕ) (answer : Result ℕ (Refused K V)) → IsGood old.most_weight old.most_entries (onto rows old.entries)
+    back : {S : Type 0} (rows : List (Row K V)) (old new : Cached K V S) (left : ℕ) (answer : Result ℕ (Refused K V)) → IsGood old.most_weight old.most_entries (onto rows old.entries)
         → PutsEntries eq old rows left answer new → Outcome answer left (onto rows old.entries) new
-    back [] old new left answer good puts =
-        subst (λ r. Outcome r left old.entries new) (sym puts.0) (refl, ap (λ (c : Cached K V). c.entries) puts.1)
-    back (row ∷ rows) old new left answer good (inl put) = one_of put.0 put.1.0 (λ mid. back rows mid new left answer) put.1.1.0 put.1.1.1
+    back {S} [] old new left answer good puts =
+        subst (λ r. Outcome r left old.entries new) (sym puts.0) (refl, ap (λ (c : Cached K V S). c.entries) puts.1)
+    back {S} (row ∷ rows) old new left answer good (inl put) = one_of put.0 put.1.0 (λ mid. back rows mid new left answer) put.1.1.0 put.1.1.1
       where
         here : IsFirst old row
         here = first old row (good_before old.most_weight old.most_entries rows (entry_of row ∷ old.entries) good)
 
-        one_of : (is_left : Bool) (mid : Cached K V)
-            → ((m : Cached K V) → IsGood m.most_weight m.most_entries (onto rows m.entries) → PutsEntries eq m rows left answer new → Outcome answer left (onto rows m.entries) new)
+        one_of : (is_left : Bool) (mid : Cached K V S)
+            → ((m : Cached K V S) → IsGood m.most_weight m.most_entries (onto rows m.entries) → PutsEntries eq m rows left answer new → Outcome answer left (onto rows m.entries) new)
             → PutsOrLeaves eq old row (Ok is_left) mid → PutsEntries eq mid rows (cond is_left (suc left) left) answer new
             → Outcome answer left (onto rows (entry_of row ∷ old.entries)) new
         one_of true mid next may rest = absurd (too_heavy may.0)
@@ -132,7 +132,7 @@ module _ {K V : Type 0} (eq : K → K → Bool) where
             (subst (λ w. IsGood w mid.most_entries (onto rows mid.entries)) (sym now.1.0)
             (subst (λ n. IsGood old.most_weight n (onto rows mid.entries)) (sym now.1.1)
             (subst (λ es. IsGood old.most_weight old.most_entries (onto rows es)) (sym now.0) good))) rest)
-    back (row ∷ rows) old new left answer good (inr stop) =
+    back {S} (row ∷ rows) old new left answer good (inr stop) =
         let here = first old row (good_before old.most_weight old.most_entries rows (entry_of row ∷ old.entries) good) in
         subst (λ r. Outcome r left (onto rows (entry_of row ∷ old.entries)) new) (sym stop.1.0) (why old row stop.0.cause here stop.1.1.0 stop.1.1.1.0)
 
@@ -168,7 +168,7 @@ module _ {K V : Type 0} (eq : K → K → Bool) where
         }
 
     -- what was captured of a cache, and put into one without entries
-    pub comes_back : ((k : K) → eq k k ≡ true) → (cache old new : Cached K V) (rows : List (Row K V)) (answer : Result ℕ (Refused K V)) → IsCache eq cache
+    pub comes_back : {S : Type 0} → ((k : K) → eq k k ≡ true) → (cache old new : Cached K V S) (rows : List (Row K V)) (answer : Result ℕ (Refused K V)) → IsCache eq cache
         → old.entries ≡ [] → old.most_weight ≡ cache.most_weight → old.most_entries ≡ cache.most_entries
         → AreEach (IsEntryCopy IsCloneKey IsCloneValue) (map parts_of cache.entries) rows → PutsEntries eq old (reverse rows) 0 answer new
         → MatchResult answer (λ left. (left ≡ 0) × (new.entries ≡ map entry_of rows)) (λ refused. refused.cause ≡ Memory)

@@ -6,10 +6,10 @@ use Rattle.lru_frames.specs.declared.row.Row.{Row}
 use Rattle.lru_entries.specs.declared.entry.Entry.{Entry}
 use Rattle.lru_cache.specs.declared.cache.Refused.{Refused}
 use Rattle.lru_cache.specs.Cache.{Cached}
-use Rattle.lru_shared.specs.Calls.{MayPut}
+use Rattle.lru_shared.specs.Answers.{MayPut}
 use Rattle.lru_cache_captures.specs.Captures.{PutsEntries, PutsOrLeaves, MayPutOrLeave, MayPutEntries}
 
-module _ {K V : Type 0} (eq : K → K → Bool) (old mid : Cached K V) (row : Row K V) (rows : List (Row K V)) (left : ℕ) (answer : Result ℕ (Refused K V)) (new : Cached K V) where
+module _ {K V S : Type 0} (eq : K → K → Bool) (old mid : Cached K V S) (row : Row K V) (rows : List (Row K V)) (left : ℕ) (answer : Result ℕ (Refused K V)) (new : Cached K V S) where
   pub left_more : (is_left : Bool) → is_left ≡ true → PutsOrLeaves eq old row (Ok is_left) mid → PutsEntries eq mid rows (left + 1) answer new → PutsEntries eq old (row ∷ rows) left answer new
   left_more true is put rest = let more : left + 1 ≡ suc left = omega arith in inl (true, (mid, (put, subst (λ n. PutsEntries eq mid rows n answer new) more rest)))
   left_more false is put rest = absurd (false≢true is)

@@ -18,8 +18,8 @@ module _ {K V : Type 0} where
   until_row row = record { key = row.key; «data» = until row.«data».0 row.«data».1; weight = row.weight }
 
   -- the entries of each shard are put with their deadlines, as those of shards without them
-  abbrev pub PutsDeadlines : (K → K → Bool) → Cached K (Until V) → List (Vec (Row K (V × ℕ)) Global) → ℕ → Result ℕ (cached.Refused K (Until V)) → Cached K (Until V) → Type 0
-  PutsDeadlines eq old [] left answer new = (answer ≡ Ok left) × (new ≡ old)
-  PutsDeadlines eq old (rows ∷ shards) left answer new =
-      ((count : ℕ) × ((mid : Cached K (Until V)) × (PutsEntries eq old (map until_row (reverse rows.items)) 0 (Ok count) mid × PutsDeadlines eq mid shards (min (left + count) (2 ^ 64 - 1)) answer new)))
+  abbrev pub PutsDeadlines : {S : Type 0} → (K → K → Bool) → Cached K (Until V) S → List (Vec (Row K (V × ℕ)) Global) → ℕ → Result ℕ (cached.Refused K (Until V)) → Cached K (Until V) S → Type 0
+  PutsDeadlines {S} eq old [] left answer new = (answer ≡ Ok left) × (new ≡ old)
+  PutsDeadlines {S} eq old (rows ∷ shards) left answer new =
+      ((count : ℕ) × ((mid : Cached K (Until V) S) × (PutsEntries eq old (map until_row (reverse rows.items)) 0 (Ok count) mid × PutsDeadlines eq mid shards (min (left + count) (2 ^ 64 - 1)) answer new)))
       ⊎ ((refused : cached.Refused K (Until V)) × ((answer ≡ Err refused) × PutsEntries eq old (map until_row (reverse rows.items)) 0 (Err refused) new))

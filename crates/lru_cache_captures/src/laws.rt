@@ -11,8 +11,8 @@ use std::hash::Hash;
 
 /// The entries that were captured of a cache and are put back into one without entries, under the same limits, stand as they
 /// stood, and none is left out; or memory is refused. A clone of a key has to equal what the key equals.
-pub fn captured_entries_come_back<K: Hash + Clone, V: Clone>()
-    ensures { (cache old new : Cached K V) (rows : List (Row K V)) (answer : Result ℕ (cached.Refused K V))
+pub fn captured_entries_come_back<K: Hash + Clone, V: Clone, S>()
+    ensures { (cache old new : Cached K V S) (rows : List (Row K V)) (answer : Result ℕ (cached.Refused K V))
         → ((source clone other : K) → K.is_clone source clone → K.eq clone other ≡ K.eq source other)
         → IsCache K.eq cache → old.entries ≡ [] → old.most_weight ≡ cache.most_weight → old.most_entries ≡ cache.most_entries
         → AreEach (IsEntryCopy K.is_clone V.is_clone) (map parts_of cache.entries) rows → PutsEntries K.eq old (reverse rows) 0 answer new

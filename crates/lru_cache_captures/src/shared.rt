@@ -10,6 +10,7 @@ use lru_frames::marked::encode_marked;
 use lru_frames::row::Row;
 use lru_frames::source::Source;
 use lru_frames::stored::Stored;
+use lru_index::alike::SameHashes;
 use lru_shared::shared::SharedCache;
 use std::alloc::{AllocError, Global};
 use std::hash::{BuildHasher, Hash};
@@ -59,7 +60,7 @@ impl<'a, R: Wait, K: Hash + Clone + Stored, V: Clone + Stored, const N: usize> S
 }
 
 // Puts an entry, unless it is too heavy by itself; whether it is.
-fn is_left_out<K: Hash + Drop, V: Drop, const N: usize, S: BuildHasher>(
+fn is_left_out<K: Hash + Drop, V: Drop, const N: usize, S: BuildHasher + SameHashes>(
     rt: &impl Wait,
     cache: &SharedCache<K, V, N, S>,
     row: Row<K, V>,
@@ -81,7 +82,7 @@ fn is_left_out<K: Hash + Drop, V: Drop, const N: usize, S: BuildHasher>(
 ///
 /// A refusal is that of `put` for want of memory, or of a place: key and value are handed back, the entries behind them are
 /// there, and those before are dropped.
-pub fn restore_shard<K: Hash + Drop, V: Drop, const N: usize, S: BuildHasher>(
+pub fn restore_shard<K: Hash + Drop, V: Drop, const N: usize, S: BuildHasher + SameHashes>(
     rt: &impl Wait,
     cache: &SharedCache<K, V, N, S>,
     mut rows: Vec<Row<K, V>>,
@@ -104,7 +105,7 @@ pub fn restore_shard<K: Hash + Drop, V: Drop, const N: usize, S: BuildHasher>(
 /// how many were left out, or the most that can be told where they are more.
 ///
 /// A refusal is that of `restore_shard`: the entries of the shards before are there, and those of the shards behind are dropped.
-pub fn restore_shards<K: Hash + Drop, V: Drop, const N: usize, S: BuildHasher>(
+pub fn restore_shards<K: Hash + Drop, V: Drop, const N: usize, S: BuildHasher + SameHashes>(
     rt: &impl Wait,
     cache: &SharedCache<K, V, N, S>,
     shards: Vec<Vec<Row<K, V>>>,

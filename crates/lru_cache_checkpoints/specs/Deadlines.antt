@@ -27,7 +27,7 @@ abbrev pub IsSameUntil : {V : Type 0} → (V → V → Type 0) → V × ℕ → 
 IsSameUntil IsSame a b = IsSame a.0 b.0 × (a.1 ≡ b.1)
 
 -- rows are the copies of the entries of a cache with their deadlines, most recent first
-abbrev pub IsDeadlinesOf : {K V : Type 0} → (K → K → Type 0) → (V → V → Type 0) → Cached K (Until V) → List (Row K (V × ℕ)) → Type 0
+abbrev pub IsDeadlinesOf : {K V S : Type 0} → (K → K → Type 0) → (V → V → Type 0) → Cached K (Until V) S → List (Row K (V × ℕ)) → Type 0
 IsDeadlinesOf IsCloneKey IsCloneValue cache rows = AreEach (IsDeadlineCopy IsCloneKey IsCloneValue) (map parts_of cache.entries) rows
 
 module _ {K V : Type 0} (key_bytes : K → List ℕ) (IsKey : K → Type 0) (IsSameKey : K → K → Type 0) (data_bytes : V → List ℕ) (IsData : V → Type 0) (IsSameData : V → V → Type 0)
@@ -37,12 +37,12 @@ module _ {K V : Type 0} (key_bytes : K → List ℕ) (IsKey : K → Type 0) (IsS
   IsFoundUntil newest = IsFound key_bytes IsKey IsSameKey (until_bytes data_bytes) (IsUntil IsData) (IsSameUntil IsSameData) dir file_name files newest
 
   -- the entries of a checkpoint are put, or nothing is where there is none
-  abbrev pub PutsNewestDeadlines : Option (Checkpoint K (V × ℕ)) → Cached K (Until V) → Result ℕ (cached.Refused K (Until V)) → Cached K (Until V) → Type 0
+  abbrev pub PutsNewestDeadlines : {S : Type 0} → Option (Checkpoint K (V × ℕ)) → Cached K (Until V) S → Result ℕ (cached.Refused K (Until V)) → Cached K (Until V) S → Type 0
   PutsNewestDeadlines None old answer new = (answer ≡ Ok 0) × (new ≡ old)
   PutsNewestDeadlines (Some checkpoint) old answer new = PutsDeadlines eq old checkpoint.shards.items 0 answer new
 
   -- the newest checkpoint is put back, or nothing was loaded
-  abbrev pub RestoresDeadlines : Cached K (Until V) → Result Restored (RestoreError K (Until V)) → Cached K (Until V) → Type 0
+  abbrev pub RestoresDeadlines : {S : Type 0} → Cached K (Until V) S → Result Restored (RestoreError K (Until V)) → Cached K (Until V) S → Type 0
   RestoresDeadlines old (Ok restored) new =
       (newest : Option (Checkpoint K (V × ℕ))) × (IsFoundUntil newest × ((restored.generation ≡ number_of newest) × PutsNewestDeadlines newest old (Ok restored.left_out) new))
   RestoresDeadlines old (Err (Unloaded error)) new = IsFault error × (new ≡ old)

@@ -21,7 +21,7 @@ IfUnloaded P (Unloaded error) = P error
 IfUnloaded P (Refused refused) = Unit {0}
 
 -- rows are the copies of the entries of a cache, most recent first
-abbrev pub IsCopyOf : {K V : Type 0} → (K → K → Type 0) → (V → V → Type 0) → Cached K V → List (Row K V) → Type 0
+abbrev pub IsCopyOf : {K V S : Type 0} → (K → K → Type 0) → (V → V → Type 0) → Cached K V S → List (Row K V) → Type 0
 IsCopyOf IsCloneKey IsCloneValue cache rows = AreEach (IsEntryCopy IsCloneKey IsCloneValue) (map parts_of cache.entries) rows
 
 module _ {K V : Type 0} (key_bytes : K → List ℕ) (IsKey : K → Type 0) (IsSameKey : K → K → Type 0) (data_bytes : V → List ℕ) (IsData : V → Type 0) (IsSameData : V → V → Type 0)
@@ -34,12 +34,12 @@ module _ {K V : Type 0} (key_bytes : K → List ℕ) (IsKey : K → Type 0) (IsS
 
   module _ (eq : K → K → Bool) where
     -- the entries of a checkpoint are put, or nothing is where there is none
-    abbrev pub PutsNewest : Option (Checkpoint K V) → Cached K V → Result ℕ (cached.Refused K V) → Cached K V → Type 0
+    abbrev pub PutsNewest : {S : Type 0} → Option (Checkpoint K V) → Cached K V S → Result ℕ (cached.Refused K V) → Cached K V S → Type 0
     PutsNewest None old answer new = (answer ≡ Ok 0) × (new ≡ old)
     PutsNewest (Some checkpoint) old answer new = PutsShards eq old checkpoint.shards.items 0 answer new
 
     -- the newest checkpoint is put back, or nothing was loaded
-    abbrev pub Restores : Cached K V → Result Restored (RestoreError K V) → Cached K V → Type 0
+    abbrev pub Restores : {S : Type 0} → Cached K V S → Result Restored (RestoreError K V) → Cached K V S → Type 0
     Restores old (Ok restored) new = (newest : Option (Checkpoint K V)) × (IsFound newest × ((restored.generation ≡ number_of newest) × PutsNewest newest old (Ok restored.left_out) new))
     Restores old (Err (Unloaded error)) new = IsFault error × (new ≡ old)
     Restores old (Err (Refused refused)) new = (newest : Option (Checkpoint K V)) × (IsFound newest × PutsNewest newest old (Err refused) new)

@@ -79,7 +79,7 @@ module _ {K V : Type 0} (time : ℕ) where
       ∙ sym (ap (λ b. cond b (a.0 ∷ filter (is_past time) (map (λ x. x.0) rest)) (filter (is_past time) (map (λ x. x.0) rest))) no))
 
   -- so the entries go that are past their deadline, of those that were asked of
-  module _ {F G : Type 0} (step : F → Bor K → Bor (Until V) → ℕ → Bool → F → Type 0) (keep : F) (Step : G → Entry K (Until V) → G → Type 0) (visit : G) (most : ℕ) (old new : Cached K (Until V))
+  module _ {F G S : Type 0} (step : F → Bor K → Bor (Until V) → ℕ → Bool → F → Type 0) (keep : F) (Step : G → Entry K (Until V) → G → Type 0) (visit : G) (most : ℕ) (old new : Cached K (Until V) S)
       (s : RetainsLast step keep Step visit most old new) (each : (k : Bor K) (u : Bor (Until V)) (w : ℕ) (b : Bool) (q : F) → step keep k u w b q → (q ≡ keep) × (b ≡ not (nat_lt u.now.deadline time))) where
     told : map (λ a. a.1) s.asked ≡ map (λ a. stays a.0) s.asked
     told =

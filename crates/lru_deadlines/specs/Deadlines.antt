@@ -27,7 +27,7 @@ module _ {K V : Type 0} where
   before_last most es = take (length es - most) es
 
   -- of the last entries those go that are past their deadline, and each is shown. The others stay, and so do those before them
-  abbrev pub Sweeps : {F : Type 0} → (F → Entry K (Until V) → F → Type 0) → F → ℕ → ℕ → Cached K (Until V) → Cached K (Until V) → Type 0
+  abbrev pub Sweeps : {F S : Type 0} → (F → Entry K (Until V) → F → Type 0) → F → ℕ → ℕ → Cached K (Until V) S → Cached K (Until V) S → Type 0
   Sweeps Step visit time most old new =
       IsShown Step visit (filter (is_past time) (last_of most old.entries))
       × (new ≡ with_entries old (before_last most old.entries ++ filter (λ e. not (is_past time e)) (last_of most old.entries)))
@@ -43,16 +43,16 @@ module _ {K V : Type 0} where
     past_of time es key = where_it (is_past time) (entry_of eq es key)
 
     -- a key's entry is taken out where it is past its deadline
-    abbrev pub TakesPast : ℕ → Cached K (Until V) → Q → Option (Entry K (Until V)) → Cached K (Until V) → Type 0
+    abbrev pub TakesPast : {S : Type 0} → ℕ → Cached K (Until V) S → Q → Option (Entry K (Until V)) → Cached K (Until V) S → Type 0
     TakesPast time old key None new = (past_of time old.entries key ≡ None) × (new ≡ old)
     TakesPast time old key (Some past) new = (past_of time old.entries key ≡ Some past) × (new ≡ with_entries old (without eq old.entries key))
 
     -- a key's entry goes first, if it has one; one that is past its deadline is taken out, and handed over
-    abbrev pub PromotesLiving : ℕ → Cached K (Until V) → Q → Result Bool (Entry K (Until V)) → Cached K (Until V) → Type 0
+    abbrev pub PromotesLiving : {S : Type 0} → ℕ → Cached K (Until V) S → Q → Result Bool (Entry K (Until V)) → Cached K (Until V) S → Type 0
     PromotesLiving time old key (Ok found) new = (past_of time old.entries key ≡ None) × ((found ≡ is_some (entry_of eq old.entries key)) × (new ≡ with_entries old (used eq old.entries key)))
     PromotesLiving time old key (Err past) new = (past_of time old.entries key ≡ Some past) × (new ≡ with_entries old (without eq old.entries key))
 
     -- the same, and its value and deadline are lent to a closure, which may change both
-    abbrev pub UpdatesLiving : {R : Type 0} → (MutBor (Until V) → ℕ → R → MutBor (Until V) → Type 0) → ℕ → Cached K (Until V) → Q → Result (Option R) (Entry K (Until V)) → Cached K (Until V) → Type 0
+    abbrev pub UpdatesLiving : {R S : Type 0} → (MutBor (Until V) → ℕ → R → MutBor (Until V) → Type 0) → ℕ → Cached K (Until V) S → Q → Result (Option R) (Entry K (Until V)) → Cached K (Until V) S → Type 0
     UpdatesLiving post time old key (Ok answer) new = (past_of time old.entries key ≡ None) × UpdatesEntry eq post old key answer new
     UpdatesLiving post time old key (Err past) new = (past_of time old.entries key ≡ Some past) × (new ≡ with_entries old (without eq old.entries key))

@@ -1,7 +1,8 @@
 //! A cache of one owner, whose entries have deadlines.
 ghost use Rattle.std.specs.Prelude.{◌≡◌, length, map, is_some, nat_eq, nat_lt, IfOk};
 ghost use Rattle.std.specs.Option.{option_map, option_copied};
-ghost use Rattle.lru_cache.specs.Cache.{empty, entry_of, without, with_entries, parts_of, IsCache, Puts, PopsLast, Clears};
+ghost use Rattle.lru_index.specs.Hashing.{seeded, unseeded};
+ghost use Rattle.lru_cache.specs.Cache.{empty, hashes_from, entry_of, without, with_entries, parts_of, IsCache, Puts, PopsLast, Clears};
 ghost use Rattle.lru_entries.specs.Entries.{weight_of};
 ghost use Rattle.lru_deadlines.specs.Deadlines.{until, living, PromotesLiving, UpdatesLiving, TakesPast, Sweeps};
 
@@ -49,9 +50,9 @@ impl<K: Hash, V, S: BuildHasher> Model for DeadlineCache<K, V, S> {
     ghost use Rattle.lru_deadlines.specs.Codes.{until_code};
     ghost use Rattle.lru_deadlines.specs.declared.deadlines.Until.{Until};
 
-    ghost Value = { Cached K (Until V) };
+    ghost Value = { Cached K (Until V) S };
 
-    ghost coded = { cached_code K.code (until_code V.code) };
+    ghost coded = { cached_code K.code (until_code V.code) S.code };
 
     ghost view = { λ d. d.cache };
 }
@@ -64,7 +65,7 @@ impl<K: Hash + Drop, V: Drop> DeadlineCache<K, V, SeededHashes> {
     ///
     /// There is no memory.
     pub fn new(alloc: Global, most_weight: usize, most_entries: usize) -> Result<Self, AllocError>
-        ensures { IfOk result (λ cache. cache ≡ empty most_weight most_entries) }
+        ensures { IfOk result (λ cache. cache ≡ empty (hashes_from unseeded) most_weight most_entries) }
     {
         Ok(DeadlineCache {
             cache: Cache::new(alloc, most_weight, most_entries)?,
@@ -83,10 +84,30 @@ impl<K: Hash + Drop, V: Drop> DeadlineCache<K, V, SeededHashes> {
         most_entries: usize,
         seed: u64,
     ) -> Result<Self, AllocError>
-        ensures { IfOk result (λ cache. cache ≡ empty most_weight most_entries) }
+        ensures { IfOk result (λ cache. cache ≡ empty (hashes_from (seeded seed)) most_weight most_entries) }
     {
         Ok(DeadlineCache {
             cache: Cache::with_seed(alloc, most_weight, most_entries, seed)?,
+        })
+    }
+}
+
+impl<K: Hash + Drop, V: Drop, S: BuildHasher + Drop> DeadlineCache<K, V, S> {
+    /// A cache as `new` makes it, over hashers of the caller's.
+    ///
+    /// # Errors
+    ///
+    /// There is no memory.
+    pub fn with_hasher(
+        alloc: Global,
+        most_weight: usize,
+        most_entries: usize,
+        hash_builder: S,
+    ) -> Result<Self, AllocError>
+        ensures { IfOk result (λ cache. cache ≡ empty hash_builder most_weight most_entries) }
+    {
+        Ok(DeadlineCache {
+            cache: Cache::with_hasher(alloc, most_weight, most_entries, hash_builder)?,
         })
     }
 }

@@ -3,6 +3,7 @@ ghost use Rattle.std.specs.Prelude.{◌≡◌, ◌<◌, ◌≤◌, IfOk, IfErr};
 ghost use Rattle.lru_index.specs.Hashing.{key_hash, seeded, unseeded};
 ghost use Rattle.lru_index.specs.Index.{room_of, IsEmpty, IsFree, Finds, Inserts, Knows, Drops, gone_at, Indexes};
 
+use crate::alike::SameHashes;
 use crate::cells::{
     MOST_SHIFT, bits_of, cell_before, cell_of, empty_cells, fill, heads_of, home_of, lengthen,
     links_for, place_of, put_first, shift_for,
@@ -111,6 +112,22 @@ impl<S: BuildHasher> PlaceIndex<S> {
         ensures { result ≡ key_hash S.BuildHasher S.Hasher.Hasher Q.hash_input self.now.hash_builder query.now }
     {
         hash_of(&self.hash_builder, query)
+    }
+
+    /// `hash_of`, where a hash of the query is known, and what made it: unless that hashes otherwise than this index does,
+    /// the query is not hashed again.
+    #[inline(always)]
+    pub fn hash_as<Q: Hash>(&self, query: &Q, hash: u64, hashes: &S) -> u64
+    where
+        S: SameHashes,
+        requires { hash ≡ key_hash S.BuildHasher S.Hasher.Hasher Q.hash_input hashes.now query.now }
+        ensures { result ≡ key_hash S.BuildHasher S.Hasher.Hasher Q.hash_input self.now.hash_builder query.now }
+    {
+        if self.hash_builder.is_same(hashes) {
+            hash
+        } else {
+            self.hash_of(query)
+        }
     }
 
     /// The place of a key, if it has one.

@@ -8,6 +8,7 @@ ghost use Rattle.lru_pairs.specs.Representation.Nodes.{IsKept};
 
 use crate::iter::{PairsEntries, PairsKeys};
 use crate::nodes::Nodes;
+use lru_index::alike::SameHashes;
 use lru_index::hashing::SeededHashes;
 use lru_index::keys::{Keys, Query};
 use lru_index::place_index::PlaceIndex;
@@ -132,6 +133,18 @@ impl<K: Hash, V, S: BuildHasher> Pairs<K, V, S> {
         ensures { result ≡ key_hash S.BuildHasher S.Hasher.Hasher Q.hash_input self.now.hashes query.now }
     {
         self.index.hash_of(query)
+    }
+
+    /// `hash_of`, where a hash of the query is known, and what made it: unless that hashes otherwise than these pairs do, the
+    /// query is not hashed again.
+    #[inline(always)]
+    pub fn hash_as<Q: Hash>(&self, query: &Q, hash: u64, hashes: &S) -> u64
+    where
+        S: SameHashes,
+        requires { hash ≡ key_hash S.BuildHasher S.Hasher.Hasher Q.hash_input hashes.now query.now }
+        ensures { result ≡ key_hash S.BuildHasher S.Hasher.Hasher Q.hash_input self.now.hashes query.now }
+    {
+        self.index.hash_as(query, hash, hashes)
     }
 
     /// `find_by`, where the query's hash is known.
@@ -357,7 +370,19 @@ impl<K: Hash + Drop, V: Drop, S: BuildHasher> Pairs<K, V, S> {
         ensures hashes { self.new.hashes ≡ self.old.hashes }
         ensures valid { IsRecency K.eq self.old.held.rows }
     {
-        let place = self.index.remove_by(&self.nodes, query)?;
+        let hash = self.hash_of(&query);
+        self.remove_hashed(query, hash)
+    }
+
+    /// `remove_by`, where the query's hash is known.
+    #[inline(always)]
+    pub fn remove_hashed<Q: Query<K>>(&mut self, query: Q, hash: u64) -> Option<Taken<K, V>>
+        requires { hash ≡ key_hash S.BuildHasher S.Hasher.Hasher Q.hash_input self.old.hashes query }
+        ensures removes { Removes Q.stands_for self.old.held query result self.new.held }
+        ensures hashes { self.new.hashes ≡ self.old.hashes }
+        ensures valid { IsRecency K.eq self.old.held.rows }
+    {
+        let place = self.index.remove_hashed(&self.nodes, query, hash)?;
         Some(self.nodes.take(place))
     }
 

@@ -1,26 +1,67 @@
--- What the answers of a shared cache say by themselves, where nothing is known of the entries that other threads may change.
-use Rattle.std.specs.Prelude.{◌≡◌, ℕ, Bool, Option, Result, Ok, Err}
+-- What is answered of keys and values that stand in shards, and what is left there.
+use Rattle.std.specs.Prelude.{◌≡◌, ℕ, ◌⊎◌, Bool, List, map, Option, Some, None, Result, Ok, Err, IsSome}
+use Rattle.std.specs.List.{FoldsTo}
 use Rattle.std.specs.Borrow.{Bor, MutBor}
+use Rattle.std.specs.declared.alloc.AllocError.{AllocError}
 use Rattle.lru_entries.specs.declared.entry.Entry.{Entry}
+use Rattle.lru_cache.specs.declared.cache.Cause.TheVariants.{Memory as NoMemory}
 use Rattle.lru_cache.specs.declared.cache.Refused as cached
-use Rattle.lru_cache.specs.Cache.{Cached, Puts}
-use Rattle.lru_shared.specs.declared.shared.NotGot.{NotGot}
-use Rattle.lru_shared.specs.declared.shared.NotGot.TheVariants.{Memory, Unmade, Refused as Unput}
+use Rattle.lru_cache.specs.Cache.{Cached, entry_of, used, with_entries, parts_of, Puts}
+use Rattle.lru_shared.specs.declared.calls.NotGot.{NotGot}
+use Rattle.lru_shared.specs.declared.calls.NotGot.TheVariants.{Memory, Unmade, Refused as Unput}
 
--- what is handed back where no value is answered: the key, and what was made
-abbrev pub HandsBack : {K V E : Type 0} → (Result (V × ℕ) E → Type 0) → K → NotGot K V E → Type 0
-HandsBack Makes key (Memory k) = k ≡ key
-HandsBack Makes key (Unmade k e) = (k ≡ key) × Makes (Err e)
-HandsBack {K} {V} Makes key (Unput r) = (r.key ≡ key) × ((weight : ℕ) × Makes (Ok (r.value, weight)))
+module _ {K V : Type 0} where
+  -- by a key that equals it, or what stands for one: the value of its entry was shown to a closure, which answered this; or there is no entry, and nothing was called
+  abbrev pub ShowsEntry : {R Q : Type 0} → (K → Q → Bool) → (Bor V → R → Type 0) → List (Entry K V) → Q → Option R → Type 0
+  ShowsEntry eq post es key None = entry_of eq es key ≡ None
+  ShowsEntry eq post es key (Some answer) = (e : Entry K V) × ((entry_of eq es key ≡ Some e) × ((lent : Bor V) × ((lent.now ≡ e.value) × post lent answer)))
 
--- a closure that was lent a value may have answered this
-abbrev pub MayShow : {V R : Type 0} → (Bor V → R → Type 0) → R → Type 0
-MayShow {V} post answer = (lent : Bor V) × post lent answer
+  -- what a closure was shown of an entry: its key, its value and its weight
+  abbrev pub shown : Bor K × Bor V × ℕ → K × V × ℕ
+  shown item = (item.0.now, item.1.now, item.2)
 
--- the same, of one that may change the value and was told its weight
-abbrev pub MayLend : {V R : Type 0} → (MutBor V → ℕ → R → MutBor V → Type 0) → R → Type 0
-MayLend {V} post answer = (lent : MutBor V) × ((weight : ℕ) × ((left : MutBor V) × post lent weight answer left))
+  -- a closure was called with each of these entries, in order
+  abbrev pub VisitsEach : {F : Type 0} → (F → Bor K × Bor V × ℕ → F → Type 0) → F → List (Entry K V) → Type 0
+  VisitsEach {F} Step visit es = (items : List (Bor K × Bor V × ℕ)) × ((left : F) × ((map shown items ≡ map parts_of es) × FoldsTo Step visit items left))
 
--- an entry may have been put, or refused, so: there are entries of which it is told
-abbrev pub MayPut : {K V F : Type 0} → (K → K → Bool) → (F → Entry K V → F → Type 0) → F → K → V → ℕ → Result (Option (Entry K V)) (cached.Refused K V) → Type 0
-MayPut {K} {V} eq Step visit key value weight answer = (old : Cached K V) × ((new : Cached K V) × Puts eq Step visit old key value weight answer new)
+  -- a key that has an entry is used, and a clone of its value is answered, unless there is no memory for one; or it has none, and nothing changes
+  abbrev pub GetsClone : {S Q : Type 0} → (K → Q → Bool) → (V → V → Type 0) → Cached K V S → Q → Result (Option V) AllocError → Cached K V S → Type 0
+  GetsClone eq clones old key (Ok None) new = (entry_of eq old.entries key ≡ None) × (new ≡ old)
+  GetsClone eq clones old key (Ok (Some v)) new = (e : Entry K V) × ((entry_of eq old.entries key ≡ Some e) × (clones e.value v × (new ≡ with_entries old (used eq old.entries key))))
+  GetsClone eq clones old key (Err no) new = IsSome (entry_of eq old.entries key) × (new ≡ with_entries old (used eq old.entries key))
+
+-- ---- a value that is made where its key has none. `does` says what is known of all shards where that of the key is changed so
+module _ {K V S E F T : Type 0} (eq : K → K → Bool) (clones : V → V → Type 0) (Makes : Result (V × ℕ) E → Type 0) (Step : F → Entry K V → F → Type 0) (visit : F)
+    (does : T → (Cached K V S → Cached K V S → Type 0) → T → Type 0) (key : K) where
+  -- an entry of what was made is put, and a clone of its value is answered
+  abbrev pub PutsMade : V × ℕ → V → Cached K V S → Cached K V S → Type 0
+  PutsMade made v before after = clones made.0 v × ((was : Option (Entry K V)) × Puts eq Step visit before key made.0 made.1 (Ok was) after)
+
+  -- it is refused, or there was no memory for the clone, and nothing changes; it is handed back
+  abbrev pub RefusesMade : V × ℕ → cached.Refused K V → Cached K V S → Cached K V S → Type 0
+  RefusesMade made r before after = Puts eq Step visit before key made.0 made.1 (Err r) after ⊎ ((r.cause ≡ NoMemory) × ((r.key ≡ key) × ((r.value ≡ made.0) × (after ≡ before))))
+
+  -- what follows where a value was made, or none, for a key that had no entry
+  abbrev pub EndsMaking : T → Result (V × ℕ) E → Result V (NotGot K V E) → T → Type 0
+  EndsMaking old (Ok made) (Ok v) new = does old (PutsMade made v) new
+  EndsMaking old (Ok made) (Err (Unput r)) new = does old (RefusesMade made r) new
+  EndsMaking old (Ok made) (Err (Unmade k e)) new = ⊥
+  EndsMaking old (Ok made) (Err (Memory k)) new = ⊥
+  EndsMaking old (Err error) (Err (Unmade k e)) new = (k ≡ key) × ((e ≡ error) × does old (λ before after. after ≡ before) new)
+  EndsMaking old (Err error) (Ok v) new = ⊥
+  EndsMaking old (Err error) (Err (Unput r)) new = ⊥
+  EndsMaking old (Err error) (Err (Memory k)) new = ⊥
+
+  -- a key that has an entry is used, and a clone of its value is answered
+  abbrev pub Answers : Result V (NotGot K V E) → Cached K V S → Cached K V S → Type 0
+  Answers (Ok v) before after = GetsClone eq clones before key (Ok (Some v)) after
+  Answers (Err (Memory k)) before after = (k ≡ key) × (((no : AllocError) × GetsClone eq clones before key (Err no) after) ⊎ (after ≡ before))
+  Answers (Err (Unmade k e)) before after = ⊥
+  Answers (Err (Unput r)) before after = ⊥
+
+  -- that; or it has none, and one is made, under no lock, and put
+  abbrev pub GetsOrPuts : T → Result V (NotGot K V E) → T → Type 0
+  GetsOrPuts old answer new =
+      does old (Answers answer) new
+      ⊎ ((mid : T) × (does old (λ before after. (entry_of eq before.entries key ≡ None) × (after ≡ before)) mid
+      × ((made : Result (V × ℕ) E) × (Makes made × EndsMaking mid made answer new))))

@@ -1,2 +1,5 @@
+pub mod Shards
+pub mod Making
 pub mod Calls
-pub mod Shelf
+pub mod Sharded
+pub mod Answers

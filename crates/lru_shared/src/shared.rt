@@ -1,111 +1,30 @@
 //! A cache that threads share.
-ghost use Rattle.std.specs.Prelude.{◌≡◌, ◌<◌, ◌%◌, vec_len, true, IfOk, IfErr, IfSome, IsTrue};
-ghost use Rattle.lru_index.specs.Hashing.{hash_by, key_hash};
-ghost use Rattle.lru_shared.specs.Calls.{HandsBack, MayShow, MayLend, MayPut};
+ghost use Rattle.std.specs.Prelude.{◌≡◌, ◌<◌, length, vec_len, true, IfOk, IfErr, IfSome};
+ghost use Rattle.lru_shared.specs.Answers.{HandsBack, MayShow, MayLend, MayPut};
 
-use crate::shelf::Shelf;
+use crate::calls;
+pub use crate::calls::NotGot;
+use crate::locked::{Locked, Shard, Shelf};
+use crate::sharded::empty_caches;
 use crossbeam_utils::CachePadded;
-use lru_cache::cache::{Cache, Cause, Entry, Refused};
+use lru_cache::cache::{Cache, Entry, Refused};
+use lru_index::alike::SameHashes;
 use lru_index::hashing::SeededHashes;
 use lru_index::keys::Query;
-use lru_short_locks::ShortMutex;
 use std::alloc::{AllocError, Global};
 use std::hash::{BuildHasher, Hash};
-use std::sync::{Condvar, MutexGuard, Wait};
-
-// How many values the low bits of a hash have, by which its shard is told.
-const LOW: u64 = 4294967296;
-
-/// Why `get_or_put_with` answers no value.
-#[derive(Debug, Drop)]
-pub enum NotGot<K, V, E> {
-    /// There is no memory to clone the value that is there, or to note that one is being made. The key is handed back, and
-    /// nothing was made.
-    Memory(K),
-    /// No value was made. The key is handed back, and what the closure tells.
-    Unmade(K, E),
-    /// The entry was refused, or there is no memory to clone its value. Key and value are handed back.
-    Refused(Refused<K, V>),
-}
-
-// A shard: a shelf behind its lock, and what those wait on who ask for a value that another thread makes.
-#[derive(Drop)]
-struct Shard<K: Hash, V, S: BuildHasher> {
-    shelf: ShortMutex<Shelf<K, V, S>>,
-    ended: Condvar,
-}
-
-impl<K: Hash, V, S: BuildHasher> Shard<K, V, S> {
-    // As the shelf does, once the key has an entry or nobody makes one.
-    fn get_or_start(&self, rt: &impl Wait, key: &K, hash: u64) -> Result<Option<V>, AllocError>
-    where
-        V: Clone,
-    {
-        let mut shelf = self.ended.wait_while(
-            rt,
-            self.shelf.lock(rt),
-            |shelf| shelf.is_awaited(key, hash),
-        );
-        shelf.get_or_start(key, hash)
-    }
-
-    // Notes that no entry of a key with this hash is being made, and wakes who waits for it.
-    fn end(&self, rt: &impl Wait, hash: u64) {
-        self.shelf.lock(rt).end(hash);
-        self.ended.notify_all();
-    }
-}
-
-impl<K: Hash + Drop, V: Drop, S: BuildHasher> Shard<K, V, S> {
-    // Puts what was made, and answers a clone of its value. Who waits for it is woken in any case.
-    fn put_made<E: Drop, F>(
-        &self,
-        rt: &impl Wait,
-        key: K,
-        hash: u64,
-        made: Result<(V, usize), E>,
-        visit: F,
-    ) -> Result<V, NotGot<K, V, E>>
-    where
-        V: Clone,
-        F: FnMut(Entry<K, V>) + Drop,
-        requires { F.IsAlwaysCallable visit }
-        ensures { IfErr result (HandsBack (λ m. m ≡ made) key) }
-    {
-        let (value, weight) = match made {
-            Ok(made) => made,
-            Err(error) => {
-                self.end(rt, hash);
-                return Err(NotGot::Unmade(key, error));
-            }
-        };
-        let Ok(answer) = value.clone() else {
-            self.end(rt, hash);
-            let cause = Cause::Memory;
-            return Err(NotGot::Refused(Refused { cause, key, value }));
-        };
-        let put = self
-            .shelf
-            .lock(rt)
-            .put_made(hash, key, value, weight, visit);
-        self.ended.notify_all();
-        match put {
-            Ok(_) => Ok(answer),
-            Err(refused) => Err(NotGot::Refused(refused)),
-        }
-    }
-}
+use std::sync::{MutexGuard, Wait};
 
 /// A shard under its lock, which is held as long as this is there.
 #[derive(Drop)]
 pub struct LockedShard<'a, K: Hash, V, S: BuildHasher> {
-    shelf: MutexGuard<'a, Shelf<K, V, S>>,
+    shelf: MutexGuard<'a, Shelf<Cache<K, V, S>>>,
 }
 
 impl<'a, K: Hash, V, S: BuildHasher> LockedShard<'a, K, V, S> {
     /// The entries of the shard, as they are while the lock is held.
     pub fn cache(&self) -> &Cache<K, V, S> {
-        self.shelf.cache()
+        &self.shelf.cache
     }
 }
 
@@ -116,34 +35,30 @@ impl<'a, K: Hash, V, S: BuildHasher> LockedShard<'a, K, V, S> {
 /// neither after any call; so the whole is over no limit. What has to go for a new entry goes from its shard, the entry
 /// that was used longest ago there first; and an entry heavier than a shard's part is refused.
 ///
+/// What a call does under the lock of its shard is what the call of the same name does to that shard of a `ShardedCache`: both
+/// are written once.
+///
 /// A closure that is handed in is called under the lock, and must make no call that waits for the same shard; only what
 /// `get_or_put_with` makes is made under no lock.
 #[derive(Drop)]
 pub struct SharedCache<K: Hash, V, const N: usize, S: BuildHasher = SeededHashes> {
     // no two shards share a cache line, so that a thread at one doesn't slow a thread at another
-    shards: Vec<CachePadded<Shard<K, V, S>>>,
+    shards: Vec<CachePadded<Shard<Cache<K, V, S>>>>,
     hash_builder: S,
     ghost some: { 0 < N },
     ghost has_shards: { vec_len shards ≡ N },
 }
 
-// Shards without entries, each under its part of the limits.
-fn empty_shards<K: Hash + Drop, V: Drop, const N: usize>(
+// Puts each of these caches behind a lock of its own.
+fn behind_locks<C: Drop>(
     alloc: Global,
-    most_weight: usize,
-    most_entries: usize,
-    seed: Option<u64>,
-) -> Result<Vec<CachePadded<Shard<K, V, SeededHashes>>>, AllocError>
-    requires { 0 < N }
-    ensures { IfOk result (λ shards. vec_len shards ≡ N) }
+    caches: Vec<C>,
+) -> Result<Vec<CachePadded<Shard<C>>>, AllocError>
+    ensures { IfOk result (λ shards. vec_len shards ≡ vec_len caches) }
 {
-    let mut shards = Vec::with_capacity(alloc, N)?;
-    for _ in 0..N {
-        let shelf = Shelf::new(alloc, most_weight, most_entries, N, seed)?;
-        shards.push(CachePadded::new(Shard {
-            shelf: ShortMutex::new(shelf),
-            ended: Condvar::new(),
-        }))?;
+    let mut shards = Vec::with_capacity(alloc, caches.len())?;
+    for cache in caches {
+        shards.push(CachePadded::new(Shard::new(alloc, cache)))?;
     }
     Ok(shards)
 }
@@ -158,10 +73,7 @@ impl<K: Hash + Drop, V: Drop, const N: usize> SharedCache<K, V, N, SeededHashes>
     pub fn new(alloc: Global, most_weight: usize, most_entries: usize) -> Result<Self, AllocError>
         requires { 0 < N }
     {
-        Ok(SharedCache {
-            shards: empty_shards::<K, V, N>(alloc, most_weight, most_entries, None)?,
-            hash_builder: SeededHashes::fixed(),
-        })
+        SharedCache::with_hasher(alloc, most_weight, most_entries, SeededHashes::fixed())
     }
 
     /// A cache as `new` makes it, with a seed for the hashes: who picks the keys and does not know it can't pick keys that
@@ -178,9 +90,34 @@ impl<K: Hash + Drop, V: Drop, const N: usize> SharedCache<K, V, N, SeededHashes>
     ) -> Result<Self, AllocError>
         requires { 0 < N }
     {
+        let hash_builder = SeededHashes::with_seed(seed);
+        SharedCache::with_hasher(alloc, most_weight, most_entries, hash_builder)
+    }
+}
+
+impl<K: Hash + Drop, V: Drop, const N: usize, S: BuildHasher + Copy + Drop> SharedCache<
+    K,
+    V,
+    N,
+    S,
+> {
+    /// A cache as `new` makes it, over hashers of the caller's.
+    ///
+    /// # Errors
+    ///
+    /// There is no memory.
+    pub fn with_hasher(
+        alloc: Global,
+        most_weight: usize,
+        most_entries: usize,
+        hash_builder: S,
+    ) -> Result<Self, AllocError>
+        requires { 0 < N }
+    {
+        let caches = empty_caches(alloc, most_weight, most_entries, N, hash_builder)?;
         Ok(SharedCache {
-            shards: empty_shards::<K, V, N>(alloc, most_weight, most_entries, Some(seed))?,
-            hash_builder: SeededHashes::with_seed(seed),
+            shards: behind_locks(alloc, caches)?,
+            hash_builder,
         })
     }
 }
@@ -197,8 +134,8 @@ impl<K: Hash, V, const N: usize, S: BuildHasher> SharedCache<K, V, N, S> {
     /// How many entries there are: the sum over the shards, each read under its lock, one after another.
     pub fn len(&self, rt: &impl Wait) -> usize {
         let mut len = 0usize;
-        for shard in &self.shards {
-            len = len.saturating_add(shard.shelf.lock(rt).len());
+        for shard in 0..N {
+            len = len.saturating_add(calls::shard_len(&self.locked(rt), shard));
         }
         len
     }
@@ -206,35 +143,22 @@ impl<K: Hash, V, const N: usize, S: BuildHasher> SharedCache<K, V, N, S> {
     /// What the entries weigh together: the sum over the shards, each read under its lock, one after another.
     pub fn weight(&self, rt: &impl Wait) -> usize {
         let mut weight = 0usize;
-        for shard in &self.shards {
-            weight = weight.saturating_add(shard.shelf.lock(rt).weight());
+        for shard in 0..N {
+            weight = weight.saturating_add(calls::shard_weight(&self.locked(rt), shard));
         }
         weight
     }
 
-    // The shard of a hash. It takes the low bits: the index of a shard takes the high ones, which so differ among the keys
-    // of a shard as they do among all.
-    fn shard_of(&self, hash: u64) -> usize
-        ensures value { result ≡ hash % 4294967296 % N }
-        ensures below { result < N }
+    // The shards behind their locks, for which a call waits.
+    #[inline(always)]
+    fn locked<'a, W: Wait>(&'a self, rt: &'a W) -> Locked<'a, Cache<K, V, S>, W>
+        ensures some { 0 < N }
+        ensures many { length result.shards.now ≡ N }
     {
-        // Read for the proof alone, which learns from it what the type says of itself.
-        let _shards = &self.shards;
-        (hash % LOW) as usize % N
-    }
-
-    // The shard of what stands for a key. It is that of each key for which the query stands, as they are hashed alike.
-    fn shard_by<Q: Query<K>>(&self, query: Q) -> usize
-        ensures hashed { result ≡ hash_by S.BuildHasher S.Hasher.Hasher self.now.hash_builder (Q.hash_input query) % 4294967296 % N }
-        ensures same { (k : K) → IsTrue (Q.stands_for k query) → result ≡ key_hash S.BuildHasher S.Hasher.Hasher K.hash_input self.now.hash_builder k % 4294967296 % N }
-        ensures below { result < N }
-    {
-        self.shard_of(self.hash_builder.hash_one(&query))
-    }
-
-    // The same, and what it is.
-    fn shard_at<Q: Query<K>>(&self, query: Q) -> &Shard<K, V, S> {
-        &self.shards[self.shard_by(query)]
+        Locked {
+            shards: &self.shards,
+            rt,
+        }
     }
 
     /// Calls a closure with the key, the value and the weight of each entry of a shard, most recent first, under the lock of
@@ -243,7 +167,7 @@ impl<K: Hash, V, const N: usize, S: BuildHasher> SharedCache<K, V, N, S> {
         requires shard { shard < N }
         requires visit { F.IsAlwaysCallable visit }
     {
-        self.shards[shard].shelf.lock(rt).visit(visit);
+        calls::visit_each(&self.locked(rt), shard, visit);
     }
 
     /// Takes the lock of a shard, and holds it as long as what it answers is there. Meanwhile a call that waits for the same
@@ -260,9 +184,11 @@ impl<K: Hash, V, const N: usize, S: BuildHasher> SharedCache<K, V, N, S> {
     pub fn shard_len(&self, rt: &impl Wait, shard: usize) -> usize
         requires { shard < N }
     {
-        self.shards[shard].shelf.lock(rt).len()
+        calls::shard_len(&self.locked(rt), shard)
     }
+}
 
+impl<K: Hash, V, const N: usize, S: BuildHasher + SameHashes> SharedCache<K, V, N, S> {
     /// Whether a key has an entry.
     pub fn contains(&self, rt: &impl Wait, key: &K) -> bool {
         self.contains_by(rt, key)
@@ -270,7 +196,7 @@ impl<K: Hash, V, const N: usize, S: BuildHasher> SharedCache<K, V, N, S> {
 
     /// As `contains`, by what stands for the key.
     pub fn contains_by<Q: Query<K>>(&self, rt: &impl Wait, query: Q) -> bool {
-        self.shard_at(query).shelf.lock(rt).contains_by(query)
+        calls::contains(&self.locked(rt), &self.hash_builder, query)
     }
 
     /// Shows the value of a key to `show`, under the lock, and answers what it does. The key is not used by that. One
@@ -292,10 +218,7 @@ impl<K: Hash, V, const N: usize, S: BuildHasher> SharedCache<K, V, N, S> {
         requires { F.IsAlwaysCallable show }
         ensures { IfSome result (MayShow (F.post show)) }
     {
-        self.shard_at(query)
-            .shelf
-            .lock(rt)
-            .peek_with_by(query, show)
+        calls::peek(&self.locked(rt), &self.hash_builder, query, show)
     }
 
     /// Uses a key, and answers a clone of its value, made under the lock.
@@ -319,7 +242,7 @@ impl<K: Hash, V, const N: usize, S: BuildHasher> SharedCache<K, V, N, S> {
     where
         V: Clone,
     {
-        self.shard_at(query).shelf.lock(rt).get_by(query)
+        calls::get(&mut self.locked(rt), &self.hash_builder, query)
     }
 
     /// Uses a key, lends its value to `show` with its weight, under the lock, and answers what `show` does. Its weight
@@ -346,11 +269,11 @@ impl<K: Hash, V, const N: usize, S: BuildHasher> SharedCache<K, V, N, S> {
         requires { F.IsAlwaysCallable show }
         ensures { IfSome result (MayLend (F.post show)) }
     {
-        self.shard_at(query).shelf.lock(rt).get_with_by(query, show)
+        calls::update(&mut self.locked(rt), &self.hash_builder, query, show)
     }
 }
 
-impl<K: Hash + Drop, V: Drop, const N: usize, S: BuildHasher> SharedCache<K, V, N, S> {
+impl<K: Hash + Drop, V: Drop, const N: usize, S: BuildHasher + SameHashes> SharedCache<K, V, N, S> {
     /// Puts an entry first in the shard of its key, in place of its key's, and answers that one. Then the entries of that
     /// shard that were used longest ago go, as many as have to for the others to be within the shard's part of the limits,
     /// and each is handed to `visit`, under the lock.
@@ -371,8 +294,14 @@ impl<K: Hash + Drop, V: Drop, const N: usize, S: BuildHasher> SharedCache<K, V, 
         ensures value { IfErr result (λ refused. refused.value ≡ value) }
         ensures puts { MayPut K.eq (λ p x q. F.step p x tt q) visit key value weight result }
     {
-        let shard = self.shard_at(&key);
-        shard.shelf.lock(rt).put(key, value, weight, visit)
+        calls::put(
+            &mut self.locked(rt),
+            &self.hash_builder,
+            key,
+            value,
+            weight,
+            visit,
+        )
     }
 
     /// Takes a key's entry out.
@@ -386,7 +315,7 @@ impl<K: Hash + Drop, V: Drop, const N: usize, S: BuildHasher> SharedCache<K, V, 
     pub fn remove_by<Q: Query<K>>(&self, rt: &impl Wait, query: Q) -> Option<Entry<K, V>>
         ensures { IfSome result (λ entry. Q.stands_for entry.key query ≡ true) }
     {
-        self.shard_at(query).shelf.lock(rt).remove_by(query)
+        calls::remove(&mut self.locked(rt), &self.hash_builder, query)
     }
 
     /// Uses a key, and answers a clone of its value; or, where it has none, puts an entry of what `make` makes, value and
@@ -416,12 +345,6 @@ impl<K: Hash + Drop, V: Drop, const N: usize, S: BuildHasher> SharedCache<K, V, 
         requires visit { F.IsAlwaysCallable visit }
         ensures { IfErr result (HandsBack (M.post make) key) }
     {
-        let hash = self.hash_builder.hash_one(&key);
-        let shard = &self.shards[self.shard_of(hash)];
-        match shard.get_or_start(rt, &key, hash) {
-            Ok(Some(value)) => Ok(value),
-            Ok(None) => shard.put_made(rt, key, hash, make(), visit),
-            Err(AllocError) => Err(NotGot::Memory(key)),
-        }
+        calls::get_or_put_with(&mut self.locked(rt), &self.hash_builder, key, make, visit)
     }
 }

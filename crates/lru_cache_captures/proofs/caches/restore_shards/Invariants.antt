@@ -9,7 +9,7 @@ use Rattle.lru_cache_captures.proofs.caches.restore_shards.Given as goal
 -- the shards that are to be put yet are put behind those that were
 abbrev pub invariant-loop-rows : goal.invariant-loop-rows
 invariant-loop-rows g l =
-    ((answer : Result ℕ (Refused g.row.K.Denot g.row.V.Denot)) (new : Cached g.row.K.Denot g.row.V.Denot)
+    ((answer : Result ℕ (Refused g.row.K.Denot g.row.V.Denot)) (new : Cached g.row.K.Denot g.row.V.Denot g.row.S.Denot)
     → PutsShards g.K.PartialEq.eq l.cache (into_iter_items l.rest) l.left_out answer new → PutsShards g.K.PartialEq.eq l.fn.cache l.fn.shards.items 0 answer new)
     × (length (into_iter_items l.rest) ≡ into_iter_len l.rest)
 

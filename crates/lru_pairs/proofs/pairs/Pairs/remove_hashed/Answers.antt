@@ -2,7 +2,7 @@ use Rattle.lru_index.specs.Hashing.{key_hash}
 use Rattle.std.proofs.Common.{◌≡◌, subst, sym, ap, refl, Some, None}
 use Rattle.lru_rows.specs.Rows.{IsRecency, Removes, row_of}
 use Rattle.lru_pairs.proofs.Kept.{seen_held, valid_rows, finds_by, at_found, seen_removed, kept_gone}
-use Rattle.lru_pairs.proofs.pairs.Pairs.remove_by.Goals as goal
+use Rattle.lru_pairs.proofs.pairs.Pairs.remove_hashed.Goals as goal
 
 pub returns-in_err-place-clause-removes : goal.returns-in_err-place-clause-removes
 returns-in_err-place-clause-removes g c =
@@ -14,7 +14,7 @@ returns-in_err-place-clause-valid g c = subst (λ r. IsRecency g.K.PartialEq.eq 
 
 pub invariant_of-self-2 : goal.invariant_of-self-2
 invariant_of-self-2 g c =
-    kept_gone g.K.PartialEq.eq (key_hash g.S.BuildHasher g.S.Hasher.Hasher g.K.Hash.hash_input) c.self.inside.nodes c.self.inside.index c.self.invariant c.in_ok-place.place c.take.new.self c.take.ensures.rows c.take.ensures.valid c.remove_by.new.self c.in_ok-place.ensures.indexes c.in_ok-place.ensures.room
+    kept_gone g.K.PartialEq.eq (key_hash g.S.BuildHasher g.S.Hasher.Hasher g.K.Hash.hash_input) c.self.inside.nodes c.self.inside.index c.self.invariant c.in_ok-place.place c.take.new.self c.take.ensures.rows c.take.ensures.valid c.remove_hashed.new.self c.in_ok-place.ensures.indexes c.in_ok-place.ensures.room
 
 pub returns-clause-removes : goal.returns-clause-removes
 returns-clause-removes g c =

@@ -1,0 +1,148 @@
+//! Shards behind locks.
+ghost use Rattle.std.specs.Prelude.{◌≡◌, ◌∷◌, ◌++◌, [], length, OnOk, OnErr};
+ghost use Rattle.lru_shared.specs.Making.{is_among, left_of};
+ghost use Rattle.lru_shared.specs.Shards.{MaySee, MayDo};
+
+use crate::shards::Shards;
+use crossbeam_utils::CachePadded;
+use lru_short_locks::ShortMutex;
+use std::alloc::{AllocError, Global};
+use std::sync::{Condvar, Wait};
+
+// Which values are being made for a shard, by the hashes of their keys: the keys themselves stay with those who make them.
+#[derive(Drop)]
+pub(crate) struct Making {
+    hashes: Vec<u64>,
+}
+
+impl Making {
+    // None is being made.
+    pub(crate) fn none(alloc: Global) -> Self
+        ensures { result.hashes.items ≡ [] }
+    {
+        Making {
+            hashes: Vec::new(alloc),
+        }
+    }
+
+    // Whether one of this hash is.
+    pub(crate) fn contains(&self, hash: u64) -> bool
+        ensures { result ≡ is_among self.now.hashes.items hash }
+    {
+        self.hashes.contains(&hash)
+    }
+
+    // Notes that one of this hash is.
+    pub(crate) fn add(&mut self, hash: u64) -> Result<(), AllocError>
+        ensures made { OnOk result (self.new.hashes.items ≡ self.old.hashes.items ++ hash ∷ []) }
+        ensures refused { OnErr result (self.new.hashes.items ≡ self.old.hashes.items) }
+    {
+        self.hashes.push(hash)?;
+        Ok(())
+    }
+
+    // Notes that none of this hash is any longer.
+    pub(crate) fn end(&mut self, hash: u64)
+        ensures { self.new.hashes.items ≡ left_of self.old.hashes.items hash }
+    {
+        self.hashes.retain(|other| *other != hash);
+    }
+}
+
+// What lies behind the lock of a shard: a cache, and which values are being made for it.
+#[derive(Drop)]
+pub(crate) struct Shelf<C> {
+    pub(crate) cache: C,
+    pub(crate) making: Making,
+}
+
+// A shard: a shelf behind its lock, and what those wait on who ask for a value that another thread makes.
+#[derive(Drop)]
+pub(crate) struct Shard<C> {
+    pub(crate) shelf: ShortMutex<Shelf<C>>,
+    pub(crate) ended: Condvar,
+}
+
+impl<C> Shard<C> {
+    // A shard of a cache, for which nothing is being made.
+    pub(crate) fn new(alloc: Global, cache: C) -> Self {
+        let making = Making::none(alloc);
+        Shard {
+            shelf: ShortMutex::new(Shelf { cache, making }),
+            ended: Condvar::new(),
+        }
+    }
+}
+
+// Shards, each behind its lock, and what waits for the locks.
+#[derive(Drop)]
+pub(crate) struct Locked<'a, C, W> {
+    pub(crate) shards: &'a [CachePadded<Shard<C>>],
+    pub(crate) rt: &'a W,
+}
+
+// Each call takes the lock of its shard, does once what it is to do, and lets go of it.
+impl<'a, C, W: Wait> Shards<C> for Locked<'a, C, W> {
+    ghost many = { λ l. length l.shards.now };
+
+    ghost sees = { λ l i P. MaySee P };
+
+    ghost does = { λ l i P n. MayDo P };
+
+    ghost sees_more = { λ P Q more s i d. (d.0, more d.0 d.1) };
+
+    ghost does_more = { λ P Q more s t i d. (d.0, (d.1.0, more d.0 d.1.0 d.1.1)) };
+
+    #[inline(always)]
+    fn count(&self) -> usize {
+        self.shards.len()
+    }
+
+    #[inline(always)]
+    fn look<R, F: FnOnce(&C) -> R>(&self, shard: usize, look: F) -> R {
+        let shelf = self.shards[shard].shelf.lock(self.rt);
+        look(&shelf.cache)
+    }
+
+    #[inline(always)]
+    fn on<R, F: FnOnce(&mut C) -> R + Drop>(&mut self, shard: usize, act: F) -> R {
+        let mut shelf = self.shards[shard].shelf.lock(self.rt);
+        act(&mut shelf.cache)
+    }
+
+    #[inline(always)]
+    fn begin<V: Drop, P, F>(
+        &mut self,
+        shard: usize,
+        hash: u64,
+        is_there: P,
+        act: F,
+    ) -> Result<Option<V>, AllocError>
+    where
+        P: Fn(&C) -> bool + Drop,
+        F: FnOnce(&mut C) -> Result<Option<V>, AllocError> + Drop,
+    {
+        let shard = &self.shards[shard];
+        let mut shelf = shard.ended.wait_while(
+            self.rt,
+            shard.shelf.lock(self.rt),
+            |shelf| shelf.making.contains(hash) && !is_there(&shelf.cache),
+        );
+        let found = act(&mut shelf.cache)?;
+        if found.is_none() {
+            shelf.making.add(hash)?;
+        }
+        Ok(found)
+    }
+
+    #[inline(always)]
+    fn finish<R, F: FnOnce(&mut C) -> R + Drop>(&mut self, shard: usize, hash: u64, act: F) -> R {
+        let shard = &self.shards[shard];
+        let mut shelf = shard.shelf.lock(self.rt);
+        shelf.making.end(hash);
+        let answer = act(&mut shelf.cache);
+        drop(shelf);
+        shard.ended.notify_all();
+        answer
+    }
+}

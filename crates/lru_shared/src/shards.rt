@@ -1,0 +1,124 @@
+//! Shards that a call can be done on, of one owner or behind locks. What is called on them is written once, over both.
+ghost use Rattle.std.specs.Prelude.{◌≡◌, ℕ, ◌<◌, vec_len, Option, Result};
+ghost use Rattle.lru_shared.specs.Shards.{Looks, Acts, Begins, Sees, Owns};
+
+use std::alloc::AllocError;
+
+/// Shards that are told by their numbers, from 0 on.
+pub trait Shards<S> {
+    // how many there are
+    ghost many: { Self → ℕ };
+
+    // what is known of the shard of a number, where it is so
+    ghost sees: { Self → ℕ → (S → Type 0) → Type 0 };
+
+    // what is known of all shards afterwards, where that of a number is changed so
+    ghost does: { Self → ℕ → (S → S → Type 0) → Self → Type 0 };
+
+    // what follows from what is known of a shard is known of it
+    ghost sees_more: { (P Q : S → Type 0) → ((a : S) → P a → Q a) → (s : Self) (i : ℕ) → sees s i P → sees s i Q };
+
+    // what follows from how a shard is changed is known of that
+    ghost does_more: { (P Q : S → S → Type 0) → ((a b : S) → P a b → Q a b) → (s t : Self) (i : ℕ) → does s i P t → does s i Q t };
+
+    /// How many shards there are.
+    fn count(&self) -> usize
+        ensures { result ≡ many self.now };
+
+    /// Shows a shard to a closure, and answers what that does.
+    fn look<R, F: FnOnce(&S) -> R>(&self, shard: usize, look: F) -> R
+        requires shard { shard < many self.now }
+        requires look { F.IsAlwaysCallable look }
+        ensures { sees self.now shard (Looks (F.post look) result) };
+
+    /// Lends a shard to a closure, and answers what that does.
+    fn on<R, F: FnOnce(&mut S) -> R + Drop>(&mut self, shard: usize, act: F) -> R
+        requires shard { shard < many self.old }
+        requires act { F.IsAlwaysCallable act }
+        ensures acts { does self.old shard (Acts (F.post act) result) self.new }
+        ensures many { many self.new ≡ many self.old };
+
+    /// Lends a shard to a closure that looks for a value by a hash, and answers what that does. Where others use the shards
+    /// too, it waits as long as one of them makes a value of that hash and `is_there` answers false; and where the closure
+    /// finds none, it is noted that one is being made, until `finish` is called.
+    ///
+    /// # Errors
+    ///
+    /// What the closure tells; or there is no memory for the note, and what it found is let go.
+    fn begin<V: Drop, P, F>(
+        &mut self,
+        shard: usize,
+        hash: u64,
+        is_there: P,
+        act: F,
+    ) -> Result<Option<V>, AllocError>
+    where
+        P: Fn(&S) -> bool + Drop,
+        F: FnOnce(&mut S) -> Result<Option<V>, AllocError> + Drop,
+        requires shard { shard < many self.old }
+        requires is_there { P.IsAlwaysCallable is_there }
+        requires act { F.IsAlwaysCallable act }
+        ensures acts { does self.old shard (Begins (F.post act) result) self.new }
+        ensures many { many self.new ≡ many self.old };
+
+    /// As `on`; and a value of this hash is no longer being made: who waits for it goes on.
+    fn finish<R, F: FnOnce(&mut S) -> R + Drop>(&mut self, shard: usize, hash: u64, act: F) -> R
+        requires shard { shard < many self.old }
+        requires act { F.IsAlwaysCallable act }
+        ensures acts { does self.old shard (Acts (F.post act) result) self.new }
+        ensures many { many self.new ≡ many self.old };
+}
+
+/// Shards of one owner. Nobody else makes a value meanwhile.
+#[derive(Drop)]
+pub struct Owned<S> {
+    /// The shards, in the order of their numbers.
+    pub shards: Vec<S>,
+}
+
+impl<S> Shards<S> for Owned<S> {
+    ghost many = { λ o. vec_len o.shards };
+
+    ghost sees = { λ o i P. Sees o.shards.items i P };
+
+    ghost does = { λ o i P n. Owns o.shards.items i P n.shards.items };
+
+    ghost sees_more = { λ P Q more s i d. (d.0, (d.1.0, more d.0 d.1.1)) };
+
+    ghost does_more = { λ P Q more s t i d. (d.0, (d.1.0, (d.1.1.0, (more d.0 d.1.0 d.1.1.1.0, d.1.1.1.1)))) };
+
+    #[inline(always)]
+    fn count(&self) -> usize {
+        self.shards.len()
+    }
+
+    #[inline(always)]
+    fn look<R, F: FnOnce(&S) -> R>(&self, shard: usize, look: F) -> R {
+        look(&self.shards[shard])
+    }
+
+    #[inline(always)]
+    fn on<R, F: FnOnce(&mut S) -> R + Drop>(&mut self, shard: usize, act: F) -> R {
+        act(&mut self.shards[shard])
+    }
+
+    #[inline(always)]
+    fn begin<V: Drop, P, F>(
+        &mut self,
+        shard: usize,
+        _hash: u64,
+        _is_there: P,
+        act: F,
+    ) -> Result<Option<V>, AllocError>
+    where
+        P: Fn(&S) -> bool + Drop,
+        F: FnOnce(&mut S) -> Result<Option<V>, AllocError> + Drop,
+    {
+        act(&mut self.shards[shard])
+    }
+
+    #[inline(always)]
+    fn finish<R, F: FnOnce(&mut S) -> R + Drop>(&mut self, shard: usize, _hash: u64, act: F) -> R {
+        act(&mut self.shards[shard])
+    }
+}
