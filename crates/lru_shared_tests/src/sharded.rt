@@ -9,45 +9,71 @@ use std::test::Fail;
 
 type Numbers = ShardedCache<u64, u64, 4>;
 
-// Whether each call does as it is told, by a key and by what stands for it.
-fn calls_answer(alloc: Global) -> Result<bool, AllocError> {
-    let mut cache = ShardedCache::<String, u64, 4>::with_seed(alloc, 40, 40, 7)?;
-    let put = cache.put(format!(in alloc; "one")?, 10, 2, |_| {});
-    let again = cache.put(format!(in alloc; "one")?, 11, 4, |_| {});
-    let is_put = matches!(put, Ok(None))
-        && match again {
-            Ok(Some(entry)) => (entry.value, entry.weight) == (10, 2),
-            _ => false,
-        };
-    let is_found = cache.contains("one")
-        && !cache.contains("two")
-        && cache.peek_with("one", |value: &u64| *value) == Some(11)
-        && cache.get("one")? == Some(11)
-        && cache.get("two")?.is_none()
-        && cache.get_with("one", |value: &mut u64, weight: usize| {
-            *value = value.wrapping_add(1);
-            weight
-        }) == Some(4);
+type Texts = ShardedCache<String, u64, 4>;
+
+// Puts a value under one key. Whether it is let in, and replaces none.
+fn is_put(alloc: Global, cache: &mut Texts, value: u64, weight: usize) -> Result<bool, AllocError> {
+    let key = format!(in alloc; "one")?;
+    Ok(matches!(cache.put(key, value, weight, |_| {}), Ok(None)))
+}
+
+// Whether the value of a key is shown, cloned and changed, and that of a key without an entry is not.
+fn are_shown(cache: &mut Texts) -> Result<bool, AllocError> {
+    let is_there = cache.contains("one") & !cache.contains("two");
+    let peeked = cache.peek_with("one", |value: &u64| *value) == Some(11);
+    let got = cache.get("one")? == Some(11) && cache.get("two")?.is_none();
+    let lent = cache.get_with("one", |value: &mut u64, weight: usize| {
+        *value = value.wrapping_add(1);
+        weight
+    });
+    Ok(is_there & peeked & got & (lent == Some(4)))
+}
+
+// Whether a missing value is made.
+fn is_made(alloc: Global, cache: &mut Texts) -> Result<bool, AllocError> {
     let made = cache.get_or_put_with(
         format!(in alloc; "two")?,
         || -> Result<(u64, usize), u8> { Ok((20, 3)) },
         |_| {},
     );
-    let mut total = (0usize, 0usize);
-    let mut shown = 0u64;
-    for shard in 0..cache.shards() {
-        total.0 = total.0.saturating_add(cache.shard_len(shard));
-        total.1 = total.1.saturating_add(cache.shard_weight(shard));
+    Ok(matches!(made, Ok(20)))
+}
+
+// How many entries the shards have, what they weigh, and the sum of their values.
+fn totals(cache: &Texts) -> (usize, usize, u64) {
+    let mut totals = (0usize, 0usize, 0u64);
+    for shard in 0..4 {
+        totals.0 = totals.0.saturating_add(cache.shard_len(shard));
+        totals.1 = totals.1.saturating_add(cache.shard_weight(shard));
+        let mut shown = 0u64;
         cache.iter_for_each(shard, |(_key, value, _weight): (&String, &u64, usize)| {
             shown = shown.wrapping_add(*value)
         });
+        totals.2 = totals.2.wrapping_add(shown);
     }
-    let is_counted = total == (2, 7) && shown == 32;
-    let taken = match cache.remove("one") {
-        Some(entry) => entry.value == 12 && cache.remove("one").is_none(),
+    totals
+}
+
+// Whether an entry is taken out once.
+fn is_removed(cache: &mut Texts) -> bool {
+    let is_taken = match cache.remove("one") {
+        Some(entry) => entry.value == 12,
         None => false,
     };
-    Ok(is_put && is_found && matches!(made, Ok(20)) && is_counted && taken)
+    is_taken & cache.remove("one").is_none()
+}
+
+// Whether each call does as it is told, by a key and by what stands for it.
+fn calls_answer(alloc: Global) -> Result<bool, AllocError> {
+    let mut cache = Texts::with_seed(alloc, 40, 40, 7)?;
+    Ok(
+        is_put(alloc, &mut cache, 10, 2)?
+            && !is_put(alloc, &mut cache, 11, 4)?
+            && are_shown(&mut cache)?
+            && is_made(alloc, &mut cache)?
+            && totals(&cache) == (2, 7, 32)
+            && is_removed(&mut cache),
+    )
 }
 
 #[test]
