@@ -1,18 +1,16 @@
 -- An entry of a key that has none is put first, once what has to go for it went.
-use Rattle.std.proofs.Common.{◌≡◌, ℕ, ◌+◌, ◌-◌, ◌<◌, ◌≤◌, List, [], ◌∷◌, ◌++◌, length, Some, None, Ok, Err, refl, sym, ap, ◌∙◌, subst, arith, append-nil}
-use Rattle.std.specs.Prelude.{Option, Bool, is_some, max}
+use Rattle.std.proofs.Common.{◌≡◌, ℕ, ◌+◌, ◌-◌, ◌<◌, ◌≤◌, List, [], ◌∷◌, ◌++◌, length, None, Ok, Err, refl, sym, ap, ◌∙◌, subst, arith, append-nil}
+use Rattle.std.specs.Prelude.{Bool, max}
 use Rattle.std.specs.Option.{option_map}
-use Rattle.std.proofs.lemmas.Bool.{false≢true}
 use Rattle.std.proofs.lemmas.List.{length-append}
 use Rattle.lru_rows.specs.declared.rows.NoPlace.{NoPlace}
 use Rattle.lru_rows.specs.declared.rows.NoPlace.TheVariants.{Memory as NoMemory, Full as NoMore}
-use Rattle.lru_rows.specs.Rows.{Placed, placed, Recency, recency, row_of, most_rows, LacksPlace, IsRecency}
+use Rattle.lru_rows.specs.Rows.{Placed, placed, Recency, recency, row_of, LacksPlace, IsRecency}
 use Rattle.lru_entries.specs.declared.entry.Entry.{Entry}
-use Rattle.lru_entries.specs.Entries.{IsShown, entry, entry_in, entries_in, weight_in}
+use Rattle.lru_entries.specs.Entries.{entry, entry_in, entries_in, weight_in}
 use Rattle.lru_entries.specs.Partings.{Shrinks}
 use Rattle.lru_entries.proofs.Rows.{length-entries, weight-cons}
 use Rattle.lru_cache.specs.declared.cache.Refused.{Refused}
-use Rattle.lru_cache.specs.declared.cache.Cause.{Cause}
 use Rattle.lru_cache.specs.Cache.{Cached, cause_of, with_entries, entry_of, without, Fit, Leaves, MayRefuse, Puts}
 use Rattle.lru_cache.specs.Representation.{cached_in, IsKept}
 use Rattle.lru_cache.proofs.Entries.{entry-row}

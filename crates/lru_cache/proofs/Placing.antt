@@ -1,20 +1,16 @@
 -- An entry is put first, once what has to go for it went.
-use Rattle.std.proofs.Common.{◌≡◌, ℕ, ◌+◌, ◌-◌, ◌<◌, ◌≤◌, List, [], ◌∷◌, ◌++◌, length, Some, None, refl, sym, ap, ◌∙◌, subst, arith, cond, append-nil, inl, inr}
+use Rattle.std.proofs.Common.{◌≡◌, ℕ, ◌+◌, ◌≤◌, List, [], ◌∷◌, ◌++◌, length, Some, None, refl, sym, ap, ◌∙◌, subst, arith, cond}
 use Rattle.std.specs.Prelude.{Option, Bool, is_some}
 use Rattle.std.specs.Option.{option_map}
 use Rattle.std.proofs.lemmas.Bool.{false≢true, cond_both}
 use Rattle.std.proofs.lemmas.List.{length-append, map-append}
-use Rattle.lru_rows.specs.declared.rows.NoPlace.{NoPlace}
-use Rattle.lru_rows.specs.declared.rows.NoPlace.TheVariants.{Memory, Full}
-use Rattle.lru_rows.specs.Rows.{Placed, placed, Recency, recency, row_of, most_rows, LacksPlace}
+use Rattle.lru_rows.specs.Rows.{Placed, Recency, recency, row_of}
 use Rattle.lru_entries.specs.declared.entry.Entry.{Entry}
-use Rattle.lru_cache.specs.Cache.{Clears, with_entries, Cached, entry_of, Fit, Leaves, Limits}
-use Rattle.lru_entries.specs.Entries.{IsShown, entry, entry_in, entries_in}
-use Rattle.lru_cache.specs.Representation.{cached_in, IsKept}
+use Rattle.lru_cache.specs.Cache.{Clears, with_entries, Cached, Fit, Leaves, Limits}
+use Rattle.lru_entries.specs.Entries.{IsShown, entry_in, entries_in}
+use Rattle.lru_cache.specs.Representation.{cached_in}
 use Rattle.lru_entries.specs.Partings.{RowsFit, Shrinks}
 use Rattle.lru_entries.proofs.Rows.{weight-entries, length-entries}
-use Rattle.lru_cache.proofs.Entries.{entry-row}
-use Rattle.lru_cache.proofs.Views.{entries_are}
 
 pub none_of : {A B : Type 0} (f : A → B) (o : Option A) → option_map f o ≡ None → o ≡ None
 none_of f None e = refl

@@ -1,16 +1,12 @@
 -- An entry is put in place of its key's.
-use Rattle.std.proofs.Common.{◌≡◌, ℕ, ◌+◌, ◌-◌, ◌<◌, ◌≤◌, cond, not, List, [], ◌∷◌, ◌++◌, length, Some, None, Ok, Err, refl, sym, ap, ◌∙◌, subst, arith, true, false, append-nil, inl, inr}
-use Rattle.std.specs.Prelude.{Option, Bool, is_some, max}
+use Rattle.std.proofs.Common.{◌≡◌, ℕ, ◌+◌, ◌-◌, ◌<◌, ◌≤◌, cond, not, List, [], ◌∷◌, length, Some, None, Ok, Err, refl, sym, ap, ◌∙◌, subst, arith, true, false}
+use Rattle.std.specs.Prelude.{Option, Bool, is_some}
 use Rattle.std.specs.Option.{option_map_or}
 use Rattle.std.proofs.lemmas.Bool.{false≢true}
-use Rattle.std.proofs.lemmas.List.{length-append}
-use Rattle.std.proofs.lemmas.List.Sums.{sum_by-cons, sum_by-append}
 use Rattle.lru_entries.specs.declared.entry.Entry.{Entry}
 use Rattle.lru_cache.specs.declared.cache.Refused.{Refused}
-use Rattle.lru_cache.specs.declared.cache.Cause.{Cause}
-use Rattle.lru_cache.specs.declared.cache.Cause.TheVariants.{TooHeavy, Full, Memory}
-use Rattle.lru_cache.specs.Cache.{Cached, entry_of, without, Fit, IsCache, MayRefuse, Leaves, Puts, Settles, with_entries, used}
-use Rattle.lru_entries.specs.Entries.{entry, weight_of}
+use Rattle.lru_cache.specs.Cache.{Cached, entry_of, without, IsCache, Leaves, Puts, Settles, with_entries, used}
+use Rattle.lru_entries.specs.Entries.{entry}
 use Rattle.lru_rows.specs.Rows.{Recency}
 use Rattle.lru_cache.specs.Representation.{cached_in}
 use Rattle.lru_entries.proofs.Rows.{by_bool}

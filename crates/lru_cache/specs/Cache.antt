@@ -1,5 +1,5 @@
 -- A cache: its entries, most recent first, under two limits.
-use Rattle.std.specs.Prelude.{◌≡◌, ℕ, ◌+◌, ◌-◌, ◌<◌, ◌≤◌, ◌⊎◌, max, min, not, Bool, true, false, List, [], ◌∷◌, ◌++◌, length, map, filter, find, reverse, count_by, Option, Some, None, Result, Ok, Err, refl, IsSome}
+use Rattle.std.specs.Prelude.{◌≡◌, ℕ, ◌-◌, ◌<◌, ◌≤◌, ◌⊎◌, max, min, not, Bool, true, false, List, [], ◌∷◌, ◌++◌, length, map, filter, find, reverse, count_by, Option, Some, None, Result, Ok, Err, refl, IsSome}
 use Rattle.std.specs.Option.{option_map_or}
 use Rattle.std.specs.List.{FoldsTo}
 use Rattle.std.specs.Coded.{Coded, code_by, coded×, coded_ℕ, coded_list}

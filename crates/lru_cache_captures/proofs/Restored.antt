@@ -1,13 +1,15 @@
 -- An entry was put or left out, and then others were.
 use Rattle.std.proofs.Common.{◌≡◌, ℕ, ◌+◌, inl, List, ◌∷◌, Ok, Err, subst, arith, suc, true, false, sym}
-use Rattle.std.specs.Prelude.{Bool, Option, Result, IfOk}
+use Rattle.std.specs.Prelude.{Bool, Option, Result, Vec, map, IfOk}
+use Rattle.std.specs.declared.alloc.Global.{Global}
+use Rattle.lru_frames.specs.Copies.{AreEach, IsEntryCopy}
 use Rattle.std.proofs.lemmas.Bool.{false≢true}
 use Rattle.lru_frames.specs.declared.row.Row.{Row}
 use Rattle.lru_entries.specs.declared.entry.Entry.{Entry}
 use Rattle.lru_cache.specs.declared.cache.Refused.{Refused}
-use Rattle.lru_cache.specs.Cache.{Cached}
+use Rattle.lru_cache.specs.Cache.{Cached, parts_of}
 use Rattle.lru_shared.specs.Answers.{MayPut}
-use Rattle.lru_cache_captures.specs.Captures.{PutsEntries, PutsOrLeaves, MayPutOrLeave, MayPutEntries}
+use Rattle.lru_cache_captures.specs.Captures.{MayCopy, PutsEntries, PutsOrLeaves, MayPutOrLeave, MayPutEntries}
 
 module _ {K V S : Type 0} (eq : K → K → Bool) (old mid : Cached K V S) (row : Row K V) (rows : List (Row K V)) (left : ℕ) (answer : Result ℕ (Refused K V)) (new : Cached K V S) where
   pub left_more : (is_left : Bool) → is_left ≡ true → PutsOrLeaves eq old row (Ok is_left) mid → PutsEntries eq mid rows (left + 1) answer new → PutsEntries eq old (row ∷ rows) left answer new
@@ -37,3 +39,10 @@ module _ {K V : Type 0} (eq : K → K → Bool) (row : Row K V) (rows : List (Ro
   pub may_put_more : (is_left : Bool) → is_left ≡ false → MayPutOrLeave eq row (Ok is_left) → MayPutEntries eq rows left answer → MayPutEntries eq (row ∷ rows) left answer
   may_put_more true is put rest = absurd (false≢true (sym is))
   may_put_more false is put rest = inl (false, (put, rest))
+
+-- what was copied of a cache may be the copies of one
+pub may_copy : {K V S E : Type 0} (IsCloneKey : K → K → Type 0) (IsCloneValue : V → V → Type 0) (cache : Cached K V S) (r : Result (Vec (Row K V) Global) E)
+    → IfOk r (λ rows. AreEach (IsEntryCopy IsCloneKey IsCloneValue) (map parts_of cache.entries) rows.items) → IfOk r (λ rows. MayCopy IsCloneKey IsCloneValue rows.items)
+may_copy IsCloneKey IsCloneValue cache (Ok rows) copies =
+    (record { entries = cache.entries; places = cache.places; most_weight = cache.most_weight; most_entries = cache.most_entries; hashes = tt }, copies)
+may_copy IsCloneKey IsCloneValue cache (Err e) copies = tt

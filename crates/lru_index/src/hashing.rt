@@ -190,7 +190,7 @@ impl BuildHasher for SeededHashes {
 
 /// The hash of a key.
 #[inline(always)]
-pub(crate) fn hash_of<S: BuildHasher, K: Hash>(hash_builder: &S, key: &K) -> u64
+pub fn hash_of<S: BuildHasher, K: Hash>(hash_builder: &S, key: &K) -> u64
     ensures { result ≡ hash_by S.BuildHasher S.Hasher.Hasher hash_builder.now (K.hash_input key.now) }
 {
     hash_builder.hash_one(key)

@@ -1,5 +1,5 @@
 -- For callers: what stands first where another pair is put in its place, and that its key equals the one that was asked for.
-use Rattle.std.proofs.Common.{◌≡◌, ◌≢◌, ℕ, cond, List, [], ◌∷◌, Some, refl, sym, ap, ◌∙◌, false, inl, inr}
+use Rattle.std.proofs.Common.{◌≡◌, ℕ, cond, List, [], ◌∷◌, Some, refl, sym, ap, ◌∙◌, inl, inr}
 use Rattle.std.specs.Prelude.{Bool, is_some, IsTrue}
 use Rattle.std.proofs.lemmas.Bool.{cases_Bool, eq-eqb, ne_eqb, false≢true}
 use Rattle.lru_rows.specs.Rows.{Placed, placed, row_of, without}

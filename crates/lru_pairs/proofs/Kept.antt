@@ -1,11 +1,11 @@
 -- What an index finds among rows, and what is kept of both as rows move, change, come and go.
-use Rattle.std.proofs.Common.{◌≡◌, ◌≢◌, ℕ, ◌+◌, ◌-◌, ◌<◌, ◌≤◌, ◌/◌, ◌^◌, true, false, cond, not, eqb, List, [], ◌∷◌, ◌++◌, length, map, Some, None, refl, sym, ap, ◌∙◌, subst, inl, inr, arith, suc}
-use Rattle.std.specs.Prelude.{Option, Bool, is_some, IsSome, IsTrue, count_by, slice_get, ◌==◌}
+use Rattle.std.proofs.Common.{◌≡◌, ◌≢◌, ℕ, ◌+◌, ◌-◌, ◌<◌, ◌≤◌, ◌/◌, ◌^◌, true, false, cond, eqb, List, [], ◌∷◌, ◌++◌, length, Some, None, refl, sym, ap, ◌∙◌, subst, inl, inr, arith, suc}
+use Rattle.std.specs.Prelude.{Option, Bool, is_some, IsTrue, count_by, slice_get, ◌==◌}
 use Rattle.std.specs.Option.{option_map, option_map_or}
 use Rattle.std.specs.Cmp.{IsEquivalence}
-use Rattle.std.proofs.lemmas.Bool.{cases_eq, cases_Bool, eq-eqb, ne_eqb, false≢true, cond_both, eqb-true, eqb-false}
+use Rattle.std.proofs.lemmas.Bool.{cases_eq, cases_Bool, eq-eqb, ne_eqb, false≢true}
 use Rattle.std.proofs.lemmas.List.Sums.{sum_by-cons}
-use Rattle.lru_index.specs.Index.{Index, Indexes, Inserts, Finds as index_Finds, IsAbsent, IsEmpty, IsFree, IsOneEach, Knows, home_at, room_of, put, gone, gone_at}
+use Rattle.lru_index.specs.Index.{Index, Indexes, Inserts, Finds as index_Finds, IsAbsent, IsEmpty, IsFree, IsOneEach, Knows, home_at, room_of, put, gone}
 use Rattle.lru_index.proofs.ForCallers.{of_none, same_keys, is_free}
 use Rattle.lru_index.proofs.Tables.{put_here, put_other, gone_here, gone_other}
 use Rattle.lru_rows.specs.declared.rows.Taken.{Taken}

@@ -9,7 +9,7 @@ use Rattle.std.proofs.lemmas.List.{get_or-set_same, get_or-set_other}
 use Rattle.std.proofs.lemmas.List.Elements.{filter_map-append}
 use Rattle.std.proofs.lemmas.List.Sums.{sum_by-cons}
 use Rattle.lru_list.specs.Linked.{Linked, item_of, item_at, indices_of, times, without as list_without, written, with_item, made, IsNumbered}
-use Rattle.lru_list.proofs.Chains.{times_here, times_other, times-cons}
+use Rattle.lru_list.proofs.Chains.{times_here, times-cons}
 use Rattle.lru_list.proofs.LinkedLaws.{item_of_same, item_of_other, item_of-append}
 use Rattle.lru_rows.specs.Rows.{Placed, placed, row_at, IsAt, without, promoted, demoted, with_weight, with_value}
 use Rattle.lru_rows.proofs.Orders.{by_place}

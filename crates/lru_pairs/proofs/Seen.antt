@@ -1,14 +1,13 @@
 -- The rows that a caller sees of a list of pairs and its column, and what calls make of them.
 use Rattle.std.proofs.Common.{◌≡◌, ◌≢◌, ℕ, ◌+◌, ◌-◌, ◌<◌, ◌≤◌, true, false, List, [], ◌∷◌, ◌++◌, length, get_or, set, Some, None, Err, refl, sym, ap, ◌∙◌, subst, arith}
-use Rattle.std.specs.Prelude.{Option, Bool, is_some, IsSome, slice_get, slice_index_or, map, drop, max}
+use Rattle.std.specs.Prelude.{Option, Bool, is_some, slice_get, slice_index_or, map, drop, max}
 use Rattle.std.specs.Option.{option_map}
 use Rattle.std.proofs.lemmas.Option.{slice_get-map}
 use Rattle.std.proofs.lemmas.List.{length-set, length-append, length-drop, get_or-set_same, get_or-set_other}
 use Rattle.lru_list.specs.Linked.{Linked, item_of, indices_of, times, IsNumbered, IsLive, head_of, tail_of, next_slot, pushed_head, with_item, promoted as list_promoted, demoted as list_demoted, without as list_without, Removes as list_Removes, Pushes as list_Pushes}
 use Rattle.lru_list.proofs.Chains.{times_here}
 use Rattle.lru_list.proofs.LinkedLaws.{live_range, live_once, stands_from_item, stands_in, next_slot_absent}
-use Rattle.lru_rows.specs.declared.rows.Taken.{Taken}
-use Rattle.lru_rows.specs.Rows.{Placed, placed, Recency, recency, row_at, IsAt, first_row, last_row, promoted, demoted, with_weight, with_value, without, taken, most_rows}
+use Rattle.lru_rows.specs.Rows.{Placed, placed, recency, row_at, IsAt, first_row, last_row, promoted, demoted, with_weight, with_value, without, taken, most_rows}
 use Rattle.lru_rows.proofs.Orders.{promoted_is, demoted_is, item_absent, taken_back}
 use Rattle.lru_rows.proofs.Listed.{some_of}
 use Rattle.lru_rows.proofs.Moves.{without_length, not_there}

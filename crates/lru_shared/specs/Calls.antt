@@ -1,7 +1,7 @@
 -- What is answered of keys and values that stand in shards, and what is left there.
-use Rattle.std.specs.Prelude.{◌≡◌, ℕ, ◌⊎◌, Bool, List, map, Option, Some, None, Result, Ok, Err, IsSome}
+use Rattle.std.specs.Prelude.{◌≡◌, ℕ, ◌⊎◌, Bool, List, map, Option, Some, None, Result, Ok, Err, IfOk}
 use Rattle.std.specs.List.{FoldsTo}
-use Rattle.std.specs.Borrow.{Bor, MutBor}
+use Rattle.std.specs.Borrow.{Bor}
 use Rattle.std.specs.declared.alloc.AllocError.{AllocError}
 use Rattle.lru_entries.specs.declared.entry.Entry.{Entry}
 use Rattle.lru_cache.specs.declared.cache.Cause.TheVariants.{Memory as NoMemory}
@@ -24,11 +24,16 @@ module _ {K V : Type 0} where
   abbrev pub VisitsEach : {F : Type 0} → (F → Bor K × Bor V × ℕ → F → Type 0) → F → List (Entry K V) → Type 0
   VisitsEach {F} Step visit es = (items : List (Bor K × Bor V × ℕ)) × ((left : F) × ((map shown items ≡ map parts_of es) × FoldsTo Step visit items left))
 
-  -- a key that has an entry is used, and a clone of its value is answered, unless there is no memory for one; or it has none, and nothing changes
+  -- a clone of an entry's value, or nothing where there is no entry
+  abbrev pub IsCloned : (V → V → Type 0) → Option (Entry K V) → Option V → Type 0
+  IsCloned clones None None = Unit {0}
+  IsCloned clones None (Some v) = ⊥
+  IsCloned clones (Some e) None = ⊥
+  IsCloned clones (Some e) (Some v) = clones e.value v
+
+  -- a key that has an entry is used, and a clone of its value is answered, unless there is no memory for one
   abbrev pub GetsClone : {S Q : Type 0} → (K → Q → Bool) → (V → V → Type 0) → Cached K V S → Q → Result (Option V) AllocError → Cached K V S → Type 0
-  GetsClone eq clones old key (Ok None) new = (entry_of eq old.entries key ≡ None) × (new ≡ old)
-  GetsClone eq clones old key (Ok (Some v)) new = (e : Entry K V) × ((entry_of eq old.entries key ≡ Some e) × (clones e.value v × (new ≡ with_entries old (used eq old.entries key))))
-  GetsClone eq clones old key (Err no) new = IsSome (entry_of eq old.entries key) × (new ≡ with_entries old (used eq old.entries key))
+  GetsClone eq clones old key answer new = IfOk answer (λ found. IsCloned clones (entry_of eq old.entries key) found) × (new ≡ with_entries old (used eq old.entries key))
 
 -- ---- a value that is made where its key has none. `does` says what is known of all shards where that of the key is changed so
 module _ {K V S E F T : Type 0} (eq : K → K → Bool) (clones : V → V → Type 0) (Makes : Result (V × ℕ) E → Type 0) (Step : F → Entry K V → F → Type 0) (visit : F)
@@ -55,7 +60,7 @@ module _ {K V S E F T : Type 0} (eq : K → K → Bool) (clones : V → V → Ty
   -- a key that has an entry is used, and a clone of its value is answered
   abbrev pub Answers : Result V (NotGot K V E) → Cached K V S → Cached K V S → Type 0
   Answers (Ok v) before after = GetsClone eq clones before key (Ok (Some v)) after
-  Answers (Err (Memory k)) before after = (k ≡ key) × (((no : AllocError) × GetsClone eq clones before key (Err no) after) ⊎ (after ≡ before))
+  Answers (Err (Memory k)) before after = (k ≡ key) × (((e : AllocError) × GetsClone eq clones before key (Err e) after) ⊎ GetsClone eq clones before key (Ok None) after)
   Answers (Err (Unmade k e)) before after = ⊥
   Answers (Err (Unput r)) before after = ⊥
 
@@ -63,5 +68,5 @@ module _ {K V S E F T : Type 0} (eq : K → K → Bool) (clones : V → V → Ty
   abbrev pub GetsOrPuts : T → Result V (NotGot K V E) → T → Type 0
   GetsOrPuts old answer new =
       does old (Answers answer) new
-      ⊎ ((mid : T) × (does old (λ before after. (entry_of eq before.entries key ≡ None) × (after ≡ before)) mid
+      ⊎ ((mid : T) × (does old (λ before after. GetsClone eq clones before key (Ok None) after) mid
       × ((made : Result (V × ℕ) E) × (Makes made × EndsMaking mid made answer new))))

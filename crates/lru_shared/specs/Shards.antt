@@ -1,5 +1,5 @@
 -- Shards that are told by their numbers: what a call on one of them answers, and what it leaves.
-use Rattle.std.specs.Prelude.{◌≡◌, ℕ, ◌%◌, List, slice_index_or, slice_set, Option, Some, None, Result, Ok, Err}
+use Rattle.std.specs.Prelude.{◌≡◌, ℕ, ◌%◌, ◌⊎◌, List, slice_index_or, slice_set, Option, None, Result, Ok, Err}
 use Rattle.std.specs.Borrow.{Bor, MutBor}
 
 -- the shard of a hash among so many: its low 32 bits tell it
@@ -20,10 +20,10 @@ pub record Acts {S R : Type 0} (post : MutBor S → R → MutBor S → Type 0) (
   pub called : post lent answer left
   pub leaves : left.now ≡ after
 
--- a closure that was lent a shard answered this; or something that was let go, where there was no memory to note that a value is being made
+-- a closure that was lent a shard and looks for a value answered this; or that there is none, and there was no memory to note that one is being made
 abbrev pub Begins : {S V E : Type 0} → (MutBor S → Result (Option V) E → MutBor S → Type 0) → Result (Option V) E → S → S → Type 0
 Begins post (Ok found) before after = Acts post (Ok found) before after
-Begins {S} {V} {E} post (Err e) before after = (answer : Result (Option V) E) × Acts post answer before after
+Begins post (Err e) before after = Acts post (Err e) before after ⊎ Acts post (Ok None) before after
 
 -- of one owner's shards that with this number is so
 abbrev pub Sees : {S : Type 0} → List S → ℕ → (S → Type 0) → Type 0

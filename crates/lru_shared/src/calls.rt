@@ -1,5 +1,5 @@
 //! The calls on keys and values that stand in shards, written once: of shards of one owner and of shards behind locks.
-ghost use Rattle.std.specs.Prelude.{◌≡◌, ◌<◌, is_some, length};
+ghost use Rattle.std.specs.Prelude.{◌≡◌, ◌<◌, ◌⊎◌, Ok, Err, None, is_some, length, IfOk, IfErr};
 ghost use Rattle.lru_index.specs.Hashing.{key_hash};
 ghost use Rattle.lru_cache.specs.Cache.{entry_of, without, with_entries, Puts, UpdatesEntry};
 ghost use Rattle.lru_entries.specs.Entries.{weight_of};
@@ -10,6 +10,7 @@ use crate::one;
 use crate::shards::Shards;
 use lru_cache::cache::{Cache, Cause, Entry, Refused};
 use lru_index::alike::SameHashes;
+use lru_index::hashing::hash_of;
 use lru_index::keys::Query;
 use std::alloc::AllocError;
 use std::hash::{BuildHasher, Hash};
@@ -52,7 +53,7 @@ where
     ensures { T.sees shards.now (home (T.many shards.now) (key_hash S.BuildHasher S.Hasher.Hasher Q.hash_input hashes.now query))
         (λ cache. result ≡ is_some (entry_of Q.stands_for cache.entries query)) }
 {
-    let hash = hashes.hash_one(&query);
+    let hash = hash_of(hashes, &query);
     let home = home_of(shards.count(), hash);
     shards.look(
         home,
@@ -74,7 +75,7 @@ where
     ensures { T.sees shards.now (home (T.many shards.now) (key_hash S.BuildHasher S.Hasher.Hasher Q.hash_input hashes.now query))
         (λ cache. ShowsEntry Q.stands_for (F.post show) cache.entries query result) }
 {
-    let hash = hashes.hash_one(&query);
+    let hash = hash_of(hashes, &query);
     let home = home_of(shards.count(), hash);
     shards.look(
         home,
@@ -100,7 +101,7 @@ where
         (λ before after. GetsClone Q.stands_for V.is_clone before query result after) shards.new }
     ensures many { T.many shards.new ≡ T.many shards.old }
 {
-    let hash = hashes.hash_one(&query);
+    let hash = hash_of(hashes, &query);
     let home = home_of(shards.count(), hash);
     shards.on(
         home,
@@ -128,7 +129,7 @@ where
         (λ before after. UpdatesEntry Q.stands_for (F.post update) before query result after) shards.new }
     ensures many { T.many shards.new ≡ T.many shards.old }
 {
-    let hash = hashes.hash_one(&query);
+    let hash = hash_of(hashes, &query);
     let home = home_of(shards.count(), hash);
     shards.on(
         home,
@@ -158,11 +159,16 @@ where
         (λ before after. Puts K.eq (λ p x q. F.step p x tt q) visit before key value weight result after) shards.new }
     ensures many { T.many shards.new ≡ T.many shards.old }
 {
-    let hash = hashes.hash_one(&key);
+    let hash = hash_of(hashes, &key);
     let home = home_of(shards.count(), hash);
-    shards.on(home, |cache: &mut Cache<K, V, S>| {
-        one::put(cache, key, value, weight, hash, hashes, visit)
-    })
+    shards.on(
+        home,
+        |cache: &mut Cache<K, V, S>|
+            requires hash { hash ≡ key_hash S.BuildHasher S.Hasher.Hasher K.hash_input hashes.now key }
+            requires visit { F.IsAlwaysCallable visit }
+            ensures { Puts K.eq (λ p x q. F.step p x tt q) visit cache.old key value weight result cache.new }
+        { one::put(cache, key, value, weight, hash, hashes, visit) },
+    )
 }
 
 // Takes the entry out of what the query stands for.
@@ -179,7 +185,7 @@ where
         (λ before after. (result ≡ entry_of Q.stands_for before.entries query) × (after ≡ with_entries before (without Q.stands_for before.entries query))) shards.new }
     ensures many { T.many shards.new ≡ T.many shards.old }
 {
-    let hash = hashes.hash_one(&query);
+    let hash = hash_of(hashes, &query);
     let home = home_of(shards.count(), hash);
     shards.on(
         home,
@@ -253,19 +259,45 @@ where
         (λ s P t. T.does s (home (T.many shards.old) (key_hash S.BuildHasher S.Hasher.Hasher K.hash_input hashes.now key)) P t) key shards.old result shards.new }
     ensures many { T.many shards.new ≡ T.many shards.old }
 {
-    let hash = hashes.hash_one(&key);
+    let hash = hash_of(hashes, &key);
     let home = home_of(shards.count(), hash);
-    let found = shards.begin(
-        home,
-        hash,
-        |cache: &Cache<K, V, S>| one::contains(cache, &key, hash, hashes),
-        |cache: &mut Cache<K, V, S>| one::get(cache, &key, hash, hashes),
-    );
-    match found {
+    match start(shards, home, hash, hashes, &key) {
         Ok(Some(value)) => Ok(value),
         Ok(None) => put_made(shards, home, hash, hashes, key, make(), visit),
         Err(AllocError) => Err(NotGot::Memory(key)),
     }
+}
+
+// Uses a key, and answers a clone of its value; or, where it has none, a value of it is being made from then on.
+#[inline(always)]
+fn start<K, V, S, T>(
+    shards: &mut T,
+    home: usize,
+    hash: u64,
+    hashes: &S,
+    key: &K,
+) -> Result<Option<V>, AllocError>
+where
+    K: Hash,
+    V: Clone + Drop,
+    S: BuildHasher + SameHashes,
+    T: Shards<Cache<K, V, S>>,
+    requires home { home < T.many shards.old }
+    requires hash { hash ≡ key_hash S.BuildHasher S.Hasher.Hasher K.hash_input hashes.now key.now }
+    ensures found { IfOk result (λ found. T.does shards.old home (λ before after. GetsClone K.eq V.is_clone before key.now (Ok found) after) shards.new) }
+    ensures refused { IfErr result (λ error. T.does shards.old home
+        (λ before after. GetsClone K.eq V.is_clone before key.now (Err error) after ⊎ GetsClone K.eq V.is_clone before key.now (Ok None) after) shards.new) }
+    ensures many { T.many shards.new ≡ T.many shards.old }
+{
+    shards.begin(
+        home,
+        hash,
+        |cache: &Cache<K, V, S>| one::contains(cache, key, hash, hashes),
+        |cache: &mut Cache<K, V, S>|
+            requires { hash ≡ key_hash S.BuildHasher S.Hasher.Hasher K.hash_input hashes.now key.now }
+            ensures { GetsClone K.eq V.is_clone cache.old key.entry.now result cache.new }
+        { one::get(cache, key, hash, hashes) },
+    )
 }
 
 // Puts what was made for a key, and answers a clone of its value. Who waits for it goes on in any case.
@@ -304,9 +336,15 @@ where
         let cause = Cause::Memory;
         return Err(NotGot::Refused(Refused { cause, key, value }));
     };
-    let put = shards.finish(home, hash, |cache: &mut Cache<K, V, S>| {
-        one::put(cache, key, value, weight, hash, hashes, visit)
-    });
+    let put = shards.finish(
+        home,
+        hash,
+        |cache: &mut Cache<K, V, S>|
+            requires hash { hash ≡ key_hash S.BuildHasher S.Hasher.Hasher K.hash_input hashes.now key }
+            requires visit { F.IsAlwaysCallable visit }
+            ensures { Puts K.eq (λ p x q. F.step p x tt q) visit cache.old key value weight result cache.new }
+        { one::put(cache, key, value, weight, hash, hashes, visit) },
+    );
     match put {
         Ok(_) => Ok(answer),
         Err(refused) => Err(NotGot::Refused(refused)),

@@ -1,5 +1,5 @@
 //! Shards behind locks.
-ghost use Rattle.std.specs.Prelude.{◌≡◌, ◌∷◌, ◌++◌, [], length, OnOk, OnErr};
+ghost use Rattle.std.specs.Prelude.{◌≡◌, ◌∷◌, ◌++◌, [], Ok, None, true, length, OnOk, OnErr};
 ghost use Rattle.lru_shared.specs.Making.{is_among, left_of};
 ghost use Rattle.lru_shared.specs.Shards.{MaySee, MayDo};
 
@@ -74,6 +74,13 @@ impl<C> Shard<C> {
     }
 }
 
+// Whether a look-up found none.
+fn has_found_none<V>(found: &Result<Option<V>, AllocError>) -> bool
+    ensures { result ≡ true → found.now ≡ Ok None }
+{
+    matches!(found, Ok(None))
+}
+
 // Shards, each behind its lock, and what waits for the locks.
 #[derive(Drop)]
 pub(crate) struct Locked<'a, C, W> {
@@ -123,16 +130,18 @@ impl<'a, C, W: Wait> Shards<C> for Locked<'a, C, W> {
         F: FnOnce(&mut C) -> Result<Option<V>, AllocError> + Drop,
     {
         let shard = &self.shards[shard];
-        let mut shelf = shard.ended.wait_while(
-            self.rt,
-            shard.shelf.lock(self.rt),
-            |shelf| shelf.making.contains(hash) && !is_there(&shelf.cache),
-        );
-        let found = act(&mut shelf.cache)?;
-        if found.is_none() {
-            shelf.making.add(hash)?;
+        let mut shelf = shard.shelf.lock(self.rt);
+        for _ in self.rt.forever() {
+            if !shelf.making.contains(hash) || is_there(&shelf.cache) {
+                break;
+            }
+            shelf = shard.ended.wait(self.rt, shelf);
         }
-        Ok(found)
+        let found = act(&mut shelf.cache);
+        if has_found_none(&found) && shelf.making.add(hash).is_err() {
+            return Err(AllocError);
+        }
+        found
     }
 
     #[inline(always)]

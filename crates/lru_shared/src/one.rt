@@ -86,6 +86,8 @@ where
     requires { hash ≡ key_hash S.BuildHasher S.Hasher.Hasher Q.hash_input hashes.now query }
     ensures { GetsClone Q.stands_for V.is_clone cache.old query result cache.new }
 {
+    // Read for the proof alone, which learns from it what the type says of itself.
+    let _len = cache.len();
     match update(
         cache,
         query,

@@ -1,5 +1,5 @@
 //! Shards that a call can be done on, of one owner or behind locks. What is called on them is written once, over both.
-ghost use Rattle.std.specs.Prelude.{◌≡◌, ℕ, ◌<◌, vec_len, Option, Result};
+ghost use Rattle.std.specs.Prelude.{◌≡◌, ℕ, ◌<◌, length, Option, Result};
 ghost use Rattle.lru_shared.specs.Shards.{Looks, Acts, Begins, Sees, Owns};
 
 use std::alloc::AllocError;
@@ -77,7 +77,7 @@ pub struct Owned<S> {
 }
 
 impl<S> Shards<S> for Owned<S> {
-    ghost many = { λ o. vec_len o.shards };
+    ghost many = { λ o. length o.shards.items };
 
     ghost sees = { λ o i P. Sees o.shards.items i P };
 

@@ -6,6 +6,8 @@ mod calls;
 #[cfg(test)]
 mod made;
 #[cfg(test)]
+mod sharded;
+#[cfg(test)]
 mod soak;
 #[cfg(test)]
 mod texts;

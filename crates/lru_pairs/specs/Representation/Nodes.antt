@@ -1,5 +1,5 @@
 -- What a list of pairs, and the column of their weights, stand for.
-use Rattle.std.specs.Prelude.{◌≡◌, ℕ, ◌+◌, ◌<◌, ◌≤◌, ◌==◌, Bool, List, [], ◌∷◌, length, count_by, Option, Some, None, IsSome, get_or, filter_map, refl}
+use Rattle.std.specs.Prelude.{ℕ, ◌+◌, ◌<◌, ◌≤◌, ◌==◌, Bool, List, [], ◌∷◌, length, count_by, Option, IsSome, get_or, filter_map, refl}
 use Rattle.std.specs.Option.{option_map}
 use Rattle.std.specs.Coded.{Coded, code_by, coded×, coded_ℕ}
 use Rattle.lru_list.specs.Linked.{Linked, IsNumbered, made}

@@ -3,7 +3,7 @@ use Rattle.lru_list.specs.Linked.{pushed_head}
 use Rattle.lru_rows.specs.Rows.{LacksPlace, recency}
 use Rattle.lru_rows.proofs.Pushed.{refused_memory}
 use Rattle.lru_pairs.specs.Representation.Nodes.{Laid, rows_in}
-use Rattle.lru_pairs.proofs.Seen.{place_in, place_fits, no_row, short, full, held_pushed, view_pushed, laid_well, laid_as, refused_full, same_pair, rows_are, free_is}
+use Rattle.lru_pairs.proofs.Seen.{place_in, place_fits, no_row, short, full, held_pushed, view_pushed, laid_well, laid_as, refused_full, same_pair}
 use Rattle.lru_pairs.proofs.nodes.Nodes.push_first.Goals as goal
 
 pub index_mut-requires : goal.index_mut-requires

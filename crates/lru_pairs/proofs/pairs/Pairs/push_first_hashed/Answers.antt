@@ -1,5 +1,5 @@
 use Rattle.lru_index.specs.Hashing.{key_hash}
-use Rattle.std.proofs.Common.{subst, sym, ap, ◌∙◌, ◌≡◌, None, Some}
+use Rattle.std.proofs.Common.{subst, sym, ap, ◌∙◌, ◌≡◌, None}
 use Rattle.std.specs.Option.{option_map}
 use Rattle.lru_rows.specs.Rows.{Placed, row_of}
 use Rattle.lru_rows.proofs.Listed.{some_of}

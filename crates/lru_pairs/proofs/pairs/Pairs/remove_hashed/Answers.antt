@@ -1,7 +1,7 @@
 use Rattle.lru_index.specs.Hashing.{key_hash}
-use Rattle.std.proofs.Common.{◌≡◌, subst, sym, ap, refl, Some, None}
+use Rattle.std.proofs.Common.{◌≡◌, subst, sym, Some, None}
 use Rattle.lru_rows.specs.Rows.{IsRecency, Removes, row_of}
-use Rattle.lru_pairs.proofs.Kept.{seen_held, valid_rows, finds_by, at_found, seen_removed, kept_gone}
+use Rattle.lru_pairs.proofs.Kept.{seen_held, valid_rows, finds_by, seen_removed, kept_gone}
 use Rattle.lru_pairs.proofs.pairs.Pairs.remove_hashed.Goals as goal
 
 pub returns-in_err-place-clause-removes : goal.returns-in_err-place-clause-removes
