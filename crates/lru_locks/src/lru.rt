@@ -855,4 +855,32 @@ impl<T: Drop, const N: usize> Lru<T, N> {
         }
         Ok(evicted)
     }
+
+    /// Evicts as `evict_to_limit` does, and calls a closure with the data and the weight of each evicted row, in order. It
+    /// takes no memory.
+    ///
+    /// `visit` is called under no lock.
+    pub fn evict_with<R: Rng, F: FnMut((T, usize))>(
+        &self,
+        rt: &impl Wait,
+        rng: &mut R,
+        mut visit: F,
+    )
+        requires { F.IsAlwaysCallable visit }
+        ensures visited { (last : F) × VisitsLight (λ p x q. F.step p x tt q) visit (cap_of N) last }
+        ensures undrawn { N ≡ 1 → rng.new ≡ rng.old }
+    {
+        let all = self.readings();
+        let mut left = all;
+        for _ in 0..all.len {
+            if !left.is_past(self.weight(), self.len()) {
+                return;
+            }
+            let Some(pair) = self.evict_near(rt, self.drawn_shard(rng)) else {
+                return;
+            };
+            left.evicted(pair.1);
+            visit(pair);
+        }
+    }
 }
