@@ -430,7 +430,7 @@ impl<T: Drop, const N: usize, S: BuildHasher> LruCore<T, N, S> {
     ghost use Rattle.lru_cores.specs.Core.{list_at, with_list, home};
     ghost use Rattle.lru_rules.specs.ShardCalls.{promoted_past};
     ghost use Rattle.lru_cores.specs.CoreCalls.{CoreAdmits, CoreInsertsTail, CoreIncrements, CoreUpdates, CoreSetsWeight, CorePulls};
-    ghost use Rattle.lru_cores.specs.Eviction.{EvictsFrom, EvictsWhereOver, EvictsToLimit, IsCutShort, KeepsLongestFront};
+    ghost use Rattle.lru_cores.specs.Eviction.{EvictsFrom, EvictsWhereOver, EvictsToLimit, IsCutShort, EvictsWith, KeepsLongestFront};
     ghost use Rattle.lru_cores.specs.Sparing.{SparesToLimit, CoreAdmitsAndEvicts, StandsFirst};
 
     /// Puts a row first in the shard of its key, in place of the key's, and answers that shard.
@@ -710,5 +710,24 @@ impl<T: Drop, const N: usize, S: BuildHasher> LruCore<T, N, S> {
             }
         }
         Ok(evicted)
+    }
+
+    /// Evicts while the core is over, and calls a closure with the data and the weight of each evicted row, in order. For
+    /// each it draws two shards, a and then b, from the generator, and does an `evict_step`. With one shard nothing is
+    /// drawn. It takes no memory.
+    pub fn evict_with<R: Rng, F: FnMut((T, usize))>(&mut self, rng: &mut R, mut hand_over: F)
+        requires { F.IsAlwaysCallable hand_over }
+        ensures done { EvictsWith (λ p x q. F.step p x tt q) hand_over self.old (R.stream rng.old) self.new (R.stream rng.new) }
+        ensures longest { N ≡ 1 → KeepsLongestFront self.old self.new }
+        ensures undrawn { N ≡ 1 → rng.new ≡ rng.old }
+    {
+        while self.is_over() {
+            let _units = &self.units;
+            let (a, b) = drawn_shards::<R, N>(rng);
+            let Some(pair) = self.evict_step(a, b) else {
+                unreachable!()
+            };
+            hand_over(pair);
+        }
     }
 }
