@@ -110,7 +110,14 @@ pub fn save_deadlines_after<F: SyncedFolder, K: Hash + Clone + Stored, V: Clone 
     ensures places { F.meaning.keeps folder.old → F.meaning.folders folder.new ≡ F.meaning.folders folder.old }
     ensures kept { F.meaning.keeps folder.old ↔ F.meaning.keeps folder.new }
 {
-    save_after(alloc, folder, dir, file_name, &DeadlineSource { cache }, known)
+    save_after(
+        alloc,
+        folder,
+        dir,
+        file_name,
+        &DeadlineSource { cache },
+        known,
+    )
 }
 
 /// Loads the newest checkpoint into a cache: its entries are put with their deadlines, those of each shard the last first, so that

@@ -70,7 +70,12 @@ pub fn save_shared<F: SyncedFolder, K: Hash + Clone + Stored, V: Clone + Stored,
 }
 
 /// Saves as `save_shared` does, but need not read the frames of the checkpoint that is known, as `save_after` of `lru_generations`.
-pub fn save_shared_after<F: SyncedFolder, K: Hash + Clone + Stored, V: Clone + Stored, const N: usize>(
+pub fn save_shared_after<
+    F: SyncedFolder,
+    K: Hash + Clone + Stored,
+    V: Clone + Stored,
+    const N: usize,
+>(
     rt: &impl Wait,
     alloc: Global,
     folder: &mut F,
@@ -115,7 +120,14 @@ pub fn save_shared_after<F: SyncedFolder, K: Hash + Clone + Stored, V: Clone + S
     ensures places { F.meaning.keeps folder.old → F.meaning.folders folder.new ≡ F.meaning.folders folder.old }
     ensures kept { F.meaning.keeps folder.old ↔ F.meaning.keeps folder.new }
 {
-    save_after(alloc, folder, dir, file_name, &SharedSource { rt, cache }, known)
+    save_after(
+        alloc,
+        folder,
+        dir,
+        file_name,
+        &SharedSource { rt, cache },
+        known,
+    )
 }
 
 /// Loads the newest checkpoint into a shared cache: its entries are put into the shards of their keys, those of each saved shard

@@ -191,6 +191,8 @@ returns-in-Ok-clause-known g c k =
     let n = get_or c.args.generations.now c.loop-generation.generation-index 0 in
     let manifest = c.in-Ok.manifest in
     let files = g.F.Folder.meaning.files c.args.folder.now in
-    subst (λ (x : Manifest). (x.generation ≡ n) × IsWhole c.args.dir.now c.args.file_name.now x.generation x.frames.items files) (sym c.new-known.ensures)
-    (told.0, subst (λ (x : ℕ). IsWhole c.args.dir.now c.args.file_name.now x manifest.frames.items files) (sym told.0)
-    (subst (λ (f : Files). IsWhole c.args.dir.now c.args.file_name.now n manifest.frames.items f) (so_far.files k) told.1))
+    subst (λ (x : Manifest). (x.generation ≡ n) × IsWhole c.args.dir.now c.args.file_name.now x.generation x.frames.items files) (sym c.new-known.ensures) (
+      told.0,
+      subst (λ (x : ℕ). IsWhole c.args.dir.now c.args.file_name.now x manifest.frames.items files) (sym told.0)
+          (subst (λ (f : Files). IsWhole c.args.dir.now c.args.file_name.now n manifest.frames.items f) (so_far.files k) told.1),
+    )
