@@ -1,5 +1,5 @@
 -- Where what is known is whole still, what is taken for whole is whole.
-use Rattle.std.proofs.Common.{◌≡◌, inl, inr, ℕ, List, Option, Some, None, subst}
+use Rattle.std.proofs.Common.{inl, inr, ℕ, List, Option, Some, None, subst}
 use Rattle.lru_folder.specs.Files.{Files}
 use Rattle.lru_folder.specs.Meaning.{Meaning}
 use Rattle.lru_frames.specs.declared.mark.Mark.{Mark}
