@@ -12,7 +12,6 @@ use lru_ledger::Settled;
 use lru_logged::logged_lru::LoggedLru;
 use lru_logged_shard::ShardEnd;
 use lru_logs::tie::Archive;
-use lru_sends::refusals::BuildError;
 use lru_shared_ledger::{LedgerBox, PutSeat, Registry, TakeSeat};
 use std::alloc::{AllocError, Global};
 use std::sync::{Arc, Wait};
@@ -43,56 +42,61 @@ pub struct AccountedLru<K: Clone + Drop, const N: usize, B: Registry + Archive> 
     ghost no_puts: { (puts.items ≡ []) × (N ≤ vec_capacity puts) },
 }
 
-// What the end of an order needs room for.
+// Room for what so many shards come to, for their seats, and for those of so many who take.
 #[derive(Drop)]
-struct Room<K: Clone + Drop, B: Registry + Archive> {
+pub(crate) struct Room<K: Clone + Drop, B: Registry + Archive> {
     ends: Vec<ShardEnd<K, B>>,
     puts: Vec<PutSeat<B>>,
     takes: Vec<TakeSeat<B>>,
-}
-
-// Room for what so many shards come to, for their seats, and for those of so many who take.
-fn room_for<K: Clone + Drop, B: Registry + Archive>(
-    alloc: Global,
     shards: usize,
     takers: usize,
-) -> Result<Room<K, B>, AllocError>
-    ensures ends { IfOk result (λ r. (r.ends.items ≡ []) × (shards ≤ vec_capacity r.ends)) }
-    ensures puts { IfOk result (λ r. (r.puts.items ≡ []) × (shards ≤ vec_capacity r.puts)) }
-{
-    Ok(Room {
-        ends: Vec::with_capacity(alloc, shards)?,
-        puts: Vec::with_capacity(alloc, shards)?,
-        takes: Vec::with_capacity(alloc, takers)?,
-    })
+    ghost no_ends: { (ends.items ≡ []) × (shards ≤ vec_capacity ends) },
+    ghost no_puts: { (puts.items ≡ []) × (shards ≤ vec_capacity puts) },
+}
+
+impl<K: Clone + Drop, B: Registry + Archive> Room<K, B> {
+    pub(crate) fn new(alloc: Global, shards: usize, takers: usize) -> Result<Self, AllocError>
+        ensures { IfOk result (λ room. (room.shards ≡ shards) × (room.takers ≡ takers)) }
+    {
+        Ok(Room {
+            ends: Vec::with_capacity(alloc, shards)?,
+            puts: Vec::with_capacity(alloc, shards)?,
+            takes: Vec::with_capacity(alloc, takers)?,
+            shards,
+            takers,
+        })
+    }
 }
 
 impl<K: Clone + Drop, const N: usize, B: Registry + Archive> AccountedLru<K, N, B> {
     ghost use Rattle.lru_accounts.specs.Orders.{logged_of, order_in};
 
-    // One of an order over logs and its box. For want of memory the order is closed.
-    pub(crate) fn over<R: Wait + Copy>(
-        rt: R,
+    // One of an order over logs and its box, with the room that its end needs.
+    pub(crate) fn over(
         lru: AsyncLru<K, N, B>,
         ledger: Arc<LedgerBox<K, B>, Global>,
-        takers: usize,
-    ) -> Result<Self, BuildError>
+        room: Room<K, B>,
+    ) -> Self
         requires shards { (0 < N) × (B.shards ≡ N) }
-        requires counts { (B.putters ≡ N) × (B.takers ≡ takers) }
-        ensures { IfOk result (λ made. order_in made ≡ lru) }
+        requires counts { (B.putters ≡ N) × (B.takers ≡ room.takers) }
+        requires room { room.shards ≡ N }
+        ensures { order_in result ≡ lru }
     {
-        let Ok(Room { ends, puts, takes }) = room_for(lru.alloc(), N, takers) else {
-            lru.close(&rt);
-            return Err(BuildError::Memory);
-        };
-        Ok(AccountedLru {
+        let Room {
+            ends,
+            puts,
+            takes,
+            shards: _,
+            takers,
+        } = room;
+        AccountedLru {
             logged: LoggedLru::over(lru),
             ledger,
             takers,
             ends,
             puts,
             takes,
-        })
+        }
     }
 
     /// The order, for its calls.

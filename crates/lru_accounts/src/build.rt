@@ -1,10 +1,10 @@
 //! How an order whose history is accounted for is made.
 ghost use Rattle.std.specs.Prelude.{◌≡◌, ◌<◌, IfOk};
 ghost use Rattle.std.specs.Arc.{arc_value};
-ghost use Rattle.lru_async.specs.Orders.{limits_of, limits_told};
+ghost use Rattle.lru_async.specs.Orders.{HasWorkers, limits_of, limits_told};
 ghost use Rattle.lru_accounts.specs.Orders.{order_in};
 
-use crate::accounted_lru::AccountedLru;
+use crate::accounted_lru::{AccountedLru, Room};
 use lru_actors::message::LruMsg;
 use lru_async::builder::AsyncLruBuilder;
 use lru_logs::tie::{Archive, Blank};
@@ -38,11 +38,14 @@ pub fn build_accounted<
     requires counts { (B.putters ≡ blanks.putters) × (B.takers ≡ blanks.takers) }
     requires actors { blanks.putters ≡ N }
     requires workers { blanks.takers ≡ builder.settings.num_callback_workers }
-    ensures { IfOk result (λ made. limits_of (order_in made) ≡ limits_told builder.settings) }
+    ensures limits { IfOk result (λ made. limits_of (order_in made) ≡ limits_told builder.settings) }
+    ensures workers { IfOk result (λ made. HasWorkers (order_in made) builder.settings) }
 {
     let takers = builder.settings.num_callback_workers;
+    // what the end needs is there before a thread is started
+    let room = Room::new(builder.alloc(), N, takers)?;
     match builder.build_over_logs_and_ledger::<R, B>(rt, blank, blanks) {
-        Ok((lru, ledger)) => AccountedLru::over(rt, lru, ledger, takers),
+        Ok((lru, ledger)) => Ok(AccountedLru::over(lru, ledger, room)),
         Err(refused) => Err(refused),
     }
 }

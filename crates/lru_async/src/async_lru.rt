@@ -1,22 +1,19 @@
 //! An order served by actors.
-ghost use Rattle.std.specs.Prelude.{◌≡◌, ◌%◌, ◌<◌, ◌≤◌, vec_len, IfOk, IfErr, Ok, Some, None};
+ghost use Rattle.std.specs.Prelude.{◌≡◌, ◌+◌, ◌%◌, ◌<◌, ◌≤◌, vec_len, IfOk, IfErr, Ok, Some, None};
 ghost use Rattle.std.specs.Arc.{arc_value};
 ghost use Rattle.lru_actors.specs.Keys.{hash_of};
 ghost use Rattle.lru_sends.specs.Refusals.{held_in};
 
 use crate::builder::AsyncLruBuilder;
-use log::{Log, error};
-use lru_actors::effect::Reply;
+use crate::plain::Plain;
+use crate::saving::{SaveReport, save_all};
+use log::Log;
 use lru_actors::key::hash_key;
-use lru_actors::message::LruMsg;
-use lru_letters::{Letter, ReplyCell};
+use lru_letters::ReplyCell;
 use lru_logs::tie::Archive;
-use lru_sends::cells::cell_and_clone;
+use lru_sends::line;
 use lru_sends::refusals::SendRefused;
-use lru_sends::sends::{
-    Addressed, admission, answer_of, increment, key_back, promotion, refusal_of, removal, reply_in,
-    shard_of, tail_row,
-};
+use lru_sends::sends::shard_of;
 use lru_shared_ledger::{PutSeat, Registry, TakeSeat};
 use lru_world::callback::NoGate;
 use lru_world::world::World;
@@ -33,6 +30,8 @@ pub struct ShardData<K> {
     pub shard_index: usize,
     /// Clones of all keys with their weights, most recent first.
     pub items: Vec<(K, usize)>,
+    /// How many messages the shard had refused until then, modulo 2^64.
+    pub refused: u64,
 }
 
 /// What an order came to, once it was closed.
@@ -72,6 +71,7 @@ impl<
     B: Registry + Archive,
 > AsyncLru<K, N, B> {
     ghost use Rattle.lru_async.specs.Orders.{untold};
+    ghost use Rattle.lru_async.specs.Saving.{IsReport, IsWritten};
 
     /// A builder of an order with a limit on its weight.
     pub fn builder<C>(
@@ -100,43 +100,13 @@ impl<
         AsyncLruBuilder::new(alloc, weight_limit, callback, Some(gate))
     }
 
-    // Sends a message to the actor of its shard. A refusal hands it back.
-    fn send(&self, rt: &impl Wait, addressed: Addressed<K>) -> Result<(), SendRefused<LruMsg<K>>>
-        requires { addressed.shard < N }
-        ensures { IfErr result (λ r. held_in r ≡ addressed.message) }
+    // The line to its actors.
+    fn line<'a, R: Wait>(&'a self, rt: &'a R) -> Plain<'a, K, N, B, R>
+        ensures { 0 < N }
     {
-        let Addressed { shard, message } = addressed;
-        match self.world.shards[shard]
-            .mailbox
-            .push(rt, Letter::new(message))
-        {
-            Ok(()) => Ok(()),
-            Err(refused) => Err(refusal_of(refused)),
-        }
-    }
-
-    // Sends a message that asks, and waits for its reply; `None` past the last shard.
-    fn ask(
-        &self,
-        rt: &impl Wait,
-        shard: usize,
-        message: LruMsg<K>,
-    ) -> Result<Option<Reply<K>>, SendRefused<()>>
-        ensures { N ≤ shard → result ≡ Ok None }
-    {
-        if shard >= N {
-            return Ok(None);
-        }
-        let Ok((cell, theirs)) = cell_and_clone(self.alloc) else {
-            return Err(SendRefused::Memory(()));
-        };
-        match self.world.shards[shard]
-            .mailbox
-            .push(rt, Letter::asking(message, theirs))
-        {
-            Ok(()) => answer_of(reply_in(cell.take(rt))),
-            Err(refused) => Err(refusal_of(refused).bare()),
-        }
+        // Read for the proof alone, which learns from it what the type says of itself.
+        let _world = &self.world;
+        Plain::new(self, rt)
     }
 
     /// Asks for a row first in the shard of its key, and answers that shard. A row that is there gets the weight and keeps the
@@ -146,12 +116,7 @@ impl<
         ensures shard { IfOk result (λ s. s ≡ hash_of (K.hash_input key) % N) }
         ensures held { IfErr result (λ r. held_in r ≡ key) }
     {
-        let addressed = admission(key, weight, N);
-        let shard = addressed.shard;
-        match self.send(rt, addressed) {
-            Ok(()) => Ok(shard),
-            Err(refused) => Err(key_back(refused)),
-        }
+        line::admit(&mut self.line(rt), key, weight)
     }
 
     /// Asks for a row last in the shard of its key, where the key has none, and answers that shard. A weight of 0 is kept, and
@@ -165,24 +130,12 @@ impl<
         ensures shard { IfOk result (λ s. s ≡ hash_of (K.hash_input key) % N) }
         ensures held { IfErr result (λ r. held_in r ≡ key) }
     {
-        let addressed = tail_row(key, weight, N);
-        let shard = addressed.shard;
-        match self.send(rt, addressed) {
-            Ok(()) => Ok(shard),
-            Err(refused) => Err(key_back(refused)),
-        }
+        line::insert_tail(&mut self.line(rt), key, weight)
     }
 
     /// Asks that a key's row is put first. Where the map has no such hash it answers false, and sends nothing.
     pub fn promote(&self, rt: &impl Wait, key: &K) -> Result<bool, SendRefused<()>> {
-        let hash = hash_key(key);
-        if self.weight_of(rt, hash).is_none() {
-            return Ok(false);
-        }
-        match self.send(rt, promotion(hash, N)) {
-            Ok(()) => Ok(true),
-            Err(refused) => Err(refused.bare()),
-        }
+        line::promote(&mut self.line(rt), key)
     }
 
     /// Asks that a key's row is taken out.
@@ -192,10 +145,7 @@ impl<
 
     /// Asks that the row with this hash is taken out.
     pub fn remove_by_hash(&self, rt: &impl Wait, hash: u64) -> Result<(), SendRefused<()>> {
-        match self.send(rt, removal(hash, N)) {
-            Ok(()) => Ok(()),
-            Err(refused) => Err(refused.bare()),
-        }
+        line::remove_by_hash(&mut self.line(rt), hash)
     }
 
     /// Asks that `delta` is added to a key's weight, as far as `max_weight`, and its row put first. A new row is made of a
@@ -207,13 +157,7 @@ impl<
         delta: usize,
         max_weight: Option<usize>,
     ) -> Result<(), SendRefused<()>> {
-        let Ok(clone) = key.clone() else {
-            return Err(SendRefused::Memory(()));
-        };
-        match self.send(rt, increment(key, clone, delta, max_weight, N)) {
-            Ok(()) => Ok(()),
-            Err(refused) => Err(refused.bare()),
-        }
+        line::increment_weight(&mut self.line(rt), key, delta, max_weight)
     }
 
     /// Whether the map of weights has the hash of this key.
@@ -242,11 +186,7 @@ impl<
     ) -> Result<Option<(K, usize)>, SendRefused<()>>
         ensures { N ≤ shard → result ≡ Ok None }
     {
-        match self.ask(rt, shard, LruMsg::PeekLru)? {
-            None => Ok(None),
-            Some(Reply::Lru(last)) => Ok(last),
-            Some(_) => Err(SendRefused::Closed(())),
-        }
+        line::peek_lru(&mut self.line(rt), shard)
     }
 
     /// Clones of all keys of a shard with their weights, most recent first; `None` past the last shard. Refused where there is
@@ -258,11 +198,7 @@ impl<
     ) -> Result<Option<Vec<(K, usize)>>, SendRefused<()>>
         ensures { N ≤ shard → result ≡ Ok None }
     {
-        match self.ask(rt, shard, LruMsg::Snapshot)? {
-            None => Ok(None),
-            Some(Reply::Rows(rows)) => Ok(Some(rows)),
-            Some(_) => Err(SendRefused::Closed(())),
-        }
+        line::snapshot_shard(&mut self.line(rt), shard)
     }
 
     /// The weight of a shard, after all that this caller sent to it before; `None` past the last shard. Refused where there is
@@ -274,11 +210,7 @@ impl<
     ) -> Result<Option<usize>, SendRefused<()>>
         ensures { N ≤ shard → result ≡ Ok None }
     {
-        match self.ask(rt, shard, LruMsg::QueryWeight)? {
-            None => Ok(None),
-            Some(Reply::Weight(weight)) => Ok(Some(weight)),
-            Some(_) => Err(SendRefused::Closed(())),
-        }
+        line::shard_weight(&mut self.line(rt), shard)
     }
 
     /// Takes each shard's snapshot in turn, hands it to `write` on this thread, and answers how many were written. A shard
@@ -290,25 +222,24 @@ impl<
         write: F,
     ) -> usize
         requires { F.IsAlwaysCallable write }
-        ensures { result ≤ N }
+        ensures most { result ≤ N }
+        ensures told { IsWritten (F.post write) (λ _. Unit {0}) N result }
     {
-        let mut written = 0;
-        for shard in 0..N {
-            let Ok(Some(items)) = self.snapshot_shard(rt, shard) else {
-                continue;
-            };
-            let data = ShardData {
-                shard_index: shard,
-                items,
-            };
-            match write(data) {
-                Ok(()) => written += 1,
-                Err(refusal) => {
-                    error!(log; "AsyncLru: failed to write shard {shard}: {refusal}");
-                }
-            }
-        }
-        written
+        self.save_report(rt, log, write).written
+    }
+
+    /// As `save`, and it answers of each shard what became of it: it was written, or refused, or gave no snapshot.
+    pub fn save_report<L: Log, F: Fn(ShardData<K>) -> Result<(), String> + Drop>(
+        &self,
+        rt: &impl Wait,
+        log: &L,
+        write: F,
+    ) -> SaveReport
+        requires { F.IsAlwaysCallable write }
+        ensures all { result.written + (result.refused + result.missing) ≡ N }
+        ensures told { IsReport (F.post write) (λ _. Unit {0}) N result }
+    {
+        save_all(&mut self.line(rt), log, "AsyncLru", &write)
     }
 }
 

@@ -1,7 +1,7 @@
 //! How an order served by actors is made.
 ghost use Rattle.std.specs.Prelude.{◌≡◌, ◌<◌, [], All, Err, Some, IfOk};
 ghost use Rattle.std.specs.Arc.{arc_value};
-ghost use Rattle.lru_async.specs.Orders.{limits_of, limits_told, order_of, untold};
+ghost use Rattle.lru_async.specs.Orders.{HasWorkers, limits_of, limits_told, order_of, untold};
 ghost use Rattle.lru_sends.specs.declared.refusals.BuildError.TheVariants.{NoCallbackWorkers};
 
 use crate::async_lru::AsyncLru;
@@ -139,6 +139,11 @@ impl<K, C, const N: usize, G> AsyncLruBuilder<K, C, N, G> {
         }
     }
 
+    /// What memory of what it makes comes from.
+    pub fn alloc(&self) -> Global {
+        self.alloc
+    }
+
     /// For how many rows each shard has room from the start; 0 where it is not told.
     pub fn capacity(self, capacity: usize) -> Self
         ensures settings { result.settings ≡ record self.settings { capacity = capacity } }
@@ -220,6 +225,7 @@ impl<
         requires ready { C.ready (arc_value self.callback) }
         ensures refused { self.settings.num_callback_workers ≡ 0 → result ≡ Err NoCallbackWorkers }
         ensures limits { IfOk result (λ lru. limits_of lru ≡ limits_told self.settings) }
+        ensures workers { IfOk result (λ lru. HasWorkers lru self.settings) }
     {
         want_callback_workers(&self.settings)?;
         let alloc = self.alloc;
@@ -236,7 +242,8 @@ impl<
     ) -> Result<(AsyncLru<K, N>, EvictionReceiver<K>), BuildError>
         requires some { 0 < N }
         requires ready { C.ready (arc_value self.callback) }
-        ensures { IfOk result (λ made. limits_of made.0 ≡ limits_told self.settings) }
+        ensures limits { IfOk result (λ made. limits_of made.0 ≡ limits_told self.settings) }
+        ensures workers { IfOk result (λ made. HasWorkers made.0 self.settings) }
     {
         let alloc = self.alloc;
         let alone = self.settings.num_callback_workers == 0;
@@ -259,6 +266,7 @@ impl<
         requires counts { (blank.tie.table.shared.key ≡ N) × (B.shards ≡ N) }
         ensures refused { self.settings.num_callback_workers ≡ 0 → result ≡ Err NoCallbackWorkers }
         ensures limits { IfOk result (λ lru. limits_of lru ≡ limits_told self.settings) }
+        ensures workers { IfOk result (λ lru. HasWorkers lru self.settings) }
     {
         want_callback_workers(&self.settings)?;
         let alloc = self.alloc;
@@ -281,7 +289,8 @@ impl<
         requires counts { (B.putters ≡ blanks.putters) × (B.takers ≡ blanks.takers) }
         requires actors { blanks.putters ≡ N }
         requires workers { blanks.takers ≡ self.settings.num_callback_workers }
-        ensures { IfOk result (λ ledger. limits_of (order_of ledger) ≡ limits_told self.settings) }
+        ensures limits { IfOk result (λ ledger. limits_of (order_of ledger) ≡ limits_told self.settings) }
+        ensures workers { IfOk result (λ ledger. HasWorkers (order_of ledger) self.settings) }
     {
         let alloc = self.alloc;
         let takers = self.settings.num_callback_workers;
@@ -310,7 +319,8 @@ impl<
         requires counts { (B.putters ≡ blanks.putters) × (B.takers ≡ blanks.takers) }
         requires actors { blanks.putters ≡ N }
         requires workers { blanks.takers ≡ self.settings.num_callback_workers }
-        ensures { IfOk result (λ made. limits_of made.0 ≡ limits_told self.settings) }
+        ensures limits { IfOk result (λ made. limits_of made.0 ≡ limits_told self.settings) }
+        ensures workers { IfOk result (λ made. HasWorkers made.0 self.settings) }
     {
         let alloc = self.alloc;
         let logs = Some(voice_of(alloc, blank)?);

@@ -307,7 +307,7 @@ impl<K: Clone + Drop, const N: usize, B: Registry + Archive> AsyncLru<K, N, B> {
         rt: &impl Wait,
         alone: bool,
     ) -> Result<(Self, EvictionReceiver<K, B>), BuildError>
-        ensures { IfOk result (λ made. limits_of made.0 ≡ limits_of self) }
+        ensures { IfOk result (λ made. made.0 ≡ self) }
     {
         match Arc::try_clone(&self.world) {
             Ok(world) => Ok((self, EvictionReceiver::new(world, alone))),

@@ -6,6 +6,8 @@ pub mod async_lru;
 pub mod builder;
 mod launching;
 pub mod ledger_lru;
+mod plain;
 pub mod receiver;
+pub mod saving;
 pub mod seats_back;
 mod threads;

@@ -1,7 +1,6 @@
 //! A receiver of evicted pairs.
 use lru_logs::tie::Archive;
 use lru_shared_ledger::Registry;
-use lru_world::outlet::Taken;
 use lru_world::world::World;
 use std::alloc::Global;
 use std::marker::Brand;
@@ -22,10 +21,7 @@ impl<K: Clone + Drop, B: Registry + Archive> EvictionReceiver<K, B> {
 
     /// The next evicted pair. It waits for one; `None` once the order is closed and no pair waits.
     pub fn recv(&self, rt: &impl Wait) -> Option<(K, usize)> {
-        match self.world.outlet.take(rt, &mut None) {
-            Taken::Pair(key, weight) => Some((key, weight)),
-            _ => None,
-        }
+        self.world.outlet.take(rt, &mut None).into_pair()
     }
 
     /// Ends receiving. Without callback workers what waits is lost, and all that is evicted later; with some they go on.

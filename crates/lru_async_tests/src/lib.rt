@@ -8,6 +8,8 @@ mod calls;
 #[cfg(test)]
 mod drawn;
 #[cfg(test)]
+mod inboxes;
+#[cfg(test)]
 mod limits;
 #[cfg(test)]
 mod replays;

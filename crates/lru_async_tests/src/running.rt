@@ -1,7 +1,7 @@
 //! What only running threads show.
 ghost use Rattle.std.specs.Prelude.{◌≡◌};
 
-use crate::callbacks::{Counting, Holding, Meeting, Quiet, gated_order, is_raised};
+use crate::callbacks::{Counting, Holding, LOOKS, Meeting, Quiet, gated_order, is_raised};
 use lru_async::async_lru::{AsyncLru, Closed};
 use lru_ledger::Settled;
 use lru_logs::tie::Archive;
@@ -173,6 +173,54 @@ fn close_returns_while_a_limit_is_passed(rt: HostRuntime) -> Result<(), Fail> {
     Ok(())
 }
 
+// Closes an order while the gate holds its first eviction, which goes on after that.
+fn closes_beside<R: Threads + Wait + Sync>(
+    rt: &R,
+    lru: AsyncLru<u64, 1>,
+    gate: &Holding,
+) -> Option<Closed> {
+    let sent = lru.insert_tail(rt, 1, 10).is_ok() && lru.insert_tail(rt, 2, 10).is_ok();
+    lru.wait_until_quiet(rt);
+    lru.trigger_eviction(rt);
+    if !sent || !is_raised(&gate.held) {
+        return None;
+    }
+    let (closed, _) = thread::join(
+        rt,
+        || lru.close(rt),
+        || {
+            // long enough for the close to begin
+            for _ in 0..20_000u32 {
+                thread::yield_now();
+            }
+            gate.open.store(true, Ordering::SeqCst);
+        },
+    );
+    Some(closed)
+}
+
+#[test]
+fn what_is_evicted_in_a_close_is_called(rt: HostRuntime) -> Result<(), Fail> {
+    let alloc: Global = rt.alloc();
+    let counting = Arc::new(alloc, Counting::new())?;
+    let gate = Arc::new(alloc, Holding::new(2))?;
+    let theirs = Arc::try_clone(&counting)?;
+    let builder = AsyncLru::<u64, 1>::builder_with_gate(alloc, 0, theirs, Arc::try_clone(&gate)?);
+    let Ok(lru) = builder.build(rt) else {
+        panic!(rt; "no threads");
+    };
+    let closed = Closed {
+        weight: 10,
+        len: 1,
+        evicted_weight: 10,
+        evicted_len: 1,
+        lost_pairs: 0,
+    };
+    let found = closes_beside(&rt, lru, &*gate);
+    assert_eq!(rt; (found, counting.counts()), (Some(closed), [0, 1, 0, 0]));
+    Ok(())
+}
+
 #[test]
 fn pairs_are_lost_once_the_receiver_left(rt: HostRuntime) -> Result<(), Fail> {
     let alloc: Global = rt.alloc();
@@ -259,5 +307,45 @@ fn a_ledger_keeps_what_nobody_takes(rt: HostRuntime) -> Result<(), Fail> {
     };
     let (count, same) = all_left(&settled);
     assert!(rt; filled && count == 1 && same);
+    Ok(())
+}
+
+// Fills an order round a box: whether its pair is called while it is open.
+fn called_soon<
+    B: Registry + Archive + Send + Sync + 'static,
+    R: Threads + Wait + Copy + Send + Sync + 'static,
+>(rt: R, alloc: Global, counting: &Arc<Counting, Global>, blanks: Blanks) -> Option<bool>
+    requires tables { (blanks.puts.tie.table.shared.table_id ≡ B.puts) × (blanks.takes.tie.table.shared.table_id ≡ B.takes) }
+    requires counts { (B.putters ≡ 1) × (B.takers ≡ 1) }
+    requires blanks { (blanks.putters ≡ 1) × (blanks.takers ≡ 1) }
+{
+    let theirs = Arc::try_clone(counting).ok()?;
+    let ledger = AsyncLru::<u64, 1>::builder(alloc, 20, theirs)
+        .build_with_ledger::<R, B>(rt, blanks)
+        .ok()?;
+    let filled = fills(&rt, ledger.lru());
+    let called = is_called(counting);
+    ledger.close(&rt);
+    Some(filled && called)
+}
+
+// Whether the first key is called soon.
+fn is_called(counting: &Counting) -> bool {
+    for _ in 0..LOOKS {
+        if counting.first.load(Ordering::SeqCst) == 1 {
+            return true;
+        }
+        thread::yield_now();
+    }
+    false
+}
+
+#[test]
+fn a_pair_in_a_box_is_called_while_it_is_open(rt: HostRuntime) -> Result<(), Fail> {
+    let alloc: Global = rt.alloc();
+    let counting = Arc::new(alloc, Counting::new())?;
+    let blanks = Blanks::new(alloc, 1, 1)?;
+    let called = called_soon::<Brand, _>(rt, alloc, &counting, blanks);
+    assert_eq!(rt; (called, counting.counts()), (Some(true), [1, 0, 0, 0]));
     Ok(())
 }

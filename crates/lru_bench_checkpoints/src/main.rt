@@ -1,14 +1,15 @@
 //! `lru_bench_checkpoints [ROWS WHAT FOLDER]`: what it costs to save rows of 8 shards as a checkpoint, and to load it again.
 //!
 //! WHAT is `rows`, which makes so many rows and no more, `save`, which saves them into a folder of the system, which has to
-//! be there, `load`, which loads what lies in that, `restore`, which puts it into a core besides, or `fill`, which makes so
+//! be there, `again`, which saves them twice and hands the second save what the first one knows, `load`, which loads what lies in that, `restore`, which puts it into a core besides, or `fill`, which makes so
 //! many rows and puts them into a core. A line says how many rows that were, and how long it took, of `fill` without the
-//! making. Without arguments it makes 10 000 rows, and no line says how long.
+//! making, and of `again` the second time. Without arguments it makes 10 000 rows, and no line says how long.
 #![tactic(auto)]
 
 use lru_cores::lru_core::LruCore;
 use lru_frames::row::Row;
-use lru_generations::generations::save;
+use lru_generations::generations::{save, save_after};
+use lru_generations::known::Known;
 use lru_generations::loading::{Checkpoint, load};
 use lru_host_folder::host_folder::HostFolder;
 use lru_order_captures::cores::restore_shards;
@@ -70,10 +71,16 @@ fn shards(alloc: Global, rows: u64) -> Result<[Shard; 8], AllocError> {
 }
 
 /// Saves the rows; whether that was done.
-fn save_rows(rt: HostRuntime, shards: &[Shard; 8], dir: &str) -> io::Result<bool> {
+fn save_rows(
+    rt: HostRuntime,
+    shards: &[Shard; 8],
+    dir: &str,
+    known: Option<&Known>,
+) -> io::Result<bool> {
     let mut folder = HostFolder::new(rt);
     let start = Instant::now(&rt)?;
-    match save(rt.alloc(), &mut folder, dir, "rows", &shards.as_slice()) {
+    let rows = shards.as_slice();
+    match save_after(rt.alloc(), &mut folder, dir, "rows", &rows, known) {
         Ok(saved) => println!(rt;
             "generation {}, {} ms",
             saved.generation,
@@ -85,6 +92,18 @@ fn save_rows(rt: HostRuntime, shards: &[Shard; 8], dir: &str) -> io::Result<bool
         }
     }
     Ok(true)
+}
+
+/// Saves the rows, and then again; whether that was done.
+fn save_again(rt: HostRuntime, shards: &[Shard; 8], dir: &str) -> io::Result<bool> {
+    let mut folder = HostFolder::new(rt);
+    match save(rt.alloc(), &mut folder, dir, "rows", &shards.as_slice()) {
+        Ok(saved) => save_rows(rt, shards, dir, Some(&saved.known)),
+        Err(error) => {
+            println!(rt; "not saved: {error}")?;
+            Ok(false)
+        }
+    }
 }
 
 /// The newest checkpoint, where there is one and it can be loaded.
@@ -163,7 +182,8 @@ fn main(rt: HostRuntime) -> io::Result<ExitCode> {
             let start = Instant::now(&rt)?;
             tell_core(rt, made, start)?
         }
-        "save" => save_rows(rt, &shards(rt.alloc(), task.rows)?, &task.folder)?,
+        "save" => save_rows(rt, &shards(rt.alloc(), task.rows)?, &task.folder, None)?,
+        "again" => save_again(rt, &shards(rt.alloc(), task.rows)?, &task.folder)?,
         _ => {
             let made = shards(rt.alloc(), task.rows)?;
             println!(rt; "{} rows in the first shard", made[0].len())?;

@@ -4,6 +4,7 @@ ghost use Rattle.lru_cache_checkpoints.specs.declared.restored.RestoreError.TheV
 
 use lru_cache::cache::Refused;
 use lru_checkpoints::errors::CheckpointError;
+use lru_generations::known::Known;
 use lru_generations::newest::Passed;
 
 /// What a load put back.
@@ -11,6 +12,8 @@ use lru_generations::newest::Passed;
 pub struct Restored {
     /// The number of the checkpoint that was loaded, where there is one.
     pub generation: Option<u64>,
+    /// That it was whole: a save that is handed it need not read it again.
+    pub known: Option<Known>,
     /// How many of its entries were left out, since each is too heavy by itself.
     pub left_out: usize,
     /// The generations above it that have a manifest and were passed over, the highest first.

@@ -1,17 +1,17 @@
 //! Saves and loads of caches and orders, each by one call.
 use lru_cache::cache::Cache;
 use lru_cache_captures::{caches, deadlines, shared};
-use lru_cache_checkpoints::caches::{load_cache, save_cache};
-use lru_cache_checkpoints::deadlines::{load_deadlines, save_deadlines};
-use lru_cache_checkpoints::shared::{load_shared, save_shared};
+use lru_cache_checkpoints::caches::{load_cache, save_cache, save_cache_after};
+use lru_cache_checkpoints::deadlines::{load_deadlines, save_deadlines, save_deadlines_after};
+use lru_cache_checkpoints::shared::{load_shared, save_shared, save_shared_after};
 use lru_cores::lru_core::LruCore;
 use lru_deadlines::deadlines::DeadlineCache;
 use lru_folder::folder::Folder;
 use lru_locks::lru::Lru;
 use lru_memory_folder::memory_folder::MemoryFolder;
 use lru_order_captures::{cores, locks};
-use lru_order_checkpoints::cores::{load_core, save_core};
-use lru_order_checkpoints::locks::{load_lru, save_lru};
+use lru_order_checkpoints::cores::{load_core, save_core, save_core_after};
+use lru_order_checkpoints::locks::{load_lru, save_lru, save_lru_after};
 use lru_shared::shared::SharedCache;
 use std::alloc::Global;
 use std::sync::Wait;
@@ -34,11 +34,14 @@ fn cache_comes_back(alloc: Global) -> Result<bool, Fail> {
     for (key, weight) in &ROWS {
         cache.put(*key, *key ^ 100, *weight, |_gone| {})?;
     }
-    let saved = save_cache(alloc, &mut folder, "d", "c", &cache)?;
+    let first = save_cache(alloc, &mut folder, "d", "c", &cache)?;
+    let known = Some(&first.known);
+    let saved = save_cache_after(alloc, &mut folder, "d", "c", &cache, known)?;
     let mut again: Cache<u64, u64> = Cache::new(alloc, LIMIT, 9)?;
     let restored = load_cache(alloc, &mut folder, "d", "c", &mut again)?;
     let rows = caches::capture_cache(alloc, &again)?;
-    let is_told = (restored.generation == Some(saved.generation)) & (restored.left_out == 0);
+    let mut is_told = (restored.generation == Some(saved.generation)) & (restored.left_out == 0);
+    is_told &= (saved.kept == Some(first.generation)) & restored.known.is_some();
     Ok(
         is_told
             && (rows.len() == 3)
@@ -84,11 +87,14 @@ fn deadlines_come_back(alloc: Global) -> Result<bool, Fail> {
     for ((key, weight), deadline) in ROWS.iter().zip(times.iter()) {
         cache.put_until(*key, *key ^ 100, *weight, *deadline, |_gone| {})?;
     }
-    let saved = save_deadlines(alloc, &mut folder, "d", "c", &cache)?;
+    let first = save_deadlines(alloc, &mut folder, "d", "c", &cache)?;
+    let known = Some(&first.known);
+    let saved = save_deadlines_after(alloc, &mut folder, "d", "c", &cache, known)?;
     let mut again: DeadlineCache<u64, u64> = DeadlineCache::new(alloc, LIMIT, 9)?;
     let restored = load_deadlines(alloc, &mut folder, "d", "c", &mut again)?;
     let rows = deadlines::capture_deadlines(alloc, &again)?;
-    let is_told = (restored.generation == Some(saved.generation)) & (restored.left_out == 0);
+    let mut is_told = (restored.generation == Some(saved.generation)) & (restored.left_out == 0);
+    is_told &= (saved.kept == Some(first.generation)) & restored.known.is_some();
     let wanted = [(5u64, u64::MAX, 3usize), (1, 0, 0), (3, 40, 70_000)];
     Ok(
         is_told
@@ -150,10 +156,13 @@ fn shared_comes_back<R: Wait>(rt: &R, alloc: Global) -> Result<bool, Fail> {
     for (key, weight) in &ROWS {
         cache.put(rt, *key, *key ^ 100, *weight, |_gone| {})?;
     }
-    let saved = save_shared(rt, alloc, &mut folder, "d", "c", &cache)?;
+    let first = save_shared(rt, alloc, &mut folder, "d", "c", &cache)?;
+    let known = Some(&first.known);
+    let saved = save_shared_after(rt, alloc, &mut folder, "d", "c", &cache, known)?;
     let again: SharedCache<u64, u64, 2> = SharedCache::new(alloc, LIMIT, 18)?;
     let restored = load_shared(rt, alloc, &mut folder, "d", "c", &again)?;
-    let is_told = (restored.generation == Some(saved.generation)) & (restored.left_out == 0);
+    let mut is_told = (restored.generation == Some(saved.generation)) & (restored.left_out == 0);
+    is_told &= (saved.kept == Some(first.generation)) & restored.known.is_some();
     Ok(
         is_told
             & shards_are_their_own(rt, alloc, &cache)?
@@ -173,13 +182,17 @@ fn core_comes_back(alloc: Global) -> Result<bool, Fail> {
     for (key, weight) in [(3u64, 70_000usize), (1, 1), (5, 3)] {
         core.admit(key, (key, key ^ 100), weight)?;
     }
-    let saved = save_core(alloc, &mut folder, "d", "c", &core)?;
+    let first = save_core(alloc, &mut folder, "d", "c", &core)?;
+    let known = Some(&first.known);
+    let saved = save_core_after(alloc, &mut folder, "d", "c", &core, known)?;
     let mut again: LruCore<(u64, u64), 2> = LruCore::with_capacity(alloc, LIMIT, 4)?;
     let restored = load_core(alloc, &mut folder, "d", "c", &mut again)?;
     let rows = cores::capture_shard(alloc, &again, 1)?;
     let wanted = [(5u64, 3usize), (1, 1), (3, 70_000)];
     Ok(
         (restored.generation == Some(saved.generation))
+            && (saved.kept == Some(first.generation))
+            && restored.known.is_some()
             && (rows.len() == 3)
             && rows.iter().zip(wanted.iter()).all(|(row, (key, weight))| (row.key == *key)
                 & (row.data == (*key ^ 100))
@@ -199,13 +212,17 @@ fn lru_comes_back<R: Wait>(rt: &R, alloc: Global) -> Result<bool, Fail> {
     for (key, weight) in [(3u64, 70_000usize), (1, 1), (5, 3)] {
         lru.admit(rt, key, (key, key ^ 100), weight)?;
     }
-    let saved = save_lru(rt, alloc, &mut folder, "d", "c", &lru)?;
+    let first = save_lru(rt, alloc, &mut folder, "d", "c", &lru)?;
+    let known = Some(&first.known);
+    let saved = save_lru_after(rt, alloc, &mut folder, "d", "c", &lru, known)?;
     let again: Lru<(u64, u64), 2> = Lru::with_capacity(alloc, LIMIT, 4)?;
     let restored = load_lru(rt, alloc, &mut folder, "d", "c", &again)?;
     let rows = locks::capture_shard(rt, alloc, &again, 1)?;
     let wanted = [(5u64, 3usize), (1, 1), (3, 70_000)];
     Ok(
         (restored.generation == Some(saved.generation))
+            && (saved.kept == Some(first.generation))
+            && restored.known.is_some()
             && (rows.len() == 3)
             && rows.iter().zip(wanted.iter()).all(|(row, (key, weight))| (row.key == *key)
                 & (row.data == (*key ^ 100))

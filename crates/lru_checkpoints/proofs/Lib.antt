@@ -2,3 +2,4 @@ pub mod Lists
 pub mod Saved
 pub mod Loaded
 pub mod Marked
+pub mod Taken

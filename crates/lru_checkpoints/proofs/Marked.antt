@@ -1,5 +1,5 @@
 -- Frames and the marks that a manifest keeps of them.
-use Rattle.std.proofs.Common.{◌≡◌, ℕ, ◌+◌, ◌*◌, List, [], ◌∷◌, ◌++◌, length, refl, sym, ◌∙◌, ap, arith, length-append}
+use Rattle.std.proofs.Common.{◌≡◌, ℕ, ◌+◌, ◌*◌, List, [], ◌∷◌, ◌++◌, length, Some, refl, sym, ◌∙◌, ap, subst, arith, length-append}
 use Rattle.std.specs.Prelude.{map}
 use Rattle.lru_frames.specs.Words.{word}
 use Rattle.lru_frames.specs.WordLaws.{length-word}
@@ -14,7 +14,9 @@ use Rattle.lru_frames.specs.Rows.{row_bytes}
 use Rattle.std.specs.List.{flat_map}
 use Rattle.lru_frames.proofs.EnvelopeLaws.{one_content, length-sealed}
 use Rattle.lru_frames.proofs.FrameLaws.{AreNarrow, one_header, fits_narrow}
-use Rattle.lru_checkpoints.specs.Checkpoints.{IsWholeFrame}
+use Rattle.lru_folder.specs.Files.{Files}
+use Rattle.lru_checkpoints.specs.Checkpoints.{Shards, HasCheckpoint, IsWhole, IsWholeFrame}
+use Rattle.lru_checkpoints.proofs.Lists.{get-below, get-there}
 
 -- a whole frame is as long as its mark tells
 pub whole_length : (header : Header) (mark : Mark) (bytes : List ℕ) → IsWholeFrame header mark bytes → length bytes ≡ mark.length
@@ -47,6 +49,22 @@ module _ {K V : Type 0} (key_bytes : K → List ℕ) (IsKey : K → Type 0) (dat
   -- and a whole one by its check
   pub frame_whole : (header : Header) (rows : List (Row K V)) → IsWholeFrame header (mark_of key_bytes data_bytes header rows) (frame_of key_bytes data_bytes header rows)
   frame_whole header rows = (flat_map (row_bytes key_bytes data_bytes) rows, (refl, refl))
+
+  -- so a checkpoint that can be read is whole, and its manifest tells of these marks
+  pub checkpoint_whole : (dir file_name : List ℕ) (generation : ℕ) (shards : Shards K V) (files : Files) (h : HasCheckpoint key_bytes IsKey data_bytes IsData dir file_name generation shards files)
+      → IsWhole dir file_name generation h.marks files
+  checkpoint_whole dir file_name generation shards files h = record {
+    numbers = h.numbers;
+    few = h.few;
+    manifest = h.manifest;
+    frames = λ shard mark at.
+        let header = part_header generation (length h.marks) shard in
+        let rows = get-there shards shard (omega (arith, get-below h.marks shard mark at, h.marked.number)) in
+        let some : Some mark ≡ Some (mark_of key_bytes data_bytes header rows.0) = sym at ∙ h.marked.each shard rows.0 rows.1 in
+        let same : mark ≡ mark_of key_bytes data_bytes header rows.0 = cc in
+        let frame = frame_of key_bytes data_bytes header rows.0 in
+        (frame, (h.frames shard rows.0 rows.1, subst (λ (x : Mark). IsWholeFrame header x frame) (sym same) (frame_whole header rows.0)));
+  }
 
 -- a manifest has 64 bytes, and 24 for each shard
 length-rows : (marks : List Mark) → length (flat_map (row_bytes word word) (map mark_row marks)) ≡ 24 * length marks

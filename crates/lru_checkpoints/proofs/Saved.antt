@@ -17,8 +17,9 @@ use Rattle.lru_manifests.specs.Names.{IsPart, part_path, frame_path, manifest_pa
 use Rattle.lru_manifests.proofs.NameLaws.{one_path}
 use Rattle.lru_whole_files.specs.Touching.{IsSameBut, TouchesOnly}
 use Rattle.lru_whole_files.specs.Replacing.{IsReplaced, IsOldOrReplaced, Replaces}
-use Rattle.lru_checkpoints.specs.Checkpoints.{Shards, IsFrame, IsPartOf, AreFirm, AreMarked, AreHandedOut, FitsEach, HasFrames, HasCheckpoint, IsOldOrNew, SavesCheckpoint, most_shards}
+use Rattle.lru_checkpoints.specs.Checkpoints.{Shards, IsFrame, IsPartOf, AreFirm, AreMarked, AreHandedOut, FitsEach, HasFrames, HasCheckpoint, IsOldOrNew, IsWhole, SavesCheckpoint, most_shards}
 use Rattle.lru_checkpoints.proofs.Lists.{get-below}
+use Rattle.lru_checkpoints.proofs.Marked.{checkpoint_whole}
 
 -- parts of one name that share a path are one part
 pub one_part : (dir file_name : List ℕ) (one other : PartName) → IsPart one → IsPart other → part_path dir file_name one ≡ part_path dir file_name other → one ≡ other
@@ -114,6 +115,13 @@ module _ {K V : Type 0} (key_bytes : K → List ℕ) (IsKey : K → Type 0) (dat
           r.firm path (frame-apart-temp dir file_name generation generation shard low low small) (frame-apart-manifest dir file_name generation generation shard low low small) (firm shard inside)
           ∙ frames shard rows at);
     }
+
+    -- it is whole, with these marks
+    pub new_whole : (old m : Files)
+        → IsReplaced (manifest_temp_path dir file_name generation) (manifest_path dir file_name generation) (manifest_bytes generation marks) held loose old m
+        → IsWhole dir file_name generation marks m
+    unfolding new_checkpoint
+    new_whole old m r = checkpoint_whole key_bytes IsKey data_bytes IsData dir file_name generation shards m (new_checkpoint old m r)
 
     then_replaced : (was then m : Files) → IsSameBut Frames was then → Replaced marks held loose then m → R was m
     then_replaced was then m h (inl same) = record {

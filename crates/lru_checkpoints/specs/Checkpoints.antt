@@ -1,5 +1,5 @@
 -- A checkpoint in a folder's files, and what a save of one leaves.
-use Rattle.std.specs.Prelude.{◌≡◌, ◌⊎◌, ◌<◌, ◌≤◌, ◌^◌, ◌++◌, ℕ, List, length, slice_get, Some}
+use Rattle.std.specs.Prelude.{◌≡◌, ◌⊎◌, ◌<◌, ◌≤◌, ◌^◌, ◌++◌, ℕ, List, length, slice_get, Option, Some, None}
 use Rattle.std.specs.FinMap.{get}
 use Rattle.lru_folder.specs.Files.{Files}
 use Rattle.lru_folder.specs.Folder.{LeavesOnly}
@@ -11,6 +11,7 @@ use Rattle.lru_frames.specs.declared.row.Row.{Row}
 use Rattle.lru_frames.specs.Envelope.{sealed}
 use Rattle.lru_frames.specs.Frame.{frame_of, header_bytes, Fits}
 use Rattle.lru_frames.specs.Marks.{mark_in, mark_of}
+use Rattle.lru_manifests.specs.declared.manifest.Manifest.{Manifest}
 use Rattle.lru_manifests.specs.declared.names.PartName.{PartName}
 use Rattle.lru_manifests.specs.Manifests.{IsManifest, part_header, manifest_bytes}
 use Rattle.lru_manifests.specs.Names.{IsPart, generation_of, part_path, frame_path, manifest_path}
@@ -38,6 +39,11 @@ AreFirm dir file_name generation count loose = (shard : ℕ) → shard < count �
 abbrev pub IsWholeFrame : Header → Mark → List ℕ → Type 0
 IsWholeFrame header mark bytes = (rest : List ℕ) × ((bytes ≡ sealed (header_bytes header mark.rows ++ rest)) × (mark ≡ mark_in mark.rows (header_bytes header mark.rows ++ rest)))
 
+-- this manifest is the known one
+abbrev pub IsKnown : Option Manifest → Manifest → Type 0
+IsKnown None manifest = ⊥
+IsKnown (Some known) manifest = (known.generation ≡ manifest.generation) × (known.frames.items ≡ manifest.frames.items)
+
 module _ (dir file_name : List ℕ) where
   -- The files have a whole generation, by its checks: the manifest stands, and each frame that it tells of.
   pub record IsWhole (generation : ℕ) (marks : List Mark) (files : Files) : Type 0 where
@@ -46,6 +52,19 @@ module _ (dir file_name : List ℕ) where
     pub manifest : get files (manifest_path dir file_name generation) ≡ Some (manifest_bytes generation marks)
     pub frames : (shard : ℕ) (mark : Mark) → slice_get marks shard ≡ Some mark
         → (bytes : List ℕ) × ((get files (frame_path dir file_name generation shard) ≡ Some bytes) × IsWholeFrame (part_header generation (length marks) shard) mark bytes)
+
+  -- A generation that was known whole before still has its manifest, to the byte: none that tells of other frames.
+  pub record IsStill (known : Manifest) (generation : ℕ) (marks : List Mark) (files : Files) : Type 0 where
+    pub same : known.generation ≡ generation
+    pub marks_same : known.frames.items ≡ marks
+    pub numbers : IsManifest generation marks
+    pub few : length marks ≤ most_shards
+    pub manifest : get files (manifest_path dir file_name generation) ≡ Some (manifest_bytes generation marks)
+
+  -- what is taken for whole: what is whole, and what was known whole and still has its manifest
+  abbrev pub IsTaken : Option Manifest → ℕ → List Mark → Files → Type 0
+  IsTaken None generation marks files = IsWhole generation marks files
+  IsTaken (Some known) generation marks files = IsWhole generation marks files ⊎ IsStill known generation marks files
 
 module _ {K V : Type 0} where
   -- numbers that fit, and keys and data that are values of their types

@@ -1,12 +1,12 @@
 //! A checkpoint of any content, told whole by its checks.
-ghost use Rattle.std.specs.Prelude.{◌≡◌, ◌≢◌, ◌↔◌, ◌<◌, ◌≤◌, ◌^◌, ℕ, suc, List, length, slice_get, IfErr, IfOk, OnOk, Some};
+ghost use Rattle.std.specs.Prelude.{◌≡◌, ◌≢◌, ◌↔◌, ◌<◌, ◌≤◌, ◌^◌, ℕ, suc, List, length, slice_get, IfErr, IfOk, OnOk, Some, IsTrue, option_copied};
 ghost use Rattle.std.specs.FinMap.{get};
 ghost use Rattle.lru_frames.specs.declared.mark.Mark.{Mark};
 ghost use Rattle.lru_frames.specs.Frame.{IsHeader};
 ghost use Rattle.lru_manifests.specs.Manifests.{IsManifest, part_header};
 ghost use Rattle.lru_manifests.specs.Names.{frame_path};
 ghost use Rattle.lru_whole_files.specs.Touching.{TouchesNothing};
-ghost use Rattle.lru_checkpoints.specs.Checkpoints.{IsWhole, IsWholeFrame};
+ghost use Rattle.lru_checkpoints.specs.Checkpoints.{IsKnown, IsTaken, IsWhole, IsWholeFrame};
 ghost use Rattle.lru_checkpoints.specs.Loads.{IsFault, IsRefused, IsRefusedByCheck};
 
 use crate::errors::{CheckpointError, CheckpointFile};
@@ -98,6 +98,60 @@ fn check_frames<F: Folder>(
     Ok(())
 }
 
+// Whether this is the manifest that is known.
+fn is_known(manifest: &Manifest, known: Option<&Manifest>) -> bool
+    ensures { IsTrue result ↔ IsKnown (option_copied known.entry) manifest.now }
+{
+    match known {
+        None => false,
+        Some(known) => {
+            known.generation == manifest.generation && known.frames == manifest.frames
+        }
+    }
+}
+
+/// Whether the checkpoint of a generation is whole, or is the one that is known to have been: its manifest.
+///
+/// Where the manifest is that of the known one, no frame is read: that it is whole rests on what was known. Else it is checked as
+/// by `check_generation`, whose errors it has. At every moment all files are as they were.
+pub fn check_unless_known<F: Folder>(
+    alloc: Global,
+    folder: &mut F,
+    dir: &str,
+    file_name: &str,
+    generation: u64,
+    known: Option<&Manifest>,
+) -> Result<Manifest, CheckpointError>
+    // What is taken for whole is whole, or has the manifest that was known; where none is known it is whole.
+    ensures found { F.meaning.keeps folder.old → IfOk result (λ manifest. IsTaken dir.now file_name.now (option_copied known.entry) generation manifest.frames.items (F.meaning.files folder.old)) }
+
+    // What is not is neither, unless memory or the device fails.
+    ensures whole { F.meaning.keeps folder.old → (marks : List Mark) → IsTaken dir.now file_name.now (option_copied known.entry) generation marks (F.meaning.files folder.old) → IfErr result IsFault }
+
+    // An error tells which file was refused, and why.
+    ensures refused { F.meaning.keeps folder.old → IfErr result (IsRefused F.meaning
+        (IsRefusedByCheck F.meaning dir.now file_name.now) dir.now file_name.now generation folder.old folder.new) }
+
+    ensures touches { F.meaning.keeps folder.old → TouchesNothing F.meaning folder.old folder.new }
+    ensures files { F.meaning.keeps folder.old → F.meaning.files folder.new ≡ F.meaning.files folder.old }
+    ensures faults { F.meaning.keeps folder.old → OnOk result (F.meaning.faults folder.new ≡ F.meaning.faults folder.old) }
+    ensures quiet { F.meaning.keeps folder.old → IfErr result (λ error. ¬ IsFault error → F.meaning.faults folder.new ≡ F.meaning.faults folder.old) }
+    ensures places { F.meaning.keeps folder.old → F.meaning.folders folder.new ≡ F.meaning.folders folder.old }
+    ensures kept { F.meaning.keeps folder.old ↔ F.meaning.keeps folder.new }
+{
+    let manifest = match load_manifest(alloc, folder, dir, file_name, generation) {
+        Err(error) => return Err(error),
+        Ok(manifest) => manifest,
+    };
+    if is_known(&manifest, known) {
+        return Ok(manifest);
+    }
+    match check_frames(alloc, folder, dir, file_name, &manifest) {
+        Err(error) => Err(error),
+        Ok(()) => Ok(manifest),
+    }
+}
+
 /// Whether the checkpoint of a generation is whole, by the checks of its files and whatever its rows hold: its manifest. No more
 /// than one frame is held. At every moment all files are as they were.
 ///
@@ -126,12 +180,5 @@ pub fn check_generation<F: Folder>(
     ensures places { F.meaning.keeps folder.old → F.meaning.folders folder.new ≡ F.meaning.folders folder.old }
     ensures kept { F.meaning.keeps folder.old ↔ F.meaning.keeps folder.new }
 {
-    let manifest = match load_manifest(alloc, folder, dir, file_name, generation) {
-        Err(error) => return Err(error),
-        Ok(manifest) => manifest,
-    };
-    match check_frames(alloc, folder, dir, file_name, &manifest) {
-        Err(error) => Err(error),
-        Ok(()) => Ok(manifest),
-    }
+    check_unless_known(alloc, folder, dir, file_name, generation, None)
 }

@@ -9,7 +9,7 @@ ghost use Rattle.lru_frames.specs.Rows.{AreSame, IsSameRow};
 ghost use Rattle.lru_manifests.specs.Manifests.{IsManifest, part_header};
 ghost use Rattle.lru_manifests.specs.Names.{frame_path};
 ghost use Rattle.lru_whole_files.specs.Touching.{TouchesNothing};
-ghost use Rattle.lru_checkpoints.specs.Checkpoints.{Shards, AreMarked, FitsEach, HasCheckpoint, HasFrames, most_shards};
+ghost use Rattle.lru_checkpoints.specs.Checkpoints.{Shards, AreMarked, FitsEach, HasCheckpoint, HasFrames, IsWhole, most_shards};
 ghost use Rattle.lru_checkpoints.specs.Loads.{AreSameShards, IsFault, IsRefused, IsRefusedFrame, rows_of};
 
 use crate::errors::{CheckpointError, CheckpointFile};
@@ -114,8 +114,8 @@ fn load_frames<F: Folder, K: Stored, V: Stored>(
     Ok(shards)
 }
 
-/// Loads the checkpoint of a generation: the rows of each of its shards, read from the frames that its manifest tells of, or an
-/// error and no rows. At every moment all files are as they were.
+/// Loads the checkpoint of a generation: its manifest, and the rows of each of its shards, read from the frames that the manifest
+/// tells of; or an error and no rows. At every moment all files are as they were.
 ///
 /// `Memory`: no memory was found. `Folder`: a file was not read, for which the device or memory is the reason.
 /// `Missing`, `Damaged`, `Other`: a file is not there, is damaged, or is another one than the manifest tells of; each names the
@@ -126,15 +126,17 @@ pub fn load_generation<F: Folder, K: Stored, V: Stored>(
     dir: &str,
     file_name: &str,
     generation: u64,
-) -> Result<Vec<Vec<Row<K, V>>>, CheckpointError>
-    // What is loaded stands there whole.
-    ensures found { F.meaning.keeps folder.old → IfOk result (λ shards. HasCheckpoint K.bytes_of K.is_value V.bytes_of V.is_value
-        dir.now file_name.now generation (rows_of shards.items) (F.meaning.files folder.old)) }
+) -> Result<(Manifest, Vec<Vec<Row<K, V>>>), CheckpointError>
+    // What is loaded stands there whole, and so does what its manifest tells.
+    ensures found { F.meaning.keeps folder.old → IfOk result (λ loaded. HasCheckpoint K.bytes_of K.is_value V.bytes_of V.is_value
+        dir.now file_name.now generation (rows_of loaded.1.items) (F.meaning.files folder.old)) }
+    ensures told { F.meaning.keeps folder.old → IfOk result (λ loaded. (loaded.0.generation ≡ generation)
+        × IsWhole dir.now file_name.now generation loaded.0.frames.items (F.meaning.files folder.old)) }
 
     // What stands there whole is loaded, unless memory or the device fails.
     ensures written { F.meaning.keeps folder.old → (shards : Shards K V)
         → HasCheckpoint K.bytes_of K.is_value V.bytes_of V.is_value dir.now file_name.now generation shards (F.meaning.files folder.old)
-        → MatchResult result (λ found. AreSameShards K.is_same V.is_same (rows_of found.items) shards) IsFault }
+        → MatchResult result (λ found. AreSameShards K.is_same V.is_same (rows_of found.1.items) shards) IsFault }
 
     // An error tells which file was refused, and why.
     ensures refused { F.meaning.keeps folder.old → IfErr result (IsRefused F.meaning
@@ -156,5 +158,5 @@ pub fn load_generation<F: Folder, K: Stored, V: Stored>(
         Err(error) => return Err(error),
         Ok(shards) => shards,
     };
-    Ok(shards)
+    Ok((manifest, shards))
 }

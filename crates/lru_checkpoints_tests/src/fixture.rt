@@ -5,7 +5,8 @@ ghost use Rattle.lru_folder.specs.Names.{has_slash};
 use lru_checkpoints::errors::CheckpointError;
 use lru_folder::folder::Folder;
 use lru_frames::row::Row;
-use lru_generations::generations::{Saved, save};
+use lru_generations::generations::{Saved, save, save_after};
+use lru_generations::known::Known;
 use lru_generations::loading::{Loaded, load};
 use lru_generations::newest::Passed;
 use lru_memory_folder::memory_folder::MemoryFolder;
@@ -51,6 +52,20 @@ pub(crate) fn save_as(
         return Err(CheckpointError::Memory);
     }
     save(alloc, folder, "d", name, &shards.as_slice())
+}
+
+// Saves the shards with this number as the next checkpoint, handed what is known.
+pub(crate) fn save_known(
+    alloc: Global,
+    folder: &mut MemoryFolder,
+    known: &Known,
+    number: u64,
+) -> Result<Saved, CheckpointError> {
+    let shards = shards(alloc, number)?;
+    if shards.len() != 2 {
+        return Err(CheckpointError::Memory);
+    }
+    save_after(alloc, folder, "d", "c", &shards.as_slice(), Some(known))
 }
 
 pub(crate) fn save_next(

@@ -18,6 +18,8 @@ mod frame_damage_tests;
 #[cfg(test)]
 mod frame_tests;
 #[cfg(test)]
+mod known_tests;
+#[cfg(test)]
 mod memory_tests;
 #[cfg(test)]
 mod rotation_tests;

@@ -1,5 +1,6 @@
 -- Eviction: when a core is over, whose last row leaves, and whole runs.
 use Rattle.std.specs.Prelude.{◌≡◌, ℕ, ◌+◌, ◌<◌, ◌≤◌, ◌%◌, ◌^◌, Bool, List, [], ◌∷◌, length, take, slice_index_or, Option, Some, None, MatchOption, IsTrue, IsFalse}
+use Rattle.std.specs.List.{FoldsTo}
 use Rattle.lru_shard.specs.Row.{Row, pair_of, last_row, without_last}
 use Rattle.lru_rules.specs.Victims.{longer_of}
 use Rattle.lru_rules.specs.Limits.{is_past}
@@ -76,6 +77,13 @@ module _ {T : Type 0} where
   pub record IsCutShort (old : Core T) (words : Stream) (pairs : List (T × ℕ)) (new : Core T) (rest : Stream) : Type 0 where
     pub run : EvictionRun old words pairs new rest
     pub over : IsTrue (is_over new)
+
+  -- `evict_with`: such a run, and a closure that was called with each of its pairs, in order
+  pub record EvictsWith {F : Type 0} (Step : F → T × ℕ → F → Type 0) (visit : F) (old : Core T) (words : Stream) (new : Core T) (rest : Stream) : Type 0 where
+    pub pairs : List (T × ℕ)
+    pub evicts : EvictsToLimit old words pairs new rest
+    pub left : F
+    pub visited : FoldsTo Step visit pairs left
 
   -- of the rows of the one shard the longest front is kept that is within the limits: with one row more the core is over
   pub record KeepsLongestFront (old new : Core T) : Type 0 where

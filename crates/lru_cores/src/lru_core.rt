@@ -5,12 +5,14 @@ ghost use Rattle.lru_cores.specs.Eviction.{IsVictim};
 ghost use Rattle.lru_cores.specs.Sparing.{IsNext, IsLast, GivesUp, HasPut};
 ghost use Rattle.lru_cores.specs.Representation.Units.{lists_of};
 
+use lru_index::hashing::SeededHashes;
 pub use lru_rules::eviction::EvictError;
 use lru_rules::eviction::{drawn_shards, is_past, longer_of, shard_after};
 use lru_rules::totals::Totals;
 use lru_shard::unit::{Cause, LruUnit, LruUnitIter, Refused};
 use rand_core::Rng;
 use std::alloc::{AllocError, Global};
+use std::hash::BuildHasher;
 use std::marker::Model;
 
 // Makes a call on one shard, and brings the totals of all shards after it.
@@ -32,8 +34,8 @@ macro_rules! counted {
 /// Only the constructors, `reserve_shard`, `peek_lru`, `evict_to_limit` and a call that makes a row for a missing key
 /// take memory.
 #[derive(Drop)]
-pub struct LruCore<T, const N: usize> {
-    units: Vec<LruUnit<T>>,
+pub struct LruCore<T, const N: usize, S: BuildHasher = SeededHashes> {
+    units: Vec<LruUnit<T, S>>,
     totals: Totals,
     weight_limit: usize,
     watermark: Option<usize>,
@@ -41,7 +43,7 @@ pub struct LruCore<T, const N: usize> {
     evicted_len: usize,
 }
 
-impl<T, const N: usize> Model for LruCore<T, N> {
+impl<T, const N: usize, S: BuildHasher> Model for LruCore<T, N, S> {
     ghost use Rattle.lru_cores.specs.Core.{Core, core_code};
 
     ghost Value = { Core T };
@@ -62,7 +64,7 @@ impl<T, const N: usize> Model for LruCore<T, N> {
 }
 
 // The first shard that holds a row, from this one on and round the circle.
-fn first_held<T>(units: &Vec<LruUnit<T>>, from: usize) -> Option<usize>
+fn first_held<T, S: BuildHasher>(units: &Vec<LruUnit<T, S>>, from: usize) -> Option<usize>
     requires { from < vec_len units.now }
     ensures held { IfSome result (λ at. IsVictim (lists_of units.now.items) from at) }
     ensures at { IfSome result (λ at. at < vec_len units.now) }
@@ -78,7 +80,7 @@ fn first_held<T>(units: &Vec<LruUnit<T>>, from: usize) -> Option<usize>
 }
 
 // The first shard that holds a row, behind this one and round the circle.
-fn next_held<T>(units: &Vec<LruUnit<T>>, from: usize) -> Option<usize>
+fn next_held<T, S: BuildHasher>(units: &Vec<LruUnit<T, S>>, from: usize) -> Option<usize>
     requires { from < vec_len units.now }
     ensures held { IfSome result (λ at. IsNext (lists_of units.now.items) from at) }
     ensures at { IfSome result (λ at. at < vec_len units.now) }
@@ -94,29 +96,26 @@ fn next_held<T>(units: &Vec<LruUnit<T>>, from: usize) -> Option<usize>
 }
 
 // Empty shards, each with room for `capacity` rows.
-fn empty_units<T: Drop>(
+fn empty_units<T: Drop, S: BuildHasher + Copy>(
     alloc: Global,
     count: usize,
     capacity: usize,
     cap: usize,
-) -> Result<Vec<LruUnit<T>>, AllocError>
+    hash_builder: S,
+) -> Result<Vec<LruUnit<T, S>>, AllocError>
     ensures { IfOk result (λ units. units.items ≡ replicate count (shard [] cap)) }
 {
     let mut units = Vec::with_capacity(alloc, count)?;
     for _ in 0..count {
-        units.push(LruUnit::with_capacity(alloc, capacity, cap)?)?;
+        let unit = LruUnit::with_capacity_and_hasher(alloc, capacity, cap, hash_builder)?;
+        units.push(unit)?;
     }
     Ok(units)
 }
 
 impl<T, const N: usize> LruCore<T, N> {
-    ghost use Rattle.lru_shard.specs.Row.{pair_of, row_of, is_held, last_row, weight_of};
-    ghost use Rattle.lru_shard.specs.Unit.{VisitsEach};
-    ghost use Rattle.lru_cores.specs.Core.{core_weight, core_len, list_at, home, IsCore};
-    ghost use Rattle.lru_cores.specs.Eviction.{is_over, start, NamesVictim};
-
     /// An empty core with a limit on its weight. Each shard has room for `capacity` rows, and may weigh
-    /// `usize::MAX / N`.
+    /// `usize::MAX / N`. The seed of the hashes stays the same from run to run.
     pub fn with_capacity(
         alloc: Global,
         weight_limit: usize,
@@ -155,8 +154,63 @@ impl<T, const N: usize> LruCore<T, N> {
           evicted_len = 0;
         }) }
     {
+        let hashes = SeededHashes::fixed();
+        LruCore::with_capacity_and_hasher(alloc, weight_limit, capacity, watermark, hashes)
+    }
+
+    /// The same with a seed for the hashes of all shards: who picks the keys and does not know it can't pick keys that
+    /// collide. A key's shard does not hang on it.
+    pub fn with_capacity_and_seed(
+        alloc: Global,
+        weight_limit: usize,
+        capacity: usize,
+        watermark: Option<usize>,
+        seed: u64,
+    ) -> Result<Self, AllocError>
+    where
+        T: Drop,
+        requires { 0 < N }
+        ensures { IfOk result (λ core. core ≡ record {
+          lists = replicate N [];
+          weight_limit = weight_limit;
+          watermark = watermark;
+          evicted_weight = 0;
+          evicted_len = 0;
+        }) }
+    {
+        let hashes = SeededHashes::with_seed(seed);
+        LruCore::with_capacity_and_hasher(alloc, weight_limit, capacity, watermark, hashes)
+    }
+}
+
+impl<T, const N: usize, S: BuildHasher> LruCore<T, N, S> {
+    ghost use Rattle.lru_shard.specs.Row.{pair_of, row_of, is_held, last_row, weight_of};
+    ghost use Rattle.lru_shard.specs.Unit.{VisitsEach};
+    ghost use Rattle.lru_cores.specs.Core.{core_weight, core_len, list_at, home, IsCore};
+    ghost use Rattle.lru_cores.specs.Eviction.{is_over, start, NamesVictim};
+
+    /// The same over hashers of the caller's, which all shards share.
+    pub fn with_capacity_and_hasher(
+        alloc: Global,
+        weight_limit: usize,
+        capacity: usize,
+        watermark: Option<usize>,
+        hash_builder: S,
+    ) -> Result<Self, AllocError>
+    where
+        T: Drop,
+        S: Copy,
+        requires { 0 < N }
+        ensures { IfOk result (λ core. core ≡ record {
+          lists = replicate N [];
+          weight_limit = weight_limit;
+          watermark = watermark;
+          evicted_weight = 0;
+          evicted_len = 0;
+        }) }
+    {
         Ok(LruCore {
-            units: empty_units(alloc, N, capacity, usize::MAX / N)?,
+            units: empty_units(alloc, N, capacity, usize::MAX / N, hash_builder)?,
             totals: Totals { weight: 0, len: 0 },
             weight_limit,
             watermark,
@@ -369,14 +423,14 @@ impl<T, const N: usize> LruCore<T, N> {
     }
 }
 
-impl<T: Drop, const N: usize> LruCore<T, N> {
+impl<T: Drop, const N: usize, S: BuildHasher> LruCore<T, N, S> {
     ghost use Rattle.std.specs.Prelude.{max};
     ghost use Rattle.lru_shard.specs.Row.{Row, row, pair_of, row_of, is_held, without};
     ghost use Rattle.lru_shard.specs.Unit.{Updates, accessed};
     ghost use Rattle.lru_cores.specs.Core.{list_at, with_list, home};
     ghost use Rattle.lru_rules.specs.ShardCalls.{promoted_past};
     ghost use Rattle.lru_cores.specs.CoreCalls.{CoreAdmits, CoreInsertsTail, CoreIncrements, CoreUpdates, CoreSetsWeight, CorePulls};
-    ghost use Rattle.lru_cores.specs.Eviction.{EvictsFrom, EvictsWhereOver, EvictsToLimit, IsCutShort, KeepsLongestFront};
+    ghost use Rattle.lru_cores.specs.Eviction.{EvictsFrom, EvictsWhereOver, EvictsToLimit, IsCutShort, EvictsWith, KeepsLongestFront};
     ghost use Rattle.lru_cores.specs.Sparing.{SparesToLimit, CoreAdmitsAndEvicts, StandsFirst};
 
     /// Puts a row first in the shard of its key, in place of the key's, and answers that shard.
@@ -656,5 +710,24 @@ impl<T: Drop, const N: usize> LruCore<T, N> {
             }
         }
         Ok(evicted)
+    }
+
+    /// Evicts while the core is over, and calls a closure with the data and the weight of each evicted row, in order. For
+    /// each it draws two shards, a and then b, from the generator, and does an `evict_step`. With one shard nothing is
+    /// drawn. It takes no memory.
+    pub fn evict_with<R: Rng, F: FnMut((T, usize))>(&mut self, rng: &mut R, mut hand_over: F)
+        requires { F.IsAlwaysCallable hand_over }
+        ensures done { EvictsWith (λ p x q. F.step p x tt q) hand_over self.old (R.stream rng.old) self.new (R.stream rng.new) }
+        ensures longest { N ≡ 1 → KeepsLongestFront self.old self.new }
+        ensures undrawn { N ≡ 1 → rng.new ≡ rng.old }
+    {
+        while self.is_over() {
+            let _units = &self.units;
+            let (a, b) = drawn_shards::<R, N>(rng);
+            let Some(pair) = self.evict_step(a, b) else {
+                unreachable!()
+            };
+            hand_over(pair);
+        }
     }
 }

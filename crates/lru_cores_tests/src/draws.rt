@@ -19,6 +19,28 @@ fn evicted_above(alloc: Global, watermark: usize) -> Result<(bool, [usize; 4]), 
     Ok((are_new, [len, weight, evicted, core.len()]))
 }
 
+// What leaves six rows of the weights 1 to 6 in one shard, whose hashes have a seed, under a limit of 10, and the weight that
+// stays.
+fn handed_over(alloc: Global) -> Result<(Vec<u64>, usize), Fail> {
+    let mut core = LruCore::<u64, 1>::with_capacity_and_seed(alloc, 10, 6, None, 7)?;
+    for key in 1..=6 {
+        core.admit(key, key, key as usize)?;
+    }
+    let mut left = Vec::with_capacity(alloc, 6)?;
+    core.evict_with(&mut StdRng::seed_from_u64(1), |pair| {
+        let _refused = left.push(pair.0);
+    });
+    Ok((left, core.weight()))
+}
+
+// The weights 5 and 6 are 11 together, so that 5 leaves too.
+#[test]
+fn hands_over_what_leaves(rt: HostRuntime) -> Result<(), Fail> {
+    let (left, weight) = handed_over(rt.alloc())?;
+    assert_eq!(rt; (left.as_slice(), weight), ([1, 2, 3, 4, 5].as_slice(), 6));
+    Ok(())
+}
+
 #[test]
 fn evicts_above_a_watermark(rt: HostRuntime) -> Result<(), Fail> {
     assert_eq!(rt;

@@ -9,6 +9,8 @@ mod draws;
 #[cfg(test)]
 mod fronts;
 #[cfg(test)]
+mod hashers;
+#[cfg(test)]
 mod looks;
 #[cfg(test)]
 mod rows;

@@ -60,7 +60,7 @@ fn ends_of_three(unit: &mut LruUnit<u64>) -> Result<(bool, Ends, [bool; 3], Ends
 type Shown = ((bool, Ends, [bool; 3], Ends), Taken);
 
 fn shown(alloc: Global) -> Result<Shown, Fail> {
-    let mut unit = LruUnit::with_capacity(alloc, 3, 100)?;
+    let mut unit = LruUnit::with_capacity_and_seed(alloc, 3, 100, 5)?;
     let told = ends_of_three(&mut unit)?;
     Ok((told, taken(&unit)))
 }

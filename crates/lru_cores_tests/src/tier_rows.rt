@@ -66,7 +66,7 @@ const KEEPS_SHARDS: [Step; 7] = [
 fn faults(alloc: Global) -> Result<[Option<usize>; 4], Fail> {
     let mut rng = StdRng::seed_from_u64(0);
     let mut moved = TieredCore::<u64, 1>::with_limits(alloc, 4, 4, 0)?;
-    let mut heavy = TieredCore::<u64, 1>::with_limits(alloc, 4, 4, 0)?;
+    let mut heavy = TieredCore::<u64, 1>::with_limits_and_seed(alloc, 4, 4, 0, 9)?;
     let mut sharded = TieredCore::<u64, 2>::with_limits(alloc, 4, 4, 4)?;
     Ok([
         fault(alloc, &mut moved, &mut rng, &MOVES_ROWS)?,

@@ -6,6 +6,7 @@ use Rattle.lru_folder.specs.Files.{Files, Same}
 use Rattle.lru_folder.specs.Folder.{LeavesOnly, Passes}
 use Rattle.lru_folder.specs.Meaning.{Meaning}
 use Rattle.lru_folder.proofs.Moments.{goes_on, then_run}
+use Rattle.lru_manifests.specs.declared.manifest.Manifest as told
 use Rattle.lru_manifests.specs.declared.names.PartName.{PartName}
 use Rattle.lru_manifests.specs.declared.names.PartName.TheVariants.{Frame, Manifest, Temp}
 use Rattle.lru_manifests.specs.Listing.{IsAnyManifest, IsTemp}
@@ -13,8 +14,9 @@ use Rattle.lru_manifests.specs.Names.{IsPart, generation_of, part_path, frame_pa
 use Rattle.lru_whole_files.specs.Touching.{IsSameBut, TouchesNothing, TouchesOnly}
 use Rattle.lru_checkpoints.specs.Checkpoints.{IsPartOf}
 use Rattle.lru_checkpoints.proofs.Saved.{one_part, leaves_more}
+use Rattle.lru_checkpoints.proofs.Taken.{taken_manifest}
 use Rattle.lru_manifests.specs.Manifests.{manifest_bytes}
-use Rattle.lru_generations.specs.Newest.{HasManifest, IsNewest}
+use Rattle.lru_generations.specs.Newest.{HasManifest, IsHighestTaken}
 use Rattle.lru_checkpoints.specs.declared.errors.CheckpointError.{CheckpointError}
 use Rattle.lru_generations.specs.Removing.{IsPathOf, NamesOnly}
 use Rattle.lru_generations.specs.Saving.{IsLeft, IsOlder, IsSurveyed, KeepsFrames, NamesOlder}
@@ -100,7 +102,7 @@ module _ {F : Type 0} (meaning : Meaning F) (dir file_name : List ℕ) (start on
   pub kept_nothing : LeavesOnly meaning Keeps start one
   kept_nothing = leaves_more meaning (IsSameBut (λ q. ⊥) (meaning.files start)) Keeps (λ m same g s low small had has. same (frame_path dir file_name g s) (λ f. f)) start one looked.any_moment
 
-  module _ (parts : List PartName) (newest : Option ℕ) (generation : ℕ) (survey : IsSurveyed dir file_name (meaning.files start) parts newest generation) where
+  module _ (known : Option told.Manifest) (parts : List PartName) (newest : Option ℕ) (generation : ℕ) (survey : IsSurveyed dir file_name (meaning.files start) known parts newest generation) where
     abbrev found : Files
     found = meaning.files start
 
@@ -129,11 +131,12 @@ module _ {F : Type 0} (meaning : Meaning F) (dir file_name : List ℕ) (start on
     lower : (g : ℕ) → g < 2 ^ 64 → HasManifest dir file_name found g → g ≢ generation
     lower g small had e = let lt = survey.above (Manifest g) (listed g small had) in absurd (omega (arith, lt, e))
 
-    -- one that is older than the newest whole one is below it too
-    low_of : (kept : Option ℕ) → IsNewest dir file_name found kept → (n : ℕ) → IsOlder kept (Manifest n) → n ≢ generation
+    -- one that is older than the highest that is taken for whole is below it too
+    low_of : (kept : Option ℕ) → IsHighestTaken dir file_name found known kept → (n : ℕ) → IsOlder kept (Manifest n) → n ≢ generation
     low_of None top n older e = absurd older
     low_of (Some whole) top n older e =
-        let lt = survey.above (Manifest whole) (listed whole top.0.1.numbers.generation (manifest_bytes whole top.0.0, top.0.1.manifest)) in
+        let at = taken_manifest dir file_name known whole top.0.0 found top.0.1 in
+        let lt = survey.above (Manifest whole) (listed whole at.numbers.generation (manifest_bytes whole top.0.0, at.manifest)) in
         absurd (omega (arith, lt, older, e))
 
     pub older_apart : (n : ℕ) → IsOlder newest (Manifest n) → n ≢ generation

@@ -4,3 +4,4 @@ pub mod Passing
 pub mod Refusals
 pub mod Telling
 pub mod KeptFrames
+pub mod AsKnown

@@ -11,19 +11,22 @@ use Rattle.lru_folder.specs.Names.{has_slash}
 use Rattle.lru_folder.proofs.FilesLemmas.{alike}
 use Rattle.lru_folder.proofs.LossLemmas.{then_loses, loses_on}
 use Rattle.lru_folder.proofs.Moments.{then_run, goes_on}
+use Rattle.lru_frames.specs.declared.mark.Mark.{Mark}
 use Rattle.lru_frames.specs.declared.row.Row.{Row}
 use Rattle.lru_synced_folder.specs.Names.{IsIn}
+use Rattle.lru_manifests.specs.declared.manifest.Manifest as told
 use Rattle.lru_manifests.specs.declared.names.PartName.{PartName}
 use Rattle.lru_manifests.specs.declared.names.PartName.TheVariants.{Frame, Manifest}
 use Rattle.lru_manifests.specs.Listing.{IsTemp}
 use Rattle.lru_manifests.specs.Names.{IsPart, generation_of, part_path, part_text, manifest_path}
 use Rattle.lru_manifests.proofs.NameLaws.{has_slash-part_text}
 use Rattle.lru_whole_files.specs.Touching.{IsSameBut, TouchesNothing, TouchesOnly}
-use Rattle.lru_checkpoints.specs.Checkpoints.{Shards, AreHandedOut, HasCheckpoint, HasNew, IsOldOrNew, IsPartOf, SavesCheckpoint}
+use Rattle.lru_checkpoints.specs.Checkpoints.{Shards, AreHandedOut, HasCheckpoint, HasNew, IsOldOrNew, IsPartOf, IsWhole, SavesCheckpoint}
 use Rattle.lru_checkpoints.proofs.Lists.{get-below, never}
 use Rattle.lru_checkpoints.proofs.Saved.{one_part, leaves_more, loses_more}
-use Rattle.lru_generations.specs.Newest.{IsNewest, IsWholeAt}
-use Rattle.lru_generations.specs.Saving.{AreNamed, IsForGood, IsLeft, IsNew, IsOld, IsOlder, IsSavedNext, IsSurveyed, IsUnused, SavesNext}
+use Rattle.lru_checkpoints.proofs.Taken.{taken_manifest}
+use Rattle.lru_generations.specs.Newest.{IsHighestTaken, IsTakenAt}
+use Rattle.lru_generations.specs.Saving.{AreNamed, IsForGood, IsLeft, IsNew, IsOld, IsOlder, IsSavedAfter, IsSurveyed, IsUnused, SavesAfter}
 
 -- an option that is none of its values is none
 none_or : {A : Type 0} (o : Option A) → ((x : A) → o ≡ Some x → ⊥) → o ≡ None
@@ -75,7 +78,7 @@ module _ {F : Type 0} (meaning : Meaning F) (P : Files → Files → Type 0) (ol
   }
 
 module _ {K V : Type 0} (key_bytes : K → List ℕ) (IsKey : K → Type 0) (data_bytes : V → List ℕ) (IsData : V → Type 0) (dir file_name : List ℕ)
-    (HandsOut : ℕ → List (Row K V) → Type 0) (count : ℕ) (unslashed : has_slash file_name ≡ false) where
+    (HandsOut : ℕ → List (Row K V) → Type 0) (count : ℕ) (unslashed : has_slash file_name ≡ false) (known : Option told.Manifest) where
   abbrev Has : ℕ → Shards K V → Files → Type 0
   Has = HasCheckpoint key_bytes IsKey data_bytes IsData dir file_name
 
@@ -107,7 +110,7 @@ module _ {K V : Type 0} (key_bytes : K → List ℕ) (IsKey : K → Type 0) (dat
   }
 
   -- the same files have the same
-  nothing_new : (found was m : Files) → IsSameBut (λ q. ⊥) was m → IsSavedNext key_bytes IsKey data_bytes IsData dir file_name HandsOut count found was m
+  nothing_new : (found was m : Files) → IsSameBut (λ q. ⊥) was m → IsSavedAfter key_bytes IsKey data_bytes IsData dir file_name HandsOut count known found was m
   nothing_new found was m same =
       let stays : (g : ℕ) (shards : Shards K V) → Has g shards was → Has g shards m = λ g shards h. moved g shards was m (λ part is isn e. same (path_of part) (λ f. f)) h in
       record {
@@ -117,9 +120,9 @@ module _ {K V : Type 0} (key_bytes : K → List ℕ) (IsKey : K → Type 0) (dat
       }
 
   -- what a save found
-  module _ (found : Files) (parts : List PartName) (newest : Option ℕ) (generation : ℕ) (low : generation < 2 ^ 64) (survey : IsSurveyed dir file_name found parts newest generation) where
+  module _ (found : Files) (parts : List PartName) (newest : Option ℕ) (generation : ℕ) (low : generation < 2 ^ 64) (survey : IsSurveyed dir file_name found known parts newest generation) where
     abbrev Next : Files → Files → Type 0
-    Next = IsSavedNext key_bytes IsKey data_bytes IsData dir file_name HandsOut count found
+    Next = IsSavedAfter key_bytes IsKey data_bytes IsData dir file_name HandsOut count known found
 
     abbrev Left : List ℕ → Type 0
     Left = IsLeft dir file_name parts
@@ -227,19 +230,34 @@ module _ {K V : Type 0} (key_bytes : K → List ℕ) (IsKey : K → Type 0) (dat
     -- the kept one is below the new one
     kept_below : (n : ℕ) → newest ≡ Some n → n ≤ generation
     kept_below n is =
-        let whole : IsWholeAt dir file_name found n = (subst (λ (o : Option ℕ). IsNewest dir file_name found o) is survey.top).0 in
-        let within = survey.above (Manifest n) (is_among (Manifest n) whole.1.numbers.generation _ whole.1.manifest) in
+        let taken : IsTakenAt dir file_name found known n = (subst (λ (o : Option ℕ). IsHighestTaken dir file_name found known o) is survey.top).0 in
+        let at = taken_manifest dir file_name known n taken.0 found taken.1 in
+        let within = survey.above (Manifest n) (is_among (Manifest n) at.numbers.generation _ at.manifest) in
         omega (arith, within)
 
-    -- a generation that is the newest whole one is the one that is kept
-    is_kept : (g : ℕ) → IsNewest dir file_name found (Some g) → (n : ℕ) → newest ≡ Some n → n ≤ g
+    -- a generation that is the highest that is taken for whole is the one that is kept
+    is_kept : (g : ℕ) → IsHighestTaken dir file_name found known (Some g) → (n : ℕ) → newest ≡ Some n → n ≤ g
     is_kept g top n is = elim (cases_lt g n) [
-      | inl lt ↦ absurd (top.1 n lt (subst (λ (o : Option ℕ). IsNewest dir file_name found o) is survey.top).0)
+      | inl lt ↦ absurd (top.1 n lt (subst (λ (o : Option ℕ). IsHighestTaken dir file_name found known o) is survey.top).0)
       | inr le ↦ le
     ]
 
     standing : (then m : Files) → IsSameBut Old then m → (g : ℕ) → ((n : ℕ) → newest ≡ Some n → n ≤ g) → AreRead g then m
     standing then m gone g high part is isn e = gone (path_of part) (not_old g high part is e)
+
+    -- what the manifest of the new one tells is whole still where what is older is gone
+    pub whole_kept : (marks : List Mark) (then m : Files) → IsSameBut Old then m → IsWhole dir file_name generation marks then → IsWhole dir file_name generation marks m
+    whole_kept marks then m gone h =
+        let same : AreRead generation then m = standing then m gone generation kept_below in
+        record {
+          numbers = h.numbers;
+          few = h.few;
+          manifest = same (Manifest generation) h.numbers.generation (λ t. t) refl ∙ h.manifest;
+          frames = λ shard mark at.
+              let one = h.frames shard mark at in
+              let small : shard < 2 ^ 64 = omega (arith, get-below marks shard mark at, h.numbers.shards) in
+              (one.0, (same (Frame generation shard) (h.numbers.generation, small) (λ t. t) refl ∙ one.1.0, one.1.1));
+        }
 
     -- and what is older than the one that is kept is gone, once the new one is there for good
     module _ (shards : Shards K V) (handed : AreHandedOut HandsOut count shards) (was then m : Files) (names : AreNamed dir found was) (saved : Saved was then) (it : Has generation shards then) (gone : IsSameBut Old then m) where
@@ -266,7 +284,7 @@ module _ {K V : Type 0} (key_bytes : K → List ℕ) (IsKey : K → Type 0) (dat
     module _ {F : Type 0} (meaning : Meaning F) (start one : F) (found_is : meaning.files start ≡ found) (looked : TouchesNothing meaning start one)
         (named : (m : Files) → meaning.lost_since one (meaning.clock one) m → AreNamed dir found m) where
       abbrev Saves : F → Type 0
-      Saves = SavesNext key_bytes IsKey data_bytes IsData dir file_name HandsOut count meaning start
+      Saves = SavesAfter key_bytes IsKey data_bytes IsData dir file_name HandsOut count known meaning start
 
       names_here : AreNamed dir found found
       names_here q inside = refl
@@ -284,13 +302,13 @@ module _ {K V : Type 0} (key_bytes : K → List ℕ) (IsKey : K → Type 0) (dat
       from_found P h = subst P (sym found_is) h
 
       abbrev Moment : Files → Type 0
-      Moment m = IsSavedNext key_bytes IsKey data_bytes IsData dir file_name HandsOut count (meaning.files start) (meaning.files start) m
+      Moment m = IsSavedAfter key_bytes IsKey data_bytes IsData dir file_name HandsOut count known (meaning.files start) (meaning.files start) m
 
       moment : (m : Files) → Next found m → Moment m
-      moment m h = subst (λ (f : Files). IsSavedNext key_bytes IsKey data_bytes IsData dir file_name HandsOut count f f m) (sym found_is) h
+      moment m h = subst (λ (f : Files). IsSavedAfter key_bytes IsKey data_bytes IsData dir file_name HandsOut count known f f m) (sym found_is) h
 
-      loss_so : (new : F) → LosesOnly meaning Next start new → LosesOnly meaning (IsSavedNext key_bytes IsKey data_bytes IsData dir file_name HandsOut count (meaning.files start)) start new
-      loss_so new h = subst (λ (f : Files). LosesOnly meaning (IsSavedNext key_bytes IsKey data_bytes IsData dir file_name HandsOut count f) start new) (sym found_is) h
+      loss_so : (new : F) → LosesOnly meaning Next start new → LosesOnly meaning (IsSavedAfter key_bytes IsKey data_bytes IsData dir file_name HandsOut count known (meaning.files start)) start new
+      loss_so new h = subst (λ (f : Files). LosesOnly meaning (IsSavedAfter key_bytes IsKey data_bytes IsData dir file_name HandsOut count known f) start new) (sym found_is) h
 
       first : LeavesOnly meaning Moment start one
       first = leaves_more meaning (IsSameBut (λ q. ⊥) (meaning.files start)) Moment
@@ -377,19 +395,19 @@ module _ {K V : Type 0} (key_bytes : K → List ℕ) (IsKey : K → Type 0) (dat
                 moved generation shards was.0 m (standing was.0 m was.1.1 generation kept_below) (good was.0 was.1.0)
 
   -- where nothing is touched
-  pub next_nothing : {F : Type 0} (meaning : Meaning F) (start new : F) → TouchesNothing meaning start new → SavesNext key_bytes IsKey data_bytes IsData dir file_name HandsOut count meaning start new
+  pub next_nothing : {F : Type 0} (meaning : Meaning F) (start new : F) → TouchesNothing meaning start new → SavesAfter key_bytes IsKey data_bytes IsData dir file_name HandsOut count known meaning start new
   next_nothing meaning start new looked = record {
-    any_moment = leaves_more meaning (IsSameBut (λ q. ⊥) (meaning.files start)) (IsSavedNext key_bytes IsKey data_bytes IsData dir file_name HandsOut count (meaning.files start) (meaning.files start))
+    any_moment = leaves_more meaning (IsSameBut (λ q. ⊥) (meaning.files start)) (IsSavedAfter key_bytes IsKey data_bytes IsData dir file_name HandsOut count known (meaning.files start) (meaning.files start))
         (λ m same. nothing_new (meaning.files start) (meaning.files start) m same) start new looked.any_moment;
-    any_loss = loses_more meaning (IsSameBut (λ q. ⊥)) (IsSavedNext key_bytes IsKey data_bytes IsData dir file_name HandsOut count (meaning.files start))
+    any_loss = loses_more meaning (IsSameBut (λ q. ⊥)) (IsSavedAfter key_bytes IsKey data_bytes IsData dir file_name HandsOut count known (meaning.files start))
         (λ was m same. nothing_new (meaning.files start) was m same) start new looked.any_loss;
   }
 
   -- a call more that only looks
-  pub next_looked : {F : Type 0} (meaning : Meaning F) (start mid new : F) → SavesNext key_bytes IsKey data_bytes IsData dir file_name HandsOut count meaning start mid → Passes meaning Same mid new
-      → Loses meaning looking mid new → SavesNext key_bytes IsKey data_bytes IsData dir file_name HandsOut count meaning start new
+  pub next_looked : {F : Type 0} (meaning : Meaning F) (start mid new : F) → SavesAfter key_bytes IsKey data_bytes IsData dir file_name HandsOut count known meaning start mid → Passes meaning Same mid new
+      → Loses meaning looking mid new → SavesAfter key_bytes IsKey data_bytes IsData dir file_name HandsOut count known meaning start new
   next_looked meaning start mid new so_far time loss =
-      let R = IsSavedNext key_bytes IsKey data_bytes IsData dir file_name HandsOut count (meaning.files start) in
+      let R = IsSavedAfter key_bytes IsKey data_bytes IsData dir file_name HandsOut count known (meaning.files start) in
       record {
         any_moment = goes_on meaning (R (meaning.files start)) Same start mid new so_far.any_moment time (λ m is. subst (R (meaning.files start)) (sym is) so_far.any_moment.now);
         any_loss = loses_on meaning R looking start mid new time.later so_far.any_loss loss (λ m none. absurd none);

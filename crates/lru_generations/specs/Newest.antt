@@ -3,9 +3,10 @@ use Rattle.std.specs.Prelude.{◌≡◌, ◌↔◌, ◌<◌, ◌^◌, ℕ, List,
 use Rattle.std.specs.FinMap.{get}
 use Rattle.lru_folder.specs.Files.{Files}
 use Rattle.lru_frames.specs.declared.mark.Mark.{Mark}
+use Rattle.lru_manifests.specs.declared.manifest.Manifest.{Manifest}
 use Rattle.lru_manifests.specs.Names.{manifest_path}
 use Rattle.lru_checkpoints.specs.declared.errors.CheckpointError.{CheckpointError}
-use Rattle.lru_checkpoints.specs.Checkpoints.{IsWhole}
+use Rattle.lru_checkpoints.specs.Checkpoints.{IsTaken, IsWhole}
 use Rattle.lru_checkpoints.specs.Loads.{IsFault}
 use Rattle.lru_generations.specs.declared.newest.Passed.{Passed}
 
@@ -45,6 +46,19 @@ module _ (dir file_name : List ℕ) (files : Files) where
   -- this is the highest generation that is whole, or none is whole
   abbrev pub IsNewest : Option ℕ → Type 0
   IsNewest newest = IsHighest IsWholeAt newest
+
+  -- It is taken for whole: it is, or it is the known one and still has its manifest.
+  abbrev pub IsTakenAt : Option Manifest → ℕ → Type 0
+  IsTakenAt known generation = (marks : List Mark) × IsTaken dir file_name known generation marks files
+
+  -- this is the highest generation that is taken for whole, or none is
+  abbrev pub IsHighestTaken : Option Manifest → Option ℕ → Type 0
+  IsHighestTaken known newest = IsHighest (IsTakenAt known) newest
+
+  -- what is known is whole there, as it was
+  abbrev pub IsAsKnown : Option Manifest → Type 0
+  IsAsKnown None = Unit {0}
+  IsAsKnown (Some known) = IsWhole dir file_name known.generation known.frames.items files
 
 -- the generations in front of the newest one, or all where there is none
 abbrev pub IsFront : List ℕ → Option ℕ → List ℕ → Type 0

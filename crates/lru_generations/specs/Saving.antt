@@ -6,6 +6,7 @@ use Rattle.lru_folder.specs.Folder.{LeavesOnly}
 use Rattle.lru_folder.specs.Losses.{LosesOnly}
 use Rattle.lru_folder.specs.Meaning.{Meaning}
 use Rattle.lru_frames.specs.declared.row.Row.{Row}
+use Rattle.lru_manifests.specs.declared.manifest.Manifest.{Manifest}
 use Rattle.lru_manifests.specs.declared.names.PartName.{PartName}
 use Rattle.lru_manifests.specs.Listing.{HasParts, IsAbove, IsLeftover}
 use Rattle.lru_manifests.specs.Names.{IsPart, generation_of, part_path, frame_path, manifest_temp_path}
@@ -17,7 +18,7 @@ use Rattle.lru_checkpoints.specs.Causes.{HasSaveReason}
 use Rattle.lru_checkpoints.specs.Loads.{IsFault, IsRefused, IsRefusedByCheck}
 use Rattle.lru_generations.specs.declared.newest.Passed.{Passed}
 use Rattle.lru_generations.specs.Faults.{IsFailed}
-use Rattle.lru_generations.specs.Newest.{AreGenerations, ArePassed, HasManifest, IsNewest}
+use Rattle.lru_generations.specs.Newest.{AreGenerations, ArePassed, HasManifest, IsHighestTaken}
 use Rattle.lru_generations.specs.Removing.{NamesOnly}
 
 -- a frame of this generation, or what its manifest is first written to
@@ -36,10 +37,10 @@ IsUnused dir file_name files generation = (part : PartName) → IsPart part → 
 abbrev pub AreNamed : List ℕ → Files → Files → Type 0
 AreNamed dir files m = (q : List ℕ) → IsIn dir q → is_some (get m q) ≡ is_some (get files q)
 
--- What a save finds in the folder: the parts that are there, the newest generation that is whole, and a number above all.
-pub record IsSurveyed (dir file_name : List ℕ) (files : Files) (parts : List PartName) (newest : Option ℕ) (generation : ℕ) : Type 0 where
+-- What a save finds in the folder: the parts that are there, the newest generation that is taken for whole, and a number above all.
+pub record IsSurveyed (dir file_name : List ℕ) (files : Files) (known : Option Manifest) (parts : List PartName) (newest : Option ℕ) (generation : ℕ) : Type 0 where
   pub listed : HasParts dir file_name files parts
-  pub top : IsNewest dir file_name files newest
+  pub top : IsHighestTaken dir file_name files known newest
   pub above : IsAbove parts generation
 
 -- The generations above the newest whole one were found with these files, and each is told with what was refused of it.
@@ -91,16 +92,21 @@ module _ {K V : Type 0} (key_bytes : K → List ℕ) (IsKey : K → Type 0) (dat
   IsNew found generation m = IsUnused dir file_name found generation × HasNew key_bytes IsKey data_bytes IsData dir file_name HandsOut count generation m
 
   -- What a moment of a save leaves, of the files that it found, and of those that a stop or a loss at its start would have left.
-  pub record IsSavedNext (found was m : Files) : Type 0 where
+  pub record IsSavedAfter (known : Option Manifest) (found was m : Files) : Type 0 where
     -- a checkpoint that stood whole stands, until the new one stands whole;
     pub stays : (generation : ℕ) (shards : Shards K V) → Has generation shards was → Has generation shards found → Has generation shards m ⊎ ((new : ℕ) × IsNew found new m)
-    -- the newest one that was whole stands all the same;
-    pub newest : (generation : ℕ) (shards : Shards K V) → Has generation shards was → Has generation shards found → IsNewest dir file_name found (Some generation) → Has generation shards m
+    -- the newest one that was taken for whole stands all the same, where it was;
+    pub newest : (generation : ℕ) (shards : Shards K V) → Has generation shards was → Has generation shards found → IsHighestTaken dir file_name found known (Some generation)
+        → Has generation shards m
     -- and what now stands whole, with none above it, stood whole before or is the new one
     pub comes : (generation : ℕ) (shards : Shards K V) → Has generation shards m → ((above : ℕ) (others : Shards K V) → generation < above → ¬ Has above others m)
         → Has generation shards was ⊎ IsNew found generation m
 
-  -- So it is at every moment of a save.
-  pub record SavesNext {F : Type 0} (meaning : Meaning F) (old new : F) : Type 0 where
-    pub any_moment : LeavesOnly meaning (IsSavedNext (meaning.files old) (meaning.files old)) old new
-    pub any_loss : LosesOnly meaning (IsSavedNext (meaning.files old)) old new
+  -- So it is at every moment of a save that is handed what is known.
+  pub record SavesAfter (known : Option Manifest) {F : Type 0} (meaning : Meaning F) (old new : F) : Type 0 where
+    pub any_moment : LeavesOnly meaning (IsSavedAfter known (meaning.files old) (meaning.files old)) old new
+    pub any_loss : LosesOnly meaning (IsSavedAfter known (meaning.files old)) old new
+
+  -- And so it is where nothing is known: the newest one that was whole stands.
+  abbrev pub SavesNext : {F : Type 0} → Meaning F → F → F → Type 0
+  SavesNext meaning old new = SavesAfter None meaning old new

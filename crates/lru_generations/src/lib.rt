@@ -6,6 +6,7 @@
 
 pub mod checking;
 pub mod generations;
+pub mod known;
 mod listing;
 pub mod loading;
 pub mod newest;

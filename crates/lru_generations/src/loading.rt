@@ -1,15 +1,16 @@
 //! The newest checkpoint loaded.
-ghost use Rattle.std.specs.Prelude.{◌≡◌, ◌↔◌, ◌⊎◌, ◌<◌, ℕ, List, Option, false, AllPairs, Contains, IfErr, IfOk, OnOk};
+ghost use Rattle.std.specs.Prelude.{◌≡◌, ◌↔◌, ◌⊎◌, ◌<◌, ℕ, List, Option, Some, false, AllPairs, Contains, IfErr, IfOk, IfSome, OnOk};
 ghost use Rattle.lru_folder.specs.Names.{has_slash};
 ghost use Rattle.lru_whole_files.specs.Touching.{TouchesNothing};
 ghost use Rattle.lru_checkpoints.specs.Checkpoints.{Shards, HasCheckpoint};
 ghost use Rattle.lru_checkpoints.specs.Loads.{IsFault, IsRefused, IsRefusedFrame};
 ghost use Rattle.lru_generations.specs.Faults.{IsFailed, IsUnlisted};
 ghost use Rattle.lru_generations.specs.Loaded.{IsLoaded, IsLoadedBelow, IsReadable, IsReadableBelow, IsSameCheckpoint, number_of};
-ghost use Rattle.lru_generations.specs.Newest.{AreGenerations, AreGenerationsBelow, ArePassed, IsBelow};
+ghost use Rattle.lru_generations.specs.Newest.{AreGenerations, AreGenerationsBelow, ArePassed, IsAsKnown, IsBelow};
 ghost use Rattle.lru_manifests.specs.declared.names.PartName.{PartName};
 ghost use Rattle.lru_manifests.specs.Names.{generation_of};
 
+use crate::known::Known;
 use crate::listing::parts_of;
 use crate::newest::{Passed, pass_over};
 use lru_checkpoints::errors::CheckpointError;
@@ -28,6 +29,8 @@ pub struct Checkpoint<K, V> {
     pub generation: u64,
     /// The rows of each shard, from shard 0 on.
     pub shards: Vec<Vec<Row<K, V>>>,
+    /// That it was whole: a save that is handed it need not read it again.
+    pub known: Known,
 }
 
 /// What a load found.
@@ -59,6 +62,8 @@ fn load_newest<F: Folder, K: Stored, V: Stored>(
         (λ generation error. IsRefused F.meaning (IsRefusedFrame F.meaning K.bytes_of K.is_value V.bytes_of V.is_value dir.now file_name.now)
         dir.now file_name.now generation folder.old folder.new error)
         generations.now (number_of loaded.newest) loaded.passed.items) }
+    ensures known { F.meaning.keeps folder.old → IfOk result (λ loaded. IfSome loaded.newest (λ checkpoint. (checkpoint.known.generation ≡ checkpoint.generation)
+        × IsAsKnown dir.now file_name.now (F.meaning.files folder.old) (Some checkpoint.known))) }
     ensures error { IfErr result IsFault }
     ensures reason { F.meaning.keeps folder.old → IfErr result (IsFailed F.meaning folder.old folder.new) }
     ensures touches { F.meaning.keeps folder.old → TouchesNothing F.meaning folder.old folder.new }
@@ -71,8 +76,13 @@ fn load_newest<F: Folder, K: Stored, V: Stored>(
     for generation in generations {
         let generation = *generation;
         match load_generation(alloc, folder, dir, file_name, generation) {
-            Ok(shards) => {
-                let newest = Some(Checkpoint { generation, shards });
+            Ok((manifest, shards)) => {
+                let known = Known::new(manifest);
+                let newest = Some(Checkpoint {
+                    generation,
+                    shards,
+                    known,
+                });
                 return Ok(Loaded { newest, passed });
             }
             Err(error) => pass_over(&mut passed, generation, error)?,
@@ -126,6 +136,10 @@ pub fn load_below<F: Folder, K: Stored, V: Stored>(
         dir.now file_name.now generation folder.old folder.new error)
         generations (number_of loaded.newest) loaded.passed.items)) }
 
+    // It is known to be whole.
+    ensures known { F.meaning.keeps folder.old → IfOk result (λ loaded. IfSome loaded.newest (λ checkpoint. (checkpoint.known.generation ≡ checkpoint.generation)
+        × IsAsKnown dir.now file_name.now (F.meaning.files folder.old) (Some checkpoint.known))) }
+
     ensures error { IfErr result IsFault }
     ensures reason { F.meaning.keeps folder.old → IfErr result (λ error. IsUnlisted F.meaning dir.now folder.old folder.new error
         ⊎ IsFailed F.meaning folder.old folder.new error) }
@@ -171,6 +185,10 @@ pub fn load<F: Folder, K: Stored, V: Stored>(
         × ArePassed (λ generation error. IsRefused F.meaning (IsRefusedFrame F.meaning K.bytes_of K.is_value V.bytes_of V.is_value dir.now file_name.now)
         dir.now file_name.now generation folder.old folder.new error)
         generations (number_of loaded.newest) loaded.passed.items)) }
+
+    // It is known to be whole.
+    ensures known { F.meaning.keeps folder.old → IfOk result (λ loaded. IfSome loaded.newest (λ checkpoint. (checkpoint.known.generation ≡ checkpoint.generation)
+        × IsAsKnown dir.now file_name.now (F.meaning.files folder.old) (Some checkpoint.known))) }
 
     ensures error { IfErr result IsFault }
     ensures reason { F.meaning.keeps folder.old → IfErr result (λ error. IsUnlisted F.meaning dir.now folder.old folder.new error

@@ -1,11 +1,12 @@
 //! The newest checkpoint that is whole.
-ghost use Rattle.std.specs.Prelude.{◌≡◌, ◌↔◌, ◌⊎◌, ◌<◌, ◌∷◌, ◌++◌, [], AllPairs, IfErr, IfOk, OnOk};
+ghost use Rattle.std.specs.Prelude.{◌≡◌, ◌↔◌, ◌⊎◌, ◌<◌, ◌∷◌, ◌++◌, [], AllPairs, IfErr, IfOk, OnOk, option_copied};
 ghost use Rattle.lru_whole_files.specs.Touching.{TouchesNothing};
 ghost use Rattle.lru_checkpoints.specs.Loads.{IsFault, IsRefused, IsRefusedByCheck};
 ghost use Rattle.lru_generations.specs.Faults.{IsFailed};
-ghost use Rattle.lru_generations.specs.Newest.{ArePassed, HasAllManifests, IsNewest};
+ghost use Rattle.lru_generations.specs.Newest.{ArePassed, HasAllManifests, IsHighestTaken};
 
-use lru_checkpoints::checking::check_generation;
+use crate::known::{Known, manifest_of};
+use lru_checkpoints::checking::check_unless_known;
 use lru_checkpoints::errors::CheckpointError;
 use lru_folder::folder::Folder;
 use std::alloc::Global;
@@ -19,7 +20,7 @@ pub struct Passed {
     pub error: CheckpointError,
 }
 
-/// The newest generation that is whole.
+/// The newest generation that is taken for whole.
 #[derive(Debug, Drop)]
 pub struct Newest {
     /// Its number, where there is one.
@@ -47,8 +48,8 @@ pub(crate) fn pass_over(
     Ok(())
 }
 
-/// The first of these generations that is whole, by the checks of its files and whatever its rows hold. One that is not whole
-/// is passed over; that memory or the device failed ends the search. At every moment all files are as they were.
+/// The first of these generations that is whole, by the checks of its files and whatever its rows hold, or that is known to have
+/// been and still has its manifest. Another one is passed over; that memory or the device failed ends the search. At every moment all files are as they were.
 ///
 /// `Memory`: no memory was found. `Folder`: a file was not read, for which the device or memory is the reason. The other errors
 /// are never told.
@@ -58,12 +59,13 @@ pub fn newest_whole<F: Folder>(
     dir: &str,
     file_name: &str,
     generations: &[u64],
+    known: Option<&Known>,
 ) -> Result<Newest, CheckpointError>
     requires falling { AllPairs (λ first later. later < first) generations.now }
 
-    // Where each generation with a manifest is among them, it is the highest one in the folder that is whole.
+    // Where each generation with a manifest is among them, it is the highest one in the folder that is taken for whole.
     ensures newest { F.meaning.keeps folder.old → HasAllManifests dir.now file_name.now (F.meaning.files folder.old) generations.now
-        → IfOk result (λ it. IsNewest dir.now file_name.now (F.meaning.files folder.old) it.generation) }
+        → IfOk result (λ it. IsHighestTaken dir.now file_name.now (F.meaning.files folder.old) (option_copied known.entry) it.generation) }
 
     // What is passed over is what stands in front of it.
     ensures passed { F.meaning.keeps folder.old → IfOk result (λ it. ArePassed
@@ -82,7 +84,7 @@ pub fn newest_whole<F: Folder>(
     let mut passed = Vec::new(alloc);
     for generation in generations {
         let number = *generation;
-        match check_generation(alloc, folder, dir, file_name, number) {
+        match check_unless_known(alloc, folder, dir, file_name, number, manifest_of(known)) {
             Ok(_) => {
                 let generation = Some(number);
                 return Ok(Newest { generation, passed });

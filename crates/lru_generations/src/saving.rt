@@ -3,7 +3,7 @@ ghost use Rattle.std.specs.Prelude.{◌≡◌, ◌↔◌, ◌<◌, ◌≤◌, �
 ghost use Rattle.lru_folder.specs.Files.{Files};
 ghost use Rattle.lru_folder.specs.Names.{has_slash};
 ghost use Rattle.lru_whole_files.specs.Touching.{TouchesOnly};
-ghost use Rattle.lru_checkpoints.specs.Checkpoints.{Shards, AreFirm, AreHandedOut, AreMarked, FitsEach, HasCheckpoint, HasFrames, IsFrame, SavesCheckpoint, most_shards};
+ghost use Rattle.lru_checkpoints.specs.Checkpoints.{Shards, AreFirm, AreHandedOut, AreMarked, FitsEach, HasCheckpoint, HasFrames, IsFrame, IsWhole, SavesCheckpoint, most_shards};
 ghost use Rattle.lru_checkpoints.specs.Causes.{HasSaveReason, IsUnnamed};
 ghost use Rattle.lru_checkpoints.specs.Loads.{IsFault};
 ghost use Rattle.lru_generations.specs.Saving.{IsUnfinished};
@@ -83,7 +83,7 @@ fn save_parts<F: SyncedFolder, K: Stored, V: Stored, S: Source<K, V>>(
 }
 
 // Saves the shards that the source hands out as the checkpoint of this generation, for good: once it answers Ok, each loss of
-// power from then on leaves the whole new checkpoint.
+// power from then on leaves the whole new checkpoint. It answers what the manifest tells.
 //
 // Each shard's frame is written to its own file and synced, and so is its name. Then the manifest is written and synced, and
 // gets its name, which is synced. A stop or a loss of power at any moment leaves the manifest as it was, and with it all files
@@ -99,7 +99,7 @@ pub(crate) fn save_for_good<F: SyncedFolder, K: Stored, V: Stored, S: Source<K, 
     file_name: &str,
     generation: u64,
     source: &S,
-) -> Result<(), CheckpointError>
+) -> Result<Manifest, CheckpointError>
     requires few { S.count source.now ≤ most_shards }
     requires name { has_slash file_name.now ≡ false }
 
@@ -108,6 +108,10 @@ pub(crate) fn save_for_good<F: SyncedFolder, K: Stored, V: Stored, S: Source<K, 
         × (HasCheckpoint K.bytes_of K.is_value V.bytes_of V.is_value dir.now file_name.now generation shards (F.meaning.files folder.new)
         × ((m : Files) → F.meaning.lost_since folder.new (F.meaning.clock folder.new) m
         → HasCheckpoint K.bytes_of K.is_value V.bytes_of V.is_value dir.now file_name.now generation shards m)))) }
+
+    // What its manifest tells is whole.
+    ensures told { F.meaning.keeps folder.old → IfOk result (λ manifest. (manifest.generation ≡ generation)
+        × IsWhole dir.now file_name.now generation manifest.frames.items (F.meaning.files folder.new)) }
 
     // A stop, and a loss of power, at any moment leaves the files as they were, or the whole new checkpoint.
     ensures saves { F.meaning.keeps folder.old → SavesCheckpoint K.bytes_of K.is_value V.bytes_of V.is_value
@@ -138,6 +142,6 @@ pub(crate) fn save_for_good<F: SyncedFolder, K: Stored, V: Stored, S: Source<K, 
     }
     match sync_names(folder, dir) {
         Err(error) => Err(error),
-        Ok(()) => Ok(()),
+        Ok(()) => Ok(manifest),
     }
 }

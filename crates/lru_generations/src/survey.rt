@@ -1,10 +1,11 @@
 // What a save finds in its folder.
-ghost use Rattle.std.specs.Prelude.{◌≡◌, ◌↔◌, ◌<◌, ◌^◌, ℕ, List, false, IfErr, IfOk, OnOk};
+ghost use Rattle.std.specs.Prelude.{◌≡◌, ◌↔◌, ◌<◌, ◌^◌, ℕ, List, false, IfErr, IfOk, OnOk, option_copied};
 ghost use Rattle.lru_folder.specs.Files.{Files};
 ghost use Rattle.lru_folder.specs.Names.{has_slash};
 ghost use Rattle.lru_whole_files.specs.Touching.{TouchesNothing};
 ghost use Rattle.lru_generations.specs.Saving.{AreNamed, IsSurveyed, IsUnsaved, TellsPassed};
 
+use crate::known::Known;
 use crate::listing::parts_of;
 use crate::newest::{Newest, newest_whole};
 use crate::syncing::{claim, sync_names};
@@ -19,7 +20,7 @@ use std::alloc::Global;
 pub(crate) struct Surveyed {
     // The parts that have a file.
     pub(crate) parts: Vec<PartName>,
-    // The newest generation that is whole, and those above it that are not.
+    // The newest generation that is taken for whole, and those above it.
     pub(crate) newest: Newest,
     // The least number above all.
     pub(crate) generation: u64,
@@ -33,10 +34,11 @@ pub(crate) fn survey<F: SyncedFolder>(
     folder: &mut F,
     dir: &str,
     file_name: &str,
+    known: Option<&Known>,
 ) -> Result<Surveyed, CheckpointError>
     requires { has_slash file_name.now ≡ false }
     ensures found { F.meaning.keeps folder.old → IfOk result (λ seen. IsSurveyed dir.now file_name.now (F.meaning.files folder.old)
-        seen.parts.items seen.newest.generation seen.generation) }
+        (option_copied known.entry) seen.parts.items seen.newest.generation seen.generation) }
     ensures passed { F.meaning.keeps folder.old → IfOk result (λ seen. TellsPassed F.meaning dir.now file_name.now (F.meaning.files folder.old)
         seen.newest.generation seen.newest.passed.items) }
     ensures fits { IfOk result (λ seen. seen.generation < 2 ^ 64) }
@@ -54,7 +56,7 @@ pub(crate) fn survey<F: SyncedFolder>(
         return Err(CheckpointError::LastGeneration);
     };
     let generations = generations_of(alloc, &parts)?;
-    let newest = newest_whole(alloc, folder, dir, file_name, &generations)?;
+    let newest = newest_whole(alloc, folder, dir, file_name, &generations, known)?;
     sync_names(folder, dir)?;
     Ok(Surveyed {
         parts,

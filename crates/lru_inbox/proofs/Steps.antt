@@ -19,7 +19,7 @@ use Rattle.lru_schedules.specs.Turns.{Turn, sent, turn, turns_of, rows_after, ro
 use Rattle.lru_schedules.specs.World.{PutsPair, IsSameQueue, itself, AtAnyTime}
 use Rattle.lru_schedules.proofs.MessageLaws.{follows, wants_same}
 use Rattle.lru_schedules.proofs.TurnLaws.{rows_more, refusals_more, allowed_more}
-use Rattle.lru_inbox.specs.Replies.{IsLeft, Tells, IsReply}
+use Rattle.lru_inbox.specs.Replies.{IsLeft, Tells, IsReply, refused_in}
 
 no_some : {A : Type 0} (x : A) → Some x ≡ None → ⊥
 no_some x e = cc
@@ -151,7 +151,7 @@ module _ {K : Type 0} where
     -- the reply of each effect tells of the rows after its own message
     pub reply_at : (cap : ℕ) (done msgs : List (LruMsg K)) (es : List (Effect K)) (old : State K) (look : ℕ → Option ℕ) (q : Queue K) (new : State K) (look' : ℕ → Option ℕ) (q' : Queue K) (ts : List (Turn K)) → LeftBy cap ts done old look
         → ProcessesAll PutsPair IsSameQueue itself IsClone AtAnyTime old look q msgs es new look' q'
-        → (i : ℕ) (e : Effect K) (r : Reply K) → slice_get es i ≡ Some e → e.reply ≡ Some r → IsReply IsClone cap (done ++ take (suc i) msgs) r
+        → (i : ℕ) (e : Effect K) (r : Reply K) → slice_get es i ≡ Some e → e.reply ≡ Some r → IsReply IsClone cap (done ++ take (suc i) msgs) (refusals ts + refused_in (take (suc i) es)) r
     reply_at cap done [] [] old look q new look' q' ts l s i e r at is = absurd (no_some e (sym at))
     reply_at cap done [] (f ∷ es) old look q new look' q' ts l s i e r at is = absurd s
     reply_at cap done (m ∷ ms) [] old look q new look' q' ts l s i e r at is = absurd s
@@ -162,8 +162,11 @@ module _ {K : Type 0} where
           turns = ts ++ turn (sent None m) f ∷ [];
           messages_are = left.messages_are;
           allowed = left.allowed;
+          refused_are = (let z : refusals ts + (cond f.refused 1 0) ≡ refusals ts + (cond f.refused 1 0 + 0) = omega arith in refusals_more ts (turn (sent None m) f) ∙ z);
           tells = subst (λ (z : State K). Tells IsClone z.shard.rows r) left.state (reply_one cap done old look q m f s.0 s.1.0 s.1.1.0 s.1.1.1.0 r (ap (λ (x : Effect K). x.reply) same ∙ is));
         }
     reply_at cap done (m ∷ ms) (f ∷ es) old look q new look' q' ts l s (suc i) e r at is =
-        subst (λ xs. IsReply IsClone cap xs r) (append_assoc done (m ∷ []) (take (suc i) ms))
-        (reply_at cap (done ++ m ∷ []) ms es s.0 s.1.0 s.1.1.0 new look' q' (ts ++ turn (sent None m) f ∷ []) (left_one cap done old look q m f s.0 s.1.0 s.1.1.0 s.1.1.1.0 ts l) s.1.1.1.1 i e r at is)
+        let n : refusals (ts ++ turn (sent None m) f ∷ []) + refused_in (take (suc i) es) ≡ refusals ts + (cond f.refused 1 0 + refused_in (take (suc i) es)) = omega (arith, refusals_more ts (turn (sent None m) f)) in
+        subst (λ k. IsReply IsClone cap (done ++ (m ∷ take (suc i) ms)) k r) n
+        (subst (λ xs. IsReply IsClone cap xs (refusals (ts ++ turn (sent None m) f ∷ []) + refused_in (take (suc i) es)) r) (append_assoc done (m ∷ []) (take (suc i) ms))
+        (reply_at cap (done ++ m ∷ []) ms es s.0 s.1.0 s.1.1.0 new look' q' (ts ++ turn (sent None m) f ∷ []) (left_one cap done old look q m f s.0 s.1.0 s.1.1.0 s.1.1.1.0 ts l) s.1.1.1.1 i e r at is))

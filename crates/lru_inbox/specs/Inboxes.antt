@@ -40,11 +40,12 @@ module _ {K : Type 0} where
   Sends shard message old new =
       (grown : List (LruMsg K)) × Begins (seen_of shard old) grown × (new ≡ front shard (grown ++ message ∷ []) ∷ old)
 
-  -- a reply tells of the rows after a beginning of the shard's log that has all that was seen of it; without a reply nothing was learned
-  abbrev pub Learns : (K → K → Type 0) → ℕ → ℕ → List (Front (LruMsg K)) → Option (Reply K) → List (Front (LruMsg K)) → Type 0
-  Learns IsClone cap shard old (Some reply) new =
-      (seen : List (LruMsg K)) × Begins (seen_of shard old) seen × (new ≡ front shard seen ∷ old) × ∥ IsReply IsClone cap seen reply ∥₁
-  Learns IsClone cap shard old None new = new ≡ old
+  -- a reply tells of the rows after a beginning of the shard's log that has all that was seen of it, so many messages of which were
+  -- refused; without a reply nothing was learned
+  abbrev pub Learns : (K → K → Type 0) → ℕ → ℕ → List (Front (LruMsg K)) → Option (Reply K) → ℕ → List (Front (LruMsg K)) → Type 0
+  Learns IsClone cap shard old (Some reply) refused new =
+      (seen : List (LruMsg K)) × Begins (seen_of shard old) seen × (new ≡ front shard seen ∷ old) × ∥ IsReply IsClone cap seen refused reply ∥₁
+  Learns IsClone cap shard old None refused new = new ≡ old
 
 module _ {K T : Type 0} where
   -- why a letter is not put, which is handed back: the mailbox is closed, or there is no memory for one more, or all numbers were given

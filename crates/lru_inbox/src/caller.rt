@@ -15,6 +15,9 @@ use lru_logs::voice::Voice;
 pub struct Caller<K: Drop, B: Archive> {
     /// Speaks for what was seen.
     pub voice: Voice<LruMsg<K>, B>,
+    /// Of the messages of which the last answer told, how many were refused. Where none was, it told of the rows that all of them
+    /// leave.
+    pub refused: u64,
     pub ghost told: { voice.token.me ≡ (of_fronts voice.token.me.0.fronts, []) },
 }
 
@@ -22,9 +25,10 @@ impl<K: Drop, B: Archive> Caller<K, B> {
     /// One who has seen what this voice has.
     pub fn new(voice: Voice<LruMsg<K>, B>) -> Self
         requires { voice.token.me ≡ (of_fronts voice.token.me.0.fronts, []) }
-        ensures { result.voice ≡ voice }
+        ensures voice { result.voice ≡ voice }
+        ensures refused { result.refused ≡ 0 }
     {
-        Caller { voice }
+        Caller { voice, refused: 0 }
     }
 }
 
@@ -33,7 +37,7 @@ impl<K: Clone + Drop, B: Archive> Caller<K, B> {
     /// it tells begins with all that was seen of it, if that was no longer. Else the reply is dropped, and nothing was learned.
     pub fn learn(&mut self, shard: usize, least: u64, told: Told<K, B>) -> Option<Reply<K>>
         requires { length (seen_of shard self.old.voice.token.me.0.fronts) ≤ least }
-        ensures learned { Learns K.is_clone (cap_of B.shards) shard self.old.voice.token.me.0.fronts result self.new.voice.token.me.0.fronts }
+        ensures learned { Learns K.is_clone (cap_of B.shards) shard self.old.voice.token.me.0.fronts result self.new.refused self.new.voice.token.me.0.fronts }
         ensures answers { IsSome told.seen → told.shard ≡ shard → least ≤ told.count → IsSome result }
         ensures only { IsSome result → IsSome told.seen × (told.shard ≡ shard) × (least ≤ told.count) }
     {
@@ -41,12 +45,14 @@ impl<K: Clone + Drop, B: Archive> Caller<K, B> {
             reply,
             shard: of,
             count,
+            refused,
             seen,
             ..
         } = told;
         match seen {
             Some(seen) if of == shard && count >= least => {
                 self.voice.learn(seen);
+                self.refused = refused;
                 Some(reply)
             }
             _ => None,

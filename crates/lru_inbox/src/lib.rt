@@ -4,10 +4,12 @@
 
 mod caller;
 mod inbox;
+mod law;
 mod taker;
 mod told;
 
 pub use caller::Caller;
 pub use inbox::Inbox;
+pub use law::exact_law;
 pub use taker::Taker;
 pub use told::Told;

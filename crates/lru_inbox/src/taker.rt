@@ -56,20 +56,21 @@ impl<K: Clone + Drop, B: Archive> Taker<K, B> {
         self.count
     }
 
-    /// A reply that tells of the rows which the first so many messages leave.
-    pub fn tell(&mut self, count: u64, reply: Reply<K>) -> Told<K, B>
+    /// A reply that tells of the rows which the first so many messages leave, so many of which were refused.
+    pub fn tell(&mut self, count: u64, refused: u64, reply: Reply<K>) -> Told<K, B>
         requires count { ForSome (taken_in self.old.voice) (λ taken. count ≤ length taken) }
-        requires tells { ForSome (taken_in self.old.voice) (λ taken. ∥ IsReply K.is_clone (cap_of B.shards) (take count taken) reply ∥₁) }
+        requires tells { ForSome (taken_in self.old.voice) (λ taken. ∥ IsReply K.is_clone (cap_of B.shards) (take count taken) refused reply ∥₁) }
         ensures reply { result.reply ≡ reply }
         ensures shard { result.shard ≡ self.old.shard }
         ensures count { result.count ≡ count }
+        ensures refused { result.refused ≡ refused }
         ensures seen { is_some result.seen ≡ is_some self.old.voice }
         ensures same { (self.new.shard ≡ self.old.shard) × (self.new.count ≡ self.old.count) × (taken_in self.new.voice ≡ taken_in self.old.voice) }
     {
         let shard = self.shard;
         let Some(voice) = &mut self.voice else {
-            return Told::new(reply, shard, count, None);
+            return Told::new(reply, shard, count, refused, None);
         };
-        Told::new(reply, shard, count, Some(voice.show(count)))
+        Told::new(reply, shard, count, refused, Some(voice.show(count)))
     }
 }

@@ -20,13 +20,15 @@ pub struct Told<K: Clone + Drop, B: Archive> {
     pub shard: usize,
     /// How many messages it tells of, modulo 2^64.
     pub count: u64,
+    /// How many of those were refused, modulo 2^64. Where none was, it tells of the rows that all of them leave.
+    pub refused: u64,
     /// Speaks for those messages, where there is a log.
     pub seen: Option<Token<LruMsg<K>>>,
     brand: PhantomData<B>,
     pub ghost here: { ForSome seen (λ t. t.table_id ≡ B.log) },
     pub ghost told: { ForSome seen (λ t. t.me ≡ (of_fronts (front shard (shown t.me.0) ∷ []), [])) },
     pub ghost counted: { ForSome seen (λ t. count ≡ length (shown t.me.0)) },
-    pub ghost tells: { ForSome seen (λ t. ∥ IsReply K.is_clone (cap_of B.shards) (shown t.me.0) reply ∥₁) },
+    pub ghost tells: { ForSome seen (λ t. ∥ IsReply K.is_clone (cap_of B.shards) (shown t.me.0) refused reply ∥₁) },
 }
 
 impl<K: Clone + Drop, B: Archive> Told<K, B> {
@@ -34,18 +36,20 @@ impl<K: Clone + Drop, B: Archive> Told<K, B> {
         reply: Reply<K>,
         shard: usize,
         count: u64,
+        refused: u64,
         seen: Option<Token<LruMsg<K>>>,
     ) -> Self
         requires here { ForSome seen (λ t. t.table_id ≡ B.log) }
         requires told { ForSome seen (λ t. t.me ≡ (of_fronts (front shard (shown t.me.0) ∷ []), [])) }
         requires counted { ForSome seen (λ t. count ≡ length (shown t.me.0)) }
-        requires tells { ForSome seen (λ t. ∥ IsReply K.is_clone (cap_of B.shards) (shown t.me.0) reply ∥₁) }
-        ensures { (result.reply ≡ reply) × (result.shard ≡ shard) × (result.count ≡ count) × (result.seen ≡ seen) }
+        requires tells { ForSome seen (λ t. ∥ IsReply K.is_clone (cap_of B.shards) (shown t.me.0) refused reply ∥₁) }
+        ensures { (result.reply ≡ reply) × (result.shard ≡ shard) × (result.count ≡ count) × (result.refused ≡ refused) × (result.seen ≡ seen) }
     {
         Told {
             reply,
             shard,
             count,
+            refused,
             seen,
             brand: PhantomData,
         }

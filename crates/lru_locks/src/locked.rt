@@ -6,6 +6,7 @@ ghost use Rattle.lru_rules.specs.Shards.{AreAtHome, IsOwn};
 use crate::look::Look;
 use crate::shed::{Room, shed};
 use lru_batches::{Admission, admit_each};
+use lru_index::hashing::SeededHashes;
 use lru_rules::totals::Totals;
 use lru_shard::unit::{Cause, LruUnit, Refused};
 use std::alloc::{AllocError, Global};
@@ -32,14 +33,16 @@ impl<T, const N: usize> Locked<T, N> {
         alloc: Global,
         capacity: usize,
         number: usize,
+        hashes: SeededHashes,
     ) -> Result<Self, AllocError>
     where
         T: Drop,
         requires { number < N }
         ensures { IfOk result (λ locked. locked.unit ≡ shard [] (cap_of N)) }
     {
+        let cap = usize::MAX / N;
         Ok(Locked {
-            unit: LruUnit::with_capacity(alloc, capacity, usize::MAX / N)?,
+            unit: LruUnit::with_capacity_and_hasher(alloc, capacity, cap, hashes)?,
             number,
         })
     }

@@ -9,6 +9,7 @@ use crate::look::Look;
 use crate::shed::Room;
 use crossbeam_utils::CachePadded;
 use lru_batches::Admission;
+use lru_index::hashing::SeededHashes;
 use lru_rules::counters::{growth, shift};
 use lru_rules::eviction::{EvictError, Readings, drawn_shards, longer_of, shard_after};
 use lru_rules::totals::{Totals, Units};
@@ -27,13 +28,14 @@ const FIRST_PAIRS: usize = 4;
 fn empty_units<T: Drop, const N: usize>(
     alloc: Global,
     capacity: usize,
+    hashes: SeededHashes,
 ) -> Result<Vec<CachePadded<Shard<T, N>>>, AllocError>
     requires { 0 < N }
     ensures { IfOk result (λ units. vec_len units ≡ N) }
 {
     let mut units = Vec::with_capacity(alloc, N)?;
     for number in 0..N {
-        let locked = Locked::with_capacity(alloc, capacity, number)?;
+        let locked = Locked::with_capacity(alloc, capacity, number, hashes)?;
         units.push(CachePadded::new(Shard::new(locked)))?;
     }
     Ok(units)
@@ -157,7 +159,7 @@ impl<T, const N: usize> Lru<T, N> {
     ghost use Rattle.lru_locks.specs.LruCalls.{MaySee};
 
     /// An empty `Lru` with a limit on its weight. Each shard has room for `capacity` rows, and may weigh
-    /// `usize::MAX / N`.
+    /// `usize::MAX / N`. The seed of the hashes stays the same from run to run.
     pub fn with_capacity(
         alloc: Global,
         weight_limit: usize,
@@ -182,8 +184,45 @@ impl<T, const N: usize> Lru<T, N> {
         T: Drop,
         requires { 0 < N }
     {
+        Self::over_hashes(
+            alloc,
+            weight_limit,
+            capacity,
+            watermark,
+            SeededHashes::fixed(),
+        )
+    }
+
+    /// The same with a seed for the hashes of all shards: who picks the keys and does not know it can't pick keys that
+    /// collide. A key's shard does not hang on it.
+    pub fn with_capacity_and_seed(
+        alloc: Global,
+        weight_limit: usize,
+        capacity: usize,
+        watermark: Option<usize>,
+        seed: u64,
+    ) -> Result<Self, AllocError>
+    where
+        T: Drop,
+        requires { 0 < N }
+    {
+        let hashes = SeededHashes::with_seed(seed);
+        Self::over_hashes(alloc, weight_limit, capacity, watermark, hashes)
+    }
+
+    fn over_hashes(
+        alloc: Global,
+        weight_limit: usize,
+        capacity: usize,
+        watermark: Option<usize>,
+        hashes: SeededHashes,
+    ) -> Result<Self, AllocError>
+    where
+        T: Drop,
+        requires { 0 < N }
+    {
         Ok(Lru {
-            units: empty_units(alloc, capacity)?,
+            units: empty_units(alloc, capacity, hashes)?,
             counters: CachePadded::new(Counters::zero()),
             weight_limit: AtomicUsize::new(weight_limit),
             watermark,
@@ -815,5 +854,33 @@ impl<T: Drop, const N: usize> Lru<T, N> {
             }
         }
         Ok(evicted)
+    }
+
+    /// Evicts as `evict_to_limit` does, and calls a closure with the data and the weight of each evicted row, in order. It
+    /// takes no memory.
+    ///
+    /// `visit` is called under no lock.
+    pub fn evict_with<R: Rng, F: FnMut((T, usize))>(
+        &self,
+        rt: &impl Wait,
+        rng: &mut R,
+        mut visit: F,
+    )
+        requires { F.IsAlwaysCallable visit }
+        ensures visited { (last : F) × VisitsLight (λ p x q. F.step p x tt q) visit (cap_of N) last }
+        ensures undrawn { N ≡ 1 → rng.new ≡ rng.old }
+    {
+        let all = self.readings();
+        let mut left = all;
+        for _ in 0..all.len {
+            if !left.is_past(self.weight(), self.len()) {
+                return;
+            }
+            let Some(pair) = self.evict_near(rt, self.drawn_shard(rng)) else {
+                return;
+            };
+            left.evicted(pair.1);
+            visit(pair);
+        }
     }
 }

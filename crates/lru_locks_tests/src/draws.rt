@@ -56,6 +56,27 @@ fn trial<R: Wait>(rt: &R, alloc: Global, seed: u64) -> Result<Vec<(u64, usize)>,
     }
 }
 
+// The same where each row that leaves is handed to a closure, and the hashes have a seed.
+fn handed_trial<R: Wait>(
+    rt: &R,
+    alloc: Global,
+    seed: u64,
+) -> Result<Vec<(u64, usize)>, AllocError> {
+    let lru = Lru::<u64, 2>::with_capacity_and_seed(alloc, 30, 50, None, seed)?;
+    for half in 0..50u64 {
+        let _answer = lru.admit(rt, half << 1, half << 1, 1);
+    }
+    for half in 0..10u64 {
+        let key = (half << 1) | 1;
+        let _answer = lru.admit(rt, key, key, 1);
+    }
+    let mut pairs = Vec::with_capacity(alloc, 30)?;
+    lru.evict_with(rt, &mut StdRng::seed_from_u64(seed), |pair| {
+        let _refused = pairs.push(pair);
+    });
+    Ok(pairs)
+}
+
 fn core_trial(alloc: Global, seed: u64) -> Result<Vec<(u64, usize)>, AllocError> {
     let mut core = LruCore::<u64, 2>::with_capacity(alloc, 30, 50)?;
     for half in 0..50u64 {
@@ -72,8 +93,8 @@ fn core_trial(alloc: Global, seed: u64) -> Result<Vec<(u64, usize)>, AllocError>
     }
 }
 
-// How many even keys leave in 50 trials, each of which takes 30 keys and those that a core's takes, and whether two trials
-// differ; nothing, where one is otherwise.
+// How many even keys leave in 50 trials, each of which takes 30 keys, those that a core's takes and those that a closure is
+// handed, and whether two trials differ; nothing, where one is otherwise.
 fn trials<R: Wait>(rt: &R, alloc: Global) -> Result<(usize, bool), AllocError> {
     let first = trial(rt, alloc, 0)?;
     let mut even = 0usize;
@@ -81,7 +102,9 @@ fn trials<R: Wait>(rt: &R, alloc: Global) -> Result<(usize, bool), AllocError> {
     for seed in 0..50u64 {
         let pairs = trial(rt, alloc, seed)?;
         let core_pairs = core_trial(alloc, seed)?;
-        if (pairs.len(), pairs.as_slice()) != (30, core_pairs.as_slice()) {
+        let handed = handed_trial(rt, alloc, seed)?;
+        let are_same = pairs.as_slice() == core_pairs.as_slice();
+        if pairs.len() != 30 || !are_same || pairs.as_slice() != handed.as_slice() {
             return Ok((0, false));
         }
         even = even.saturating_add(pairs.iter().filter(|pair| pair.0 % 2 == 0).count());

@@ -80,34 +80,34 @@ module _ {K : Type 0} (shard : ℕ) (message : LruMsg K) (old new : List (Front 
       (subst (Begins (seen_of shard old)) (sym grew_seen) (begins_then (seen_of shard old) s.0 (s.0 ++ message ∷ []) s.1 (message ∷ [], refl)))
       grew_others
 
-module _ {K : Type 0} (IsClone : K → K → Type 0) (cap shard : ℕ) (old new : List (Front (LruMsg K))) where
-  pub learned_more : (reply : Option (Reply K)) → Learns IsClone cap shard old reply new → More old new
+module _ {K : Type 0} (IsClone : K → K → Type 0) (cap shard : ℕ) (old : List (Front (LruMsg K))) (refused : ℕ) (new : List (Front (LruMsg K))) where
+  pub learned_more : (reply : Option (Reply K)) → Learns IsClone cap shard old reply refused new → More old new
   learned_more None l = more_if_same old new l
   learned_more (Some r) l =
       let now : seen_of shard new ≡ l.0 = ap (seen_of shard) l.2 ∙ seen_first shard l.0 old in
       more_of_one shard old new (subst (Begins (seen_of shard old)) (sym now) l.1) (λ t apart. ap (seen_of t) l.2 ∙ seen_other shard t l.0 old apart)
 
-module _ {K : Type 0} (IsClone : K → K → Type 0) (cap shard : ℕ) (question : LruMsg K) (old mid new : List (Front (LruMsg K))) (s : Sends shard question old mid) where
+module _ {K : Type 0} (IsClone : K → K → Type 0) (cap shard : ℕ) (question : LruMsg K) (old mid : List (Front (LruMsg K))) (refused : ℕ) (new : List (Front (LruMsg K))) (s : Sends shard question old mid) where
   -- a question was sent, and a reply tells of what it saw
   abbrev pub Learnt : Reply K → Type 0
   Learnt r =
       (grown : List (LruMsg K)) × Begins (seen_of shard old) grown × Begins (grown ++ question ∷ []) (seen_of shard new) × ((t : ℕ) → t ≢ shard → seen_of t new ≡ seen_of t old)
-      × ∥ IsReply IsClone cap (seen_of shard new) r ∥₁
+      × ∥ IsReply IsClone cap (seen_of shard new) refused r ∥₁
 
-  learnt : (r : Reply K) → Learns IsClone cap shard mid (Some r) new → Learnt r
+  learnt : (r : Reply K) → Learns IsClone cap shard mid (Some r) refused new → Learnt r
   learnt r l =
       let now : seen_of shard new ≡ l.0 = ap (seen_of shard) l.2 ∙ seen_first shard l.0 mid in (
         s.0,
         s.1,
         subst (Begins (s.0 ++ question ∷ [])) (sym now) (subst (λ xs. Begins xs l.0) (grew_seen shard question old mid s) l.1),
         (λ t apart. ap (seen_of t) l.2 ∙ seen_other shard t l.0 mid apart ∙ grew_others shard question old mid s t apart),
-        subst (λ xs. ∥ IsReply IsClone cap xs r ∥₁) (sym now) l.3,
+        subst (λ xs. ∥ IsReply IsClone cap xs refused r ∥₁) (sym now) l.3,
       )
 
   same_reply : (r q : Reply K) → Some r ≡ Some q → Learnt r → Learnt q
   same_reply r q e l = subst Learnt (some_same r q e) l
 
-  pub asked : (reply : Option (Reply K)) → Learns IsClone cap shard mid reply new → IfOk (answered_by reply) (λ o. ForSome o Learnt)
+  pub asked : (reply : Option (Reply K)) → Learns IsClone cap shard mid reply refused new → IfOk (answered_by reply) (λ o. ForSome o Learnt)
   asked None l = tt
   asked (Some reply.Memory) l = tt
   asked (Some (reply.Weight w)) l = λ q e. same_reply (reply.Weight w) q e (learnt (reply.Weight w) l)
@@ -119,7 +119,8 @@ module _ {K B : Type 0} {A : archive.Ghosts B} where
   sees_then old mid new f g = record { more = more_then (fronts_of old) (fronts_of mid) (fronts_of new) f.more g.more }
 
   -- a snapshot has the rows that a beginning of the log leaves
-  pub rows_told : (IsClone : K → K → Type 0) (cap : ℕ) (question : LruMsg K) (old mid new : Caller K B A) (rows : ShardData K)
-      → SeesMore old mid → SeesMore mid new → Learned IsClone cap rows.shard_index question mid (reply.Rows rows.items) new → IsRows IsClone cap old rows
-  rows_told IsClone cap question old mid new rows f g l =
-      ∥∥₁_map l.4 (λ r. (seen rows.shard_index new, (sees_then old mid new f g).more rows.shard_index, r))
+  pub rows_told : (IsClone : K → K → Type 0) (cap : ℕ) (question : LruMsg K) (old mid new : Caller K B A) (shard : ℕ) (rows : ShardData K)
+      → SeesMore old mid → SeesMore mid new → rows.shard_index ≡ shard → rows.refused ≡ new.refused → Learned IsClone cap shard question mid (reply.Rows rows.items) new → IsRows IsClone cap old rows
+  rows_told IsClone cap question old mid new shard rows f g here counted l =
+      ∥∥₁_map l.4 (λ r.
+      (seen rows.shard_index new, (sees_then old mid new f g).more rows.shard_index, subst (λ n. IsReply IsClone cap (seen rows.shard_index new) n (reply.Rows rows.items)) (sym counted) (subst (λ n. IsReply IsClone cap (seen n new) new.refused (reply.Rows rows.items)) (sym here) r)))

@@ -34,22 +34,24 @@ module _ {K B : Type 0} {A : archive.Ghosts B} where
       (grown : List (LruMsg K)) × Begins (seen shard old) grown × (seen shard new ≡ grown ++ message ∷ []) × OthersStay shard old new
 
   -- the log has grown, past all that was seen of it, by the question, and perhaps by more; and the reply tells of the rows that all
-  -- these messages leave
+  -- these messages leave, so many of which were refused as the caller has noted
   abbrev pub Learned : (K → K → Type 0) → ℕ → ℕ → LruMsg K → Caller K B A → Reply K → Caller K B A → Type 0
   Learned IsClone cap shard question old reply new =
       (grown : List (LruMsg K)) × Begins (seen shard old) grown × Begins (grown ++ question ∷ []) (seen shard new) × OthersStay shard old new
-      × ∥ IsReply IsClone cap (seen shard new) reply ∥₁
+      × ∥ IsReply IsClone cap (seen shard new) new.refused reply ∥₁
 
-  -- one looks at the weight of a hash: it is that of the rows which a beginning of the shard's log leaves, and that is seen too
+  -- one looks at the weight of a hash: it is that of the rows which a beginning of the shard's log leaves, and that is seen too. The
+  -- caller has noted how many messages of it were refused
   abbrev pub Looked : ℕ → ℕ → ℕ → Caller K B A → Option ℕ → Caller K B A → Type 0
-  Looked cap shard hash old weight new = LearnsWeight cap shard hash (fronts_of old) weight (fronts_of new)
+  Looked cap shard hash old weight new = LearnsWeight cap shard hash (fronts_of old) weight new.refused (fronts_of new)
 
   -- a row of this hash is found where a look tells of one; what was seen by the look is seen afterwards, and perhaps more
   abbrev pub Found : ℕ → ℕ → ℕ → Caller K B A → Bool → Caller K B A → Type 0
   Found cap shard hash old found new =
-      (weight : Option ℕ) × (looked later : List (Front (LruMsg K))) × LearnsWeight cap shard hash (fronts_of old) weight looked × (fronts_of new ≡ later ++ looked) × (found ≡ is_some weight)
+      (weight : Option ℕ) × (looked later : List (Front (LruMsg K))) × LearnsWeight cap shard hash (fronts_of old) weight new.refused looked × (fronts_of new ≡ later ++ looked) × (found ≡ is_some weight)
 
-  -- these are the rows that some messages leave, which begin with all that was seen of the shard's log
+  -- these are the rows that some messages leave, which begin with all that was seen of the shard's log, and tell how many of those
+  -- were refused
   abbrev pub IsRows : (K → K → Type 0) → ℕ → Caller K B A → ShardData K → Type 0
   IsRows IsClone cap caller rows =
-      ∥ ((messages : List (LruMsg K)) × Begins (seen rows.shard_index caller) messages × IsReply IsClone cap messages (Rows rows.items)) ∥₁
+      ∥ ((messages : List (LruMsg K)) × Begins (seen rows.shard_index caller) messages × IsReply IsClone cap messages rows.refused (Rows rows.items)) ∥₁

@@ -1,5 +1,5 @@
 //! An order served by actors that keeps logs: each answer says what it saw of them.
-ghost use Rattle.std.specs.Prelude.{◌≡◌, ◌%◌, ◌<◌, ◌≤◌, [], IfOk, IfErr, OnOk, OnErr, Ok, Err, None, IsSome, true};
+ghost use Rattle.std.specs.Prelude.{◌≡◌, ◌+◌, ◌%◌, ◌<◌, ◌≤◌, [], IfOk, IfErr, OnOk, OnErr, Ok, Err, None, IsSome, true};
 ghost use Rattle.std.specs.Option.{ForSome};
 ghost use Rattle.std.specs.Arc.{arc_value};
 ghost use Rattle.lru_rules.specs.Limits.{cap_of};
@@ -8,18 +8,20 @@ ghost use Rattle.lru_actors.specs.declared.message.LruMsg.TheVariants.{Admit, In
 ghost use Rattle.lru_actors.specs.declared.effect.Reply.TheVariants.{Weight, Lru, Rows};
 ghost use Rattle.lru_inbox.specs.Inboxes.{Sends};
 ghost use Rattle.lru_sends.specs.Refusals.{held_in};
+ghost use Rattle.lru_async.specs.Saving.{IsReport, IsWritten};
 ghost use Rattle.lru_logged.specs.Logged.{fronts_of, Found, Grew, IsRows, Learned, Looked, SeesMore};
 
-use log::{Log, error};
+use log::Log;
 use lru_actors::effect::Reply;
 use lru_actors::key::hash_key;
 use lru_actors::message::LruMsg;
 use lru_async::async_lru::{AsyncLru, ShardData};
 use lru_async::builder::AsyncLruBuilder;
+use lru_async::saving::SaveReport;
 use lru_inbox::Caller;
 use lru_letters::Letter;
 use lru_logs::tie::{Archive, Blank};
-use lru_sends::cells::cell_and_clone;
+use lru_sends::cells::cell_of_question;
 use lru_sends::refusals::{BuildError, SendRefused};
 use lru_sends::sends::{
     Addressed, admission, answer_of, increment, key_back, promotion, refusal_of, removal, shard_of,
@@ -37,7 +39,9 @@ use std::thread::Threads;
 /// Who calls it has a [`Caller`], which has seen a beginning of each log. A call that sends a message says that the log has
 /// grown, past all that the caller had seen, by exactly that message; a call that asks says that the answer is that of the rows
 /// after a beginning of the log which has all that the caller had seen, and its own question. A look sends nothing, and says that
-/// its answer is that of the rows after messages which, with all that the caller had seen, begin one log.
+/// its answer is that of the rows after messages which, with all that the caller had seen, begin one log. `Caller::refused` then tells
+/// how many of the messages that an answer saw were refused: where none was, it is that of the rows which all of them leave
+/// (`exact_law`).
 #[derive(Drop)]
 pub struct LoggedLru<K: Clone + Drop, const N: usize, B: Registry + Archive> {
     lru: AsyncLru<K, N, B>,
@@ -77,7 +81,7 @@ impl<
     const N: usize,
     B: Registry + Archive + Send + Sync + 'static,
 > LoggedLru<K, N, B> {
-    ghost use Rattle.lru_async.specs.Orders.{limits_of, limits_told};
+    ghost use Rattle.lru_async.specs.Orders.{HasWorkers, limits_of, limits_told};
     ghost use Rattle.lru_logged.specs.Orders.{logged_order};
     ghost use Rattle.lru_sends.specs.declared.refusals.BuildError.TheVariants.{NoCallbackWorkers};
 
@@ -98,6 +102,7 @@ impl<
         requires counts { (blank.tie.table.shared.key ≡ N) × (B.shards ≡ N) }
         ensures refused { builder.settings.num_callback_workers ≡ 0 → result ≡ Err NoCallbackWorkers }
         ensures limits { IfOk result (λ logged. limits_of (logged_order logged) ≡ limits_told builder.settings) }
+        ensures workers { IfOk result (λ logged. HasWorkers (logged_order logged) builder.settings) }
     {
         match builder.build_over_logs::<R, B>(rt, blank) {
             Ok(lru) => Ok(LoggedLru { lru }),
@@ -203,8 +208,13 @@ impl<
         if self.peek_weight(rt, caller, key).is_none() {
             return Ok(false);
         }
+        let looked = caller.refused;
         match self.send(rt, caller, promotion(hash, N)) {
-            Ok(()) => Ok(true),
+            Ok(()) => {
+                // a send tells nothing of refusals
+                caller.refused = looked;
+                Ok(true)
+            }
             Err(refused) => Err(refused.bare()),
         }
     }
@@ -290,9 +300,7 @@ impl<
         ensures grows { SeesMore caller.old caller.new }
     {
         let Addressed { shard, message } = addressed;
-        let Ok((cell, theirs)) = cell_and_clone(self.lru.alloc()) else {
-            return Err(SendRefused::Memory(()));
-        };
+        let (cell, theirs) = cell_of_question(self.lru.alloc())?;
         let number = match self.lru.world().shards[shard]
             .mailbox
             .send(rt, shard, caller, Letter::asking(message, theirs))
@@ -374,6 +382,27 @@ impl<
         }
     }
 
+    // The rows of a shard, if it gives a snapshot.
+    fn rows_of(
+        &self,
+        rt: &impl Wait,
+        caller: &mut Caller<K, B>,
+        shard: usize,
+    ) -> Option<ShardData<K>>
+        requires { shard < N }
+        ensures told { ForSome result (λ rows. (rows.shard_index ≡ shard) × (rows.refused ≡ caller.new.refused) × Learned K.is_clone (cap_of N) shard Snapshot caller.old (Rows rows.items) caller.new) }
+        ensures grows { SeesMore caller.old caller.new }
+    {
+        let Ok(Some(items)) = self.snapshot_shard(rt, caller, shard) else {
+            return None;
+        };
+        Some(ShardData {
+            shard_index: shard,
+            items,
+            refused: caller.refused,
+        })
+    }
+
     /// Takes each shard's snapshot in turn, hands it to `write` on this thread, and answers how many were written, as
     /// `AsyncLru::save` does. It needs `write` to be callable only with rows of messages that begin with all that the caller had
     /// seen of the shard's log; so it is called with no others.
@@ -386,24 +415,30 @@ impl<
     ) -> usize
         requires { (rows : ShardData K) → rows.shard_index < N → IsRows K.is_clone (cap_of N) caller.old rows → F.pre write rows }
         ensures count { result ≤ N }
+        ensures told { IsWritten (F.post write) (IsRows K.is_clone (cap_of N) caller.old) N result }
         ensures grows { SeesMore caller.old caller.new }
     {
-        let mut written = 0;
+        self.save_report(rt, caller, log, write).written
+    }
+
+    /// As `save`, and it answers of each shard what became of it: it was written, or refused, or gave no snapshot.
+    pub fn save_report<L: Log, F: Fn(ShardData<K>) -> Result<(), String> + Drop>(
+        &self,
+        rt: &impl Wait,
+        caller: &mut Caller<K, B>,
+        log: &L,
+        write: F,
+    ) -> SaveReport
+        requires { (rows : ShardData K) → rows.shard_index < N → IsRows K.is_clone (cap_of N) caller.old rows → F.pre write rows }
+        ensures all { result.written + (result.refused + result.missing) ≡ N }
+        ensures told { IsReport (F.post write) (IsRows K.is_clone (cap_of N) caller.old) N result }
+        ensures grows { SeesMore caller.old caller.new }
+    {
+        let mut report = SaveReport::of_none();
         for shard in 0..N {
-            let Ok(Some(items)) = self.snapshot_shard(rt, caller, shard) else {
-                continue;
-            };
-            let rows = ShardData {
-                shard_index: shard,
-                items,
-            };
-            match write(rows) {
-                Ok(()) => written += 1,
-                Err(refusal) => {
-                    error!(log; "LoggedLru: failed to write shard {shard}: {refusal}");
-                }
-            }
+            let rows = self.rows_of(rt, caller, shard);
+            report.hand_on(log, "LoggedLru", &write, rows);
         }
-        written
+        report
     }
 }

@@ -55,7 +55,8 @@ impl<K: Clone + Drop, B: Registry + Archive> LoggedShard<K, B> {
         requires here { seen.table_id ≡ B.log }
         requires fresh { ForSome (slips_at seat) (λ slips. slips ≡ []) }
         requires nothing { seen.me ≡ (of_fronts (front shard [] ∷ []), []) }
-        ensures { IfOk result (λ s. (s.shard ≡ shard) × (s.seen ≡ seen) × (s.seat ≡ seat)) }
+        ensures made { IfOk result (λ s. (s.shard ≡ shard) × (s.seen ≡ seen) × (s.seat ≡ seat)) }
+        ensures room { IfOk result (λ s. capacity ≤ hash_map.spare s.weights) }
     {
         Ok(LoggedShard {
             shard,
@@ -74,12 +75,16 @@ impl<K: Clone + Drop, B: Registry + Archive> LoggedShard<K, B> {
         self.weights.get(&hash).copied()
     }
 
-    /// As `weight_of`, for one who then knows that it is told of the rows which a beginning of the shard's log leaves.
+    /// As `weight_of`, for one who then knows that it is told of the rows which a beginning of the shard's log leaves, and how many
+    /// messages of that were refused.
     pub fn look(&mut self, caller: &mut Caller<K, B>, hash: u64) -> Option<usize>
-        ensures told { LearnsWeight (cap_of B.shards) self.old.shard hash caller.old.voice.token.me.0.fronts result caller.new.voice.token.me.0.fronts }
+        ensures told { LearnsWeight (cap_of B.shards) self.old.shard hash caller.old.voice.token.me.0.fronts result caller.new.refused caller.new.voice.token.me.0.fronts }
         ensures same { (self.new.shard ≡ self.old.shard) × (self.new.count ≡ self.old.count) × (self.new.state ≡ self.old.state) × (self.new.weights ≡ self.old.weights) × (self.new.seat ≡ self.old.seat) × (shown self.new.seen.me.0 ≡ shown self.old.seen.me.0) }
     {
+        // Read for the proof alone, which learns from it that there are fewer than 2^64 messages.
+        let _count = self.count;
         caller.voice.note(&mut self.seen);
+        caller.refused = self.state.refused();
         self.weight_of(hash)
     }
 

@@ -5,3 +5,5 @@
 mod accounts;
 #[cfg(test)]
 mod logged;
+#[cfg(test)]
+mod saves;

@@ -6,7 +6,7 @@ use lru_shared_ledger::{Blanks, LedgerBox, PutSeat, Registry, TakeSeat};
 use std::alloc::{AllocError, Global};
 use std::marker::Brand;
 use std::sync::Wait;
-use std::sync::atomic::{AtomicBool, Ordering};
+use std::sync::atomic::{AtomicBool, AtomicUsize, Ordering};
 use std::test::Fail;
 use std::thread;
 use std::thread::Threads;
@@ -183,6 +183,45 @@ fn wakes_who_waits(rt: HostRuntime) -> Result<(), Fail> {
     let alloc: Global = rt.alloc();
     let blanks = Blanks::new(alloc, 1, 1)?;
     assert_eq!(rt; across::<Brand, _>(&rt, alloc, blanks)?, (true, true));
+    Ok(())
+}
+
+// Two threads wait at an empty box until it is closed. Whether each found it closed and empty.
+fn two_wait<B: Registry + Send + Sync, R: Threads + Wait + Sync>(
+    rt: &R,
+    alloc: Global,
+    blanks: Blanks,
+) -> Result<usize, AllocError>
+    requires tables { (blanks.puts.tie.table.shared.table_id ≡ B.puts) × (blanks.takes.tie.table.shared.table_id ≡ B.takes) }
+    requires counts { (B.putters ≡ blanks.putters) × (B.takers ≡ blanks.takers) }
+{
+    let (ledger, _puts, mut takes) = LedgerBox::<u8, B>::new(alloc, blanks)?;
+    let ended = AtomicUsize::new(0);
+    let shared = &ledger;
+    let take_one = &|_number: usize, seat: &mut TakeSeat<B>| {
+        if matches!(shared.take(rt, seat), Ok(None)) {
+            ended.fetch_add(1, Ordering::SeqCst);
+        }
+    };
+    thread::join(
+        rt,
+        || thread::for_each_mut(rt, takes.as_mut_slice(), 2, take_one),
+        || {
+            // long enough for both to wait
+            for _ in 0..20_000u32 {
+                thread::yield_now();
+            }
+            shared.close(rt);
+        },
+    );
+    Ok(ended.load(Ordering::SeqCst))
+}
+
+#[test]
+fn a_close_wakes_all_who_wait(rt: HostRuntime) -> Result<(), Fail> {
+    let alloc: Global = rt.alloc();
+    let blanks = Blanks::new(alloc, 1, 2)?;
+    assert_eq!(rt; two_wait::<Brand, _>(&rt, alloc, blanks)?, 2);
     Ok(())
 }
 

@@ -1,5 +1,8 @@
 //! Worked texts. They were written by hand.
-use crate::fixture::{Run, other_run_on_empty};
+use crate::fixture::{Run, answers, empty, other_run_on_empty};
+use lru_frames::row::Row;
+use lru_generations::generations::save;
+use std::alloc::{AllocError, Global};
 use std::test::Fail;
 
 #[rattlefmt::skip]
@@ -100,5 +103,38 @@ static HELP: [Run; 1] = [(
 #[test]
 fn help_has_a_line_for_each_command(rt: HostRuntime) -> Result<(), Fail> {
     assert_eq!(rt; other_run_on_empty(rt.alloc(), &HELP)?, (None, false));
+    Ok(())
+}
+
+// Whether a checkpoint whose rows are texts is told whole, as one of numbers is.
+fn are_texts_whole(alloc: Global) -> Result<bool, AllocError> {
+    let mut folder = empty(alloc)?;
+    let (key, data) = (
+        String::from_str(alloc, "a")?,
+        String::from_str(alloc, "bc")?,
+    );
+    let mut rows = Vec::new(alloc);
+    rows.push(Row {
+        key,
+        data,
+        weight: 1,
+    })?;
+    let mut shards = Vec::new(alloc);
+    shards.push(rows)?;
+    let saved = save(alloc, &mut folder, "d", "c", &shards.as_slice());
+    let is_whole = answers(
+        alloc,
+        &mut folder,
+        "check d c",
+        "",
+        0,
+        "generation 0 whole\n",
+    )?;
+    Ok(saved.is_ok() && is_whole)
+}
+
+#[test]
+fn a_checkpoint_of_texts_is_whole(rt: HostRuntime) -> Result<(), Fail> {
+    assert!(rt; are_texts_whole(rt.alloc())?);
     Ok(())
 }

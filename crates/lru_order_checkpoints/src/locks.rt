@@ -1,5 +1,5 @@
 //! An order that threads share, saved and loaded.
-ghost use Rattle.std.specs.Prelude.{◌≡◌, ◌↔◌, ◌⊎◌, ◌≤◌, ℕ, List, false, None, Some, IfErr, IfOk, OnOk};
+ghost use Rattle.std.specs.Prelude.{◌≡◌, ◌↔◌, ◌⊎◌, ◌≤◌, ℕ, List, false, None, Some, IfErr, IfOk, IfSome, OnOk, option_copied};
 ghost use Rattle.std.specs.FinMap.{get};
 ghost use Rattle.lru_folder.specs.Names.{has_slash};
 ghost use Rattle.lru_frames.specs.Words.{word};
@@ -10,15 +10,16 @@ ghost use Rattle.lru_order_captures.specs.Captures.{MayCopy};
 ghost use Rattle.lru_checkpoints.specs.Checkpoints.{Shards, AreHandedOut, most_shards};
 ghost use Rattle.lru_checkpoints.specs.Loads.{IsFault, IsRefused, IsRefusedFrame};
 ghost use Rattle.lru_generations.specs.Faults.{IsFailed, IsUnlisted};
-ghost use Rattle.lru_generations.specs.Newest.{AreGenerations, ArePassed, IsNewest};
-ghost use Rattle.lru_generations.specs.Saving.{IsForGood, IsOlder, IsUnsaved, IsUnused, SavesNext, TellsPassed};
+ghost use Rattle.lru_generations.specs.Newest.{AreGenerations, ArePassed, IsAsKnown, IsHighestTaken, IsNewest};
+ghost use Rattle.lru_generations.specs.Saving.{IsForGood, IsOlder, IsUnsaved, IsUnused, SavesAfter, SavesNext, TellsPassed};
 ghost use Rattle.lru_order_checkpoints.specs.Restores.{IfUnloaded, IsSameWord, IsWord, MayRestore};
 
 use crate::restored::{RestoreError, Restored};
 use lru_checkpoints::errors::CheckpointError;
 use lru_folder::folder::Folder;
 use lru_frames::stored::Stored;
-use lru_generations::generations::{Saved, save};
+use lru_generations::generations::{Saved, save, save_after};
+use lru_generations::known::Known;
 use lru_generations::loading::{Loaded, load};
 use lru_locks::lru::Lru;
 use lru_order_captures::locks::{LruSource, restore_shards};
@@ -48,6 +49,10 @@ pub fn save_lru<F: SyncedFolder, V: Clone + Stored, const N: usize>(
     ensures for_good { F.meaning.keeps folder.old → IfOk result (λ saved. (shards : Shards ℕ V) × (AreHandedOut (λ shard. MayCopy N shard V.is_clone) N shards
         × IsForGood word IsWord V.bytes_of V.is_value dir.now file_name.now F.meaning saved.generation shards folder.new)) }
 
+    // It is known to be whole from then on.
+    ensures told { F.meaning.keeps folder.old → IfOk result (λ saved. (saved.known.generation ≡ saved.generation)
+        × IsAsKnown dir.now file_name.now (F.meaning.files folder.new) (Some saved.known)) }
+
     // The one that is kept was the newest whole one, those above it are told, and what was below it is gone.
     ensures newest { F.meaning.keeps folder.old → IfOk result (λ saved. IsNewest dir.now file_name.now (F.meaning.files folder.old) saved.kept) }
     ensures passed { F.meaning.keeps folder.old → IfOk result (λ saved. TellsPassed F.meaning dir.now file_name.now (F.meaning.files folder.old) saved.kept saved.passed.items) }
@@ -62,6 +67,55 @@ pub fn save_lru<F: SyncedFolder, V: Clone + Stored, const N: usize>(
     ensures kept { F.meaning.keeps folder.old ↔ F.meaning.keeps folder.new }
 {
     save(alloc, folder, dir, file_name, &LruSource { rt, lru })
+}
+
+/// Saves as `save_lru` does, but need not read the frames of the checkpoint that is known, as `save_after` of `lru_generations`.
+pub fn save_lru_after<F: SyncedFolder, V: Clone + Stored, const N: usize>(
+    rt: &impl Wait,
+    alloc: Global,
+    folder: &mut F,
+    dir: &str,
+    file_name: &str,
+    lru: &Lru<(u64, V), N>,
+    known: Option<&Known>,
+) -> Result<Saved, CheckpointError>
+    requires few { N ≤ most_shards }
+    requires name { has_slash file_name.now ≡ false }
+
+    // What stood whole stands, until the new one stands whole; and nothing else comes to stand.
+    ensures saves { F.meaning.keeps folder.old → SavesAfter word IsWord V.bytes_of V.is_value
+        dir.now file_name.now (λ shard. MayCopy N shard V.is_clone) N (option_copied known.entry) F.meaning folder.old folder.new }
+
+    // After an Ok each loss leaves the new one, in a generation of which there was no file.
+    ensures next { F.meaning.keeps folder.old → IfOk result (λ saved. IsUnused dir.now file_name.now (F.meaning.files folder.old) saved.generation) }
+    ensures for_good { F.meaning.keeps folder.old → IfOk result (λ saved. (shards : Shards ℕ V) × (AreHandedOut (λ shard. MayCopy N shard V.is_clone) N shards
+        × IsForGood word IsWord V.bytes_of V.is_value dir.now file_name.now F.meaning saved.generation shards folder.new)) }
+
+    // It is known to be whole from then on.
+    ensures told { F.meaning.keeps folder.old → IfOk result (λ saved. (saved.known.generation ≡ saved.generation)
+        × IsAsKnown dir.now file_name.now (F.meaning.files folder.new) (Some saved.known)) }
+
+    // The one that is kept was the highest that was whole, or that is known and still had its manifest; those above it are told, and
+    // what was below it is gone.
+    ensures newest { F.meaning.keeps folder.old → IfOk result (λ saved. IsHighestTaken dir.now file_name.now (F.meaning.files folder.old) (option_copied known.entry) saved.kept) }
+
+    // Where what is known is whole still, all is as without it.
+    ensures as_known { F.meaning.keeps folder.old → IsAsKnown dir.now file_name.now (F.meaning.files folder.old) (option_copied known.entry)
+        → IfOk result (λ saved. IsNewest dir.now file_name.now (F.meaning.files folder.old) saved.kept)
+        × SavesNext word IsWord V.bytes_of V.is_value dir.now file_name.now (λ shard. MayCopy N shard V.is_clone) N F.meaning folder.old folder.new }
+
+    ensures passed { F.meaning.keeps folder.old → IfOk result (λ saved. TellsPassed F.meaning dir.now file_name.now (F.meaning.files folder.old) saved.kept saved.passed.items) }
+    ensures gone { F.meaning.keeps folder.old → IfOk result (λ saved. OnOk saved.removed ((part : PartName) (bytes : List ℕ) → IsPart part → IsOlder saved.kept part
+        → get (F.meaning.files folder.old) (part_path dir.now file_name.now part) ≡ Some bytes → get (F.meaning.files folder.new) (part_path dir.now file_name.now part) ≡ None)) }
+
+    // Where neither memory nor the device failed, nothing was done.
+    ensures error { F.meaning.keeps folder.old → IfErr result IsUnsaved }
+    ensures untouched { F.meaning.keeps folder.old → IfErr result (λ error. ¬ IsFault error → F.meaning.files folder.new ≡ F.meaning.files folder.old) }
+
+    ensures places { F.meaning.keeps folder.old → F.meaning.folders folder.new ≡ F.meaning.folders folder.old }
+    ensures kept { F.meaning.keeps folder.old ↔ F.meaning.keeps folder.new }
+{
+    save_after(alloc, folder, dir, file_name, &LruSource { rt, lru }, known)
 }
 
 /// Loads the newest checkpoint into an order behind locks: its rows are put last in the shards of their keys. Where there is no
@@ -85,6 +139,10 @@ pub fn load_lru<F: Folder, V: Stored, const N: usize>(
         dir.now file_name.now generation folder.old folder.new error)
         generations restored.generation restored.passed.items)) }
 
+    // What is known of it is whole.
+    ensures known { F.meaning.keeps folder.old → IfOk result (λ restored. IfSome restored.known (λ known. (restored.generation ≡ Some known.generation)
+        × IsAsKnown dir.now file_name.now (F.meaning.files folder.old) (Some known))) }
+
     // Where none was loaded, the folder was not listed, memory was refused or a call failed.
     ensures reason { F.meaning.keeps folder.old → IfErr result (IfUnloaded (λ error. IsUnlisted F.meaning dir.now folder.old folder.new error
         ⊎ IsFailed F.meaning folder.old folder.new error)) }
@@ -99,12 +157,14 @@ pub fn load_lru<F: Folder, V: Stored, const N: usize>(
     let Some(checkpoint) = newest else {
         return Ok(Restored {
             generation: None,
+            known: None,
             passed,
         });
     };
     restore_shards(rt, lru, checkpoint.shards)?;
     Ok(Restored {
         generation: Some(checkpoint.generation),
+        known: Some(checkpoint.known),
         passed,
     })
 }

@@ -3,6 +3,7 @@ ghost use Rattle.std.specs.Prelude.{◌≡◌};
 ghost use Rattle.lru_order_checkpoints.specs.declared.restored.RestoreError.TheVariants as why;
 
 use lru_checkpoints::errors::CheckpointError;
+use lru_generations::known::Known;
 use lru_generations::newest::Passed;
 use lru_shard::unit::Refused;
 
@@ -11,6 +12,8 @@ use lru_shard::unit::Refused;
 pub struct Restored {
     /// The number of the checkpoint that was loaded, where there is one.
     pub generation: Option<u64>,
+    /// That it was whole: a save that is handed it need not read it again.
+    pub known: Option<Known>,
     /// The generations above it that have a manifest and were passed over, the highest first.
     pub passed: Vec<Passed>,
 }

@@ -30,8 +30,8 @@ kept_as eq hash order index index' weights weights' values same_index same_weigh
 
 -- what is kept where there are no rows
 pub kept_none : {K S T : Type 0} (eq : K → K → Bool) (hash : S → K → ℕ) (order : Linked K) (index : Index S) (weights : List ℕ) (values : List (Option T)) →
-    order ≡ linked [] [] → IsNumbered order → IsEmpty index → 2 ≤ room_of index → 2 ≤ length weights → values ≡ None ∷ None ∷ [] → IsKept eq hash order index weights values
-kept_none {K = K} eq hash order index weights values none numbered empty room wide is =
+    order ≡ linked [] [] → IsNumbered order → IsEmpty index → 2 ≤ room_of index → weights ≡ 0 ∷ 0 ∷ [] → values ≡ None ∷ None ∷ [] → IsKept eq hash order index weights values
+kept_none {K = K} eq hash order index weights values none numbered empty room weights_are is =
     let live : order.live ≡ [] = ap (λ (l : Linked K). l.live) none in
     let freed : order.freed ≡ [] = ap (λ (l : Linked K). l.freed) none in
     let long = ap length is in
@@ -40,8 +40,8 @@ kept_none {K = K} eq hash order index weights values none numbered empty room wi
       held = λ p there. absurd (false≢true (sym (ap (λ ps. is_some (item_of ps p)) live) ∙ there));
       indexed = subst (λ ps. Indexes eq hash index (item_of ps)) (sym live) (of_none eq hash index empty);
       wide = omega (arith, long, ap length live, ap length freed);
-      weighed = omega (arith, long, wide);
-      indexable = omega (arith, long, room);
+      weighed = omega (arith, long, ap length weights_are);
+      indexable = omega (arith, ap length weights_are, room);
       few = omega (arith, long);
     }
 
@@ -72,7 +72,7 @@ not_there i q xs none there e = absurd (omega (arith, none, subst (λ z. 1 ≤ t
 module _ {K S T : Type 0} (eq : K → K → Bool) (hash : S → K → ℕ) (order : Linked K) (index : Index S) (weights : List ℕ) (values : List (Option T)) (kept : IsKept eq hash order index weights values) where
   -- columns that are longer at most
   pub kept_longer : (index' : Index S) (weights' : List ℕ) (values' : List (Option T)) → Lengthens weights values weights' values' →
-      Indexes eq hash index' (item_of order.live) → length values ≤ length values' → length values' ≤ length weights' → length values' ≤ room_of index' → length values' ≤ 4294967295 → IsKept eq hash order index' weights' values'
+      Indexes eq hash index' (item_of order.live) → length values ≤ length values' → length values' ≤ length weights' → length weights' ≤ room_of index' → length values' ≤ 4294967295 → IsKept eq hash order index' weights' values'
   kept_longer index' weights' values' same indexed longer weighed indexable few = record {
     numbered = kept.numbered;
     held = λ p live. subst IsSome (sym (same.values_same p)) (kept.held p live);
@@ -166,7 +166,7 @@ module _ {K S T : Type 0} (eq : K → K → Bool) (hash : S → K → ℕ) (orde
         indexed = kept.indexed;
         wide = kept.wide;
         weighed = omega (arith, kept.weighed, ap length is, length-set weights i w);
-        indexable = kept.indexable;
+        indexable = omega (arith, kept.indexable, ap length is, length-set weights i w);
         few = kept.few;
       }
 
@@ -189,7 +189,7 @@ module _ {K S T : Type 0} (eq : K → K → Bool) (hash : S → K → ℕ) (orde
         indexed = kept.indexed;
         wide = omega (arith, kept.wide, ap length is, length-set values i (Some d));
         weighed = omega (arith, kept.weighed, ap length is, length-set values i (Some d));
-        indexable = omega (arith, kept.indexable, ap length is, length-set values i (Some d));
+        indexable = kept.indexable;
         few = omega (arith, kept.few, ap length is, length-set values i (Some d));
       }
 
@@ -225,7 +225,7 @@ module _ {K S T : Type 0} (eq : K → K → Bool) (hash : S → K → ℕ) (orde
         indexed = same_keys eq hash index' (gone (item_of order.live) i) (item_of order'.live) out_items indexed;
         wide = omega (arith, kept.wide, ap length out_live, free_removed, without_length order.live i, there_once, ap length values_is, length-set values i None);
         weighed = omega (arith, kept.weighed, ap length values_is, length-set values i None);
-        indexable = omega (arith, kept.indexable, room, ap length values_is, length-set values i None);
+        indexable = omega (arith, kept.indexable, room);
         few = omega (arith, kept.few, ap length values_is, length-set values i None);
       }
 
@@ -310,7 +310,7 @@ module _ {K S T : Type 0} (eq : K → K → Bool) (hash : S → K → ℕ) (orde
         indexed = indexed_in (item_of order'.live) same;
         wide = omega (arith, kept.wide, room, one_more, ap length freed_is, length-drop 1 order.freed, ap length values_is, length-set values (next_slot order) (Some d));
         weighed = omega (arith, kept.weighed, ap length weights_is, length-set weights (next_slot order) w, ap length values_is, length-set values (next_slot order) (Some d));
-        indexable = omega (arith, kept.indexable, room_same, ap length values_is, length-set values (next_slot order) (Some d));
+        indexable = omega (arith, kept.indexable, room_same, ap length weights_is, length-set weights (next_slot order) w);
         few = omega (arith, kept.few, ap length values_is, length-set values (next_slot order) (Some d));
       }
 

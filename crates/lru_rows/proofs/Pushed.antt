@@ -108,7 +108,7 @@ module _ {K S T : Type 0} (eq : K → K → Bool) (hash : S → K → ℕ) (orde
     new_weighed = omega (arith, new_within, kept.weighed)
 
     pub new_indexable : p < room_of index
-    new_indexable = omega (arith, new_within, kept.indexable)
+    new_indexable = omega (arith, new_weighed, kept.indexable)
 
     pub new_fits : p ≤ 4294967295
     new_fits = omega (arith, new_within, kept.few)

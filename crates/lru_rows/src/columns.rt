@@ -1,5 +1,5 @@
 //! What stands beside the order of the keys: an index, and by place a column of weights and one of data.
-ghost use Rattle.std.specs.Prelude.{◌≡◌, ◌≢◌, ℕ, ◌+◌, ◌<◌, ◌≤◌, ◌∷◌, ◌++◌, [], length, set, get_or, Some, None, IsSome, IfOk, IfErr};
+ghost use Rattle.std.specs.Prelude.{◌≡◌, ℕ, ◌+◌, ◌-◌, ◌<◌, ◌≤◌, ◌∷◌, ◌++◌, [], length, set, get_or, replicate, Some, None, IsSome, IfOk, IfErr, OnOk, OnErr};
 ghost use Rattle.lru_index.specs.Hashing.{key_hash};
 ghost use Rattle.lru_index.specs.Index.{IsEmpty, IsFree, Inserts, room_of};
 ghost use Rattle.lru_list.specs.Linked.{most_items};
@@ -30,13 +30,14 @@ impl<T: Drop, S: BuildHasher + Drop> Columns<T, S> {
     ) -> Result<Self, AllocError>
         ensures empty { IfOk result (λ c. IsEmpty c.index) }
         ensures values { IfOk result (λ c. c.values.items ≡ None ∷ None ∷ []) }
-        ensures wide { IfOk result (λ c. 2 ≤ length c.weights.items) }
+        ensures weights { IfOk result (λ c. c.weights.items ≡ 0 ∷ 0 ∷ []) }
         ensures room { IfOk result (λ c. 2 ≤ room_of c.index) }
     {
         let index = PlaceIndex::with_capacity_and_hasher(alloc, places.max(2), hash_builder)?;
-        let mut weights = Vec::with_capacity(alloc, places as usize)?;
+        let places = index.room() as usize;
+        let mut weights = Vec::with_capacity(alloc, places)?;
         weights.resize(SENTINELS, 0)?;
-        let mut values = Vec::with_capacity(alloc, places as usize)?;
+        let mut values = Vec::with_capacity(alloc, places)?;
         values.push(None)?;
         values.push(None)?;
         Ok(Columns {
@@ -71,22 +72,19 @@ impl<T: Drop, S: BuildHasher> Columns<T, S> {
         self.lengthen(order, len as u32)
     }
 
-    // The columns grow by an eighth, so that little memory stands empty.
+    // The columns grow as the index does, by an eighth, so that little memory stands empty.
     fn lengthen<K: Hash>(&mut self, order: &Order<K>, len: u32) -> Result<(), AllocError>
         requires kept { IsKept K.eq (key_hash S.BuildHasher S.Hasher.Hasher K.hash_input) order.now.list self.old.index self.old.weights.items self.old.values.items }
         requires short { len < most_items }
         requires full { length self.old.values.items ≤ len + 2 }
-        requires wide { len + 2 ≤ length self.old.values.items }
         ensures kept { IsKept K.eq (key_hash S.BuildHasher S.Hasher.Hasher K.hash_input) order.now.list self.new.index self.new.weights.items self.new.values.items }
         ensures same { Lengthens self.old.weights.items self.old.values.items self.new.weights.items self.new.values.items }
         ensures room { IfOk result (λ _. len + 2 < length self.new.values.items) }
     {
-        let places = len + 3;
-        self.index.reserve(order, places)?;
-        if self.weights.len() < places as usize {
-            push_tight(&mut self.weights, 0)?;
-        }
-        push_tight(&mut self.values, None)
+        self.index.reserve(order, len + 3)?;
+        let places = self.index.room() as usize;
+        fill_weights(&mut self.weights, places)?;
+        fill_values(&mut self.values, places)
     }
 
     /// Puts a row into the room that was made for it, where its key has a place in the order.
@@ -151,12 +149,10 @@ impl<T, S: BuildHasher> Columns<T, S> {
         ensures weights { self.new.weights.items ≡ self.old.weights.items }
         ensures values { self.new.values.items ≡ self.old.values.items }
     {
-        let places = rows + 2;
-        self.index.reserve(order, places)?;
-        self.weights
-            .reserve_exact((places as usize).saturating_sub(self.weights.len()))?;
-        self.values
-            .reserve_exact((places as usize).saturating_sub(self.values.len()))
+        self.index.reserve(order, rows + 2)?;
+        let places = self.index.room() as usize;
+        self.weights.reserve_exact(places - self.weights.len())?;
+        self.values.reserve_exact(places - self.values.len())
     }
 }
 
@@ -195,17 +191,22 @@ impl<T, S> Columns<T, S> {
     }
 }
 
-// Pushes where a vector that is full grows by an eighth.
-fn push_tight<X: Drop>(column: &mut Vec<X>, item: X) -> Result<(), AllocError>
-    ensures done { IfOk result (λ _. column.new.items ≡ column.old.items ++ item ∷ []) }
-    ensures refused { IfErr result (λ _. column.new.items ≡ column.old.items) }
+// Puts weights behind a column, until it is so long. Where there is no memory for them, nothing has changed.
+fn fill_weights(column: &mut Vec<usize>, len: usize) -> Result<(), AllocError>
+    requires { length column.old.items ≤ len }
+    ensures made { OnOk result (column.new.items ≡ column.old.items ++ replicate (len - length column.old.items) 0) }
+    ensures refused { OnErr result (column.new.items ≡ column.old.items) }
 {
-    let len = column.len();
-    if len == column.capacity() {
-        column.reserve_exact(len / 8 + 1)?;
-    }
-    match column.push(item) {
-        Ok(()) => Ok(()),
-        Err(_) => Err(AllocError),
-    }
+    column.reserve_exact(len - column.len())?;
+    column.resize(len, 0)
+}
+
+// The same for data, of which there are none at the new places.
+fn fill_values<T: Drop>(column: &mut Vec<Option<T>>, len: usize) -> Result<(), AllocError>
+    requires { length column.old.items ≤ len }
+    ensures made { OnOk result (column.new.items ≡ column.old.items ++ replicate (len - length column.old.items) None) }
+    ensures refused { OnErr result (column.new.items ≡ column.old.items) }
+{
+    column.reserve_exact(len - column.len())?;
+    column.resize_with(len, || None)
 }

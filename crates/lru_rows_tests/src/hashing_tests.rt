@@ -1,7 +1,7 @@
 //! Families of keys that collide under one seed, found by the hasher's definition, under others.
 use lru_index::hashing::{SeededHasher, SeededHashes};
 use std::alloc::{AllocError, Global};
-use std::hash::{BuildHasher, Hash, Hasher};
+use std::hash::{BuildHasher, DefaultHasher, Hash, Hasher};
 use std::test::Fail;
 
 const KEYS: u64 = 10_000;
@@ -70,6 +70,43 @@ fn seeds_are_those_of_the_generator(rt: HostRuntime) -> Result<(), Fail> {
         (hasher.state, hasher.multiplier),
         (6_457_827_717_110_365_317, 3_203_168_211_198_807_973)
     );
+    Ok(())
+}
+
+// So many bytes, 0, 1, 2 and so on, and their hash by SipHash-1-3 under the key 0, as Rust's own `DefaultHasher` gives it.
+static SIP_HASHES: [(u8, u64); 9] = [
+    (0, 0xd1fb_a762_150c_532c),
+    (1, 0x68a9_1412_8e01_e473),
+    (7, 0x2f09_8ab0_c751_325a),
+    (8, 0xead4_11e6_7ebe_2eea),
+    (9, 0x7592_7f9d_9512_4362),
+    (15, 0xf30e_b725_bb91_c9ea),
+    (16, 0x8972_1884_33a5_c5b7),
+    (20, 0x639e_355a_e68c_0100),
+    (63, 0x385d_3e39_e5f3_7359),
+];
+
+// The first number of bytes, if there is one, whose hash is another, written at once or a byte at a time.
+fn other_sip_hash(alloc: Global) -> Result<Option<u8>, AllocError> {
+    for (count, wanted) in &SIP_HASHES {
+        let mut bytes = Vec::new(alloc);
+        let mut by_bytes = DefaultHasher::new();
+        for byte in 0..*count {
+            bytes.push(byte)?;
+            by_bytes.write(&[byte]);
+        }
+        let mut at_once = DefaultHasher::new();
+        at_once.write(&bytes);
+        if (at_once.finish(), by_bytes.finish()) != (*wanted, *wanted) {
+            return Ok(Some(*count));
+        }
+    }
+    Ok(None)
+}
+
+#[test]
+fn keyed_hashes_are_those_of_others(rt: HostRuntime) -> Result<(), Fail> {
+    assert_eq!(rt; other_sip_hash(rt.alloc())?, None);
     Ok(())
 }
 

@@ -4,6 +4,7 @@ ghost use Rattle.lru_shard.specs.Row.{weight_of};
 ghost use Rattle.lru_shard.specs.Shard.{IsShard};
 
 use lru_shard::unit::LruUnit;
+use std::hash::BuildHasher;
 
 /// What a sharded order that threads shared leaves.
 #[derive(Drop)]
@@ -26,7 +27,7 @@ pub struct Totals {
 impl Totals {
     /// The totals of one shard.
     #[inline(always)]
-    pub fn of<T>(unit: &LruUnit<T>) -> Totals
+    pub fn of<T, S: BuildHasher>(unit: &LruUnit<T, S>) -> Totals
         ensures weight { result.weight ≡ weight_of unit.now.rows }
         ensures len { result.len ≡ length unit.now.rows }
         ensures valid { IsShard unit.now }

@@ -8,6 +8,7 @@ use Rattle.lru_actors.specs.declared.effect.Reply.{Reply}
 use Rattle.lru_actors.specs.declared.effect.Reply.TheVariants as reply
 use Rattle.lru_letters.specs.declared.letter.Letter.{Letter}
 use Rattle.lru_sends.specs.declared.sends.Addressed.{Addressed}
+use Rattle.lru_sends.specs.declared.sends.Heard.{Heard}
 use Rattle.lru_sends.specs.declared.refusals.SendRefused.{SendRefused}
 use Rattle.lru_sends.specs.declared.refusals.SendRefused.TheVariants.{Memory, Closed}
 
@@ -30,6 +31,17 @@ module _ {K : Type 0} where
   answered_by (Some (reply.Weight w)) = Ok (Some (reply.Weight w))
   answered_by (Some (reply.Lru found)) = Ok (Some (reply.Lru found))
   answered_by (Some (reply.Rows pairs)) = Ok (Some (reply.Rows pairs))
+
+  abbrev pub heard : Reply K → ℕ → Heard K
+  heard r refused = record { reply = r; refused = refused }
+
+  -- the same, with how many messages were refused up to the question
+  abbrev pub heard_by : Option (Reply K × ℕ) → Result (Heard K) (SendRefused (Unit {0}))
+  heard_by None = Err (Closed tt)
+  heard_by (Some (reply.Memory, _)) = Err (Memory tt)
+  heard_by (Some (reply.Weight w, n)) = Ok (heard (reply.Weight w) n)
+  heard_by (Some (reply.Lru found, n)) = Ok (heard (reply.Lru found) n)
+  heard_by (Some (reply.Rows pairs, n)) = Ok (heard (reply.Rows pairs) n)
 
 module _ {K T : Type 0} where
   -- a mailbox refuses what is put by `push` for want of memory, or since it is closed

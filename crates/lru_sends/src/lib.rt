@@ -2,5 +2,6 @@
 #![tactic(auto)]
 
 pub mod cells;
+pub mod line;
 pub mod refusals;
 pub mod sends;

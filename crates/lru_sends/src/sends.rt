@@ -3,7 +3,7 @@ ghost use Rattle.std.specs.Prelude.{◌≡◌, ◌%◌, ◌<◌, Some, IsSome, o
 ghost use Rattle.lru_actors.specs.Keys.{hash_of};
 ghost use Rattle.lru_actors.specs.declared.message.LruMsg.TheVariants.{Admit, IncrementWeight, Promote, Remove, InsertTail};
 ghost use Rattle.lru_sends.specs.Refusals.{held_in, SameCause};
-ghost use Rattle.lru_sends.specs.Sends.{addressed, key_in, IsMailRefusal, refused_by, answered_by};
+ghost use Rattle.lru_sends.specs.Sends.{addressed, key_in, IsMailRefusal, refused_by, answered_by, heard_by};
 
 use crate::refusals::SendRefused;
 use lru_actors::effect::Reply;
@@ -22,6 +22,15 @@ pub struct Addressed<K: Drop> {
     pub shard: usize,
     /// The message.
     pub message: LruMsg<K>,
+}
+
+/// What a question was told.
+#[derive(Drop)]
+pub struct Heard<K: Drop> {
+    /// The reply.
+    pub reply: Reply<K>,
+    /// How many of the messages up to the question were refused, modulo 2^64.
+    pub refused: u64,
 }
 
 /// The shard of a hash among so many.
@@ -139,16 +148,6 @@ fn key_of<K: Drop>(message: LruMsg<K>) -> K
     }
 }
 
-/// The reply that a question was told, if it was.
-pub fn reply_in<K: Clone + Drop, B: Archive>(told: Option<Told<K, B>>) -> Option<Reply<K>>
-    ensures { result ≡ option_map (λ t. t.reply) told }
-{
-    match told {
-        Some(told) => Some(told.reply),
-        None => None,
-    }
-}
-
 /// What a question is answered, by what its cell was filled with: nothing where the message was left behind.
 pub fn answer_of<K: Drop>(reply: Option<Reply<K>>) -> Result<Option<Reply<K>>, SendRefused<()>>
     ensures { result ≡ answered_by reply }
@@ -157,5 +156,20 @@ pub fn answer_of<K: Drop>(reply: Option<Reply<K>>) -> Result<Option<Reply<K>>, S
         Some(Reply::Memory) => Err(SendRefused::Memory(())),
         Some(reply) => Ok(Some(reply)),
         None => Err(SendRefused::Closed(())),
+    }
+}
+
+/// The same, with how many messages were refused up to the question.
+pub fn heard_in<K: Clone + Drop, B: Archive>(
+    told: Option<Told<K, B>>,
+) -> Result<Heard<K>, SendRefused<()>>
+    ensures { result ≡ heard_by (option_map (λ t. (t.reply, t.refused)) told) }
+{
+    let Some(Told { reply, refused, .. }) = told else {
+        return Err(SendRefused::Closed(()));
+    };
+    match reply {
+        Reply::Memory => Err(SendRefused::Memory(())),
+        reply => Ok(Heard { reply, refused }),
     }
 }

@@ -1,22 +1,21 @@
 -- A row more in a shard, from what the code knows: what a refusal says, and what the put of the row leaves.
-use Rattle.std.proofs.Common.{◌≡◌, ℕ, ◌+◌, ◌-◌, ◌<◌, ◌≤◌, true, false, cond, List, [], ◌∷◌, ◌++◌, length, Some, None, Ok, Err, refl, sym, ap, ◌∙◌, arith, subst, inl, inr}
+use Rattle.std.proofs.Common.{◌≡◌, ℕ, ◌+◌, ◌-◌, ◌<◌, ◌≤◌, true, false, [], ◌∷◌, ◌++◌, length, Some, None, Ok, Err, sym, ap, ◌∙◌, arith, subst, inl, inr}
 use Rattle.std.specs.Prelude.{Option, Result, max, nat_eq}
 use Rattle.std.proofs.lemmas.Bool.{cases_Bool, leb-true, leb-false}
 use Rattle.std.proofs.lemmas.List.{map-append}
-use Rattle.lru_rows.specs.Rows.{Placed, Recency, recency, placed, row_of as placed_of, MakesVacancy}
+use Rattle.lru_rows.specs.Rows.{Recency, recency, placed, row_of as placed_of, MakesVacancy}
 use Rattle.lru_rows.specs.declared.rows.NoPlace.{NoPlace}
 use Rattle.lru_shard.specs.declared.unit.Cause.{Cause}
 use Rattle.lru_shard.specs.declared.unit.Cause.TheVariants.{Memory, Weight, Length}
 use Rattle.lru_shard.specs.declared.unit.Refused.{Refused}
-use Rattle.lru_shard.specs.declared.unit.RefusedUpdate.{RefusedUpdate}
 use Rattle.lru_shard.specs.Representation.{row_in, rows_in, IsKept}
-use Rattle.lru_shard.specs.Row.{Row, row, row_of, weight_of, times, with_first, with_last, with_weight}
-use Rattle.lru_shard.specs.Shard.{Shard, shard, IsShard, Size, size_of, and_row, most_rows, is_full, refusal, MayRefuse, Accepts, Declines, Refuses}
+use Rattle.lru_shard.specs.Row.{row, row_of, weight_of, times, with_first, with_last, with_weight}
+use Rattle.lru_shard.specs.Shard.{Shard, shard, IsShard, Size, size_of, and_row, most_rows, is_full, refusal, MayRefuse, Accepts, Refuses}
 use Rattle.lru_shard.specs.Unit.{tailed, RefusesNew}
 use Rattle.lru_shard.proofs.Edits.{first-new, with_weight-absent, size-first_new, size-last, distinct-last}
 use Rattle.lru_shard.proofs.Places.{unplaced, length-rows}
 use Rattle.lru_shard.proofs.Refusals.{refusal_none, refusal_weight, refusal_length, allowed_light, IsShard-first, IsShard-allowed}
-use Rattle.lru_shard.proofs.UnitCalls.{may_refuse, times_none, to_first, to_last, tailed_is, light_row, heavy_row}
+use Rattle.lru_shard.proofs.UnitCalls.{times_none, to_first, to_last, tailed_is, light_row, heavy_row}
 
 -- a row that weighs nothing is refused for the length alone
 module _ (cap : ℕ) (s : Size) (light : s.weight ≤ cap) where

@@ -1,6 +1,6 @@
 -- What edits at a place make of rows, each at its place.
-use Rattle.std.proofs.Common.{◌≡◌, ℕ, ◌+◌, ◌≤◌, true, false, cond, not, eqb, List, [], ◌∷◌, ◌++◌, length, map, Some, None, refl, sym, ap, ◌∙◌, arith, inl, inr, subst}
-use Rattle.std.specs.Prelude.{◌==◌, count_by, is_some, nat_eq, Option, take, get_or, ◌-◌}
+use Rattle.std.proofs.Common.{◌≡◌, ℕ, ◌+◌, ◌≤◌, true, false, cond, not, eqb, List, [], ◌∷◌, ◌++◌, length, map, Some, None, refl, sym, ap, ◌∙◌, arith, inl, inr}
+use Rattle.std.specs.Prelude.{◌==◌, count_by, nat_eq, Option, take, get_or, ◌-◌}
 use Rattle.std.specs.Option.{option_map, option_map_or}
 use Rattle.std.proofs.lemmas.Bool.{eqb-true, eq-eqb, cases_Bool, cond_both, cond-true, cond-false}
 use Rattle.std.proofs.lemmas.List.{map-append, take_more, take_all}
@@ -8,7 +8,7 @@ use Rattle.std.proofs.lemmas.Option.{slice_get_within, slice_get-get_or}
 use Rattle.std.proofs.lemmas.List.Sums.{sum_by-cons, sum_by-append}
 use Rattle.std.proofs.lemmas.List.Elements.{filter-append}
 use Rattle.lru_rows.specs.Rows.{Placed, placed, row_at, row_of as placed_of, without, promoted, with_weight, with_value, last_row as last_placed}
-use Rattle.lru_shard.specs.Row.{Row, row_of, last_row}
+use Rattle.lru_shard.specs.Row.{row_of}
 use Rattle.lru_shard.specs.Representation.{row_in, rows_in}
 
 none_of : {A B : Type 0} (f : A → B) (o : Option A) → option_map f o ≡ None → o ≡ None

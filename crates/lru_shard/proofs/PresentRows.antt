@@ -1,20 +1,19 @@
 -- A row that is there, from what the code reads at its place: what a refusal says, and what a write at its place leaves.
-use Rattle.std.proofs.Common.{◌≡◌, ℕ, ◌+◌, ◌-◌, ◌<◌, ◌≤◌, List, [], ◌∷◌, ◌++◌, length, Some, None, refl, sym, ap, ◌∙◌, arith, subst, inl, inr, true}
+use Rattle.std.proofs.Common.{◌≡◌, ℕ, ◌+◌, ◌-◌, ◌<◌, ◌≤◌, ◌∷◌, ◌++◌, length, Some, None, refl, sym, ap, ◌∙◌, arith, subst, inl, true}
 use Rattle.std.specs.Prelude.{Option, is_some, nat_eq}
 use Rattle.std.specs.Option.{option_map, option_map_or}
 use Rattle.std.specs.Borrow.{MutBor}
 use Rattle.std.proofs.lemmas.Bool.{false≢true}
 use Rattle.std.proofs.lemmas.List.{map-append, length-append}
-use Rattle.lru_rows.specs.declared.rows.Taken.{Taken}
-use Rattle.lru_rows.specs.Rows.{Placed, Recency, recency, placed, row_at, row_of as placed_of, IsAt as IsAtPlace, Finds, IsRecency, promoted, with_value as with_value_at, with_weight as with_weight_at, UpdatesAt, Updates as UpdatesThere, without as without_place, Removes}
+use Rattle.lru_rows.specs.Rows.{Placed, Recency, recency, placed, row_at, IsAt as IsAtPlace, Finds, IsRecency, promoted, with_value as with_value_at, with_weight as with_weight_at, UpdatesAt}
 use Rattle.lru_shard.specs.declared.unit.Refused.{Refused}
 use Rattle.lru_shard.specs.declared.unit.Cause.TheVariants.{Weight}
 use Rattle.lru_shard.specs.Representation.{row_in, rows_in, IsKept}
-use Rattle.lru_shard.specs.Row.{Row, row, row_of, pair_of, times, weight_of, with_first, with_weight, with_value, without}
+use Rattle.lru_shard.specs.Row.{Row, row, row_of, times, weight_of, with_first, with_weight, with_value, without}
 use Rattle.lru_shard.specs.Shard.{Shard, shard, IsShard, size_of, refusal, MayRefuse, Accepts, Declines, Refuses}
 use Rattle.lru_shard.specs.Unit.{weight_at, accessed, tailed, Updates}
-use Rattle.lru_shard.proofs.Edits.{IsAt, none_around, without-at, with_weight-at, with_value-at, weight-without, length-without, weight-first, length-first, weight-with_weight, weight-with_value, distinct-with_weight, distinct-with_value, distinct-without, accessed_at}
-use Rattle.lru_shard.proofs.Places.{Splits, Stands, stands, row_at-split, without-split, first, weighted, valued, rows-split, row-of}
+use Rattle.lru_shard.proofs.Edits.{IsAt, none_around, without-at, with_weight-at, with_value-at, weight-without, weight-first, length-first, weight-with_weight, weight-with_value, distinct-with_weight, distinct-with_value, accessed_at}
+use Rattle.lru_shard.proofs.Places.{Splits, Stands, stands, row_at-split, first, weighted, valued, rows-split, row-of}
 use Rattle.lru_shard.proofs.Pulls.{row_key}
 use Rattle.lru_shard.proofs.Refusals.{refusal_none, refusal_weight, IsShard-allowed, IsShard-first}
 use Rattle.lru_shard.proofs.UnitCalls.{tailed_same}

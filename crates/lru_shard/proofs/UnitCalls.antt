@@ -1,11 +1,11 @@
 -- What the calls of a unit may answer: on a key that is there, and on one that is not.
-use Rattle.std.proofs.Common.{◌≡◌, ℕ, ◌+◌, ◌-◌, ◌<◌, ◌≤◌, true, false, cond, eqb, List, [], ◌∷◌, ◌++◌, length, Some, None, Ok, Err, refl, sym, ap, ◌∙◌, arith, subst, inl, inr}
+use Rattle.std.proofs.Common.{◌≡◌, ℕ, ◌+◌, ◌<◌, ◌≤◌, true, false, cond, eqb, List, [], ◌∷◌, Some, None, Ok, Err, refl, sym, ap, ◌∙◌, subst, inl, inr}
 use Rattle.std.specs.Prelude.{Option, Result, is_some, max}
 use Rattle.std.proofs.lemmas.Bool.{cond-true, cond-false, cases_Bool, cond_both, leb-false}
 use Rattle.lru_shard.specs.declared.unit.Cause.{Cause}
 use Rattle.lru_shard.specs.declared.unit.Cause.TheVariants.{Memory, Weight, Length}
 use Rattle.lru_shard.specs.declared.unit.RefusedUpdate.{RefusedUpdate}
-use Rattle.lru_shard.specs.Row.{Row, row, row_of, times, with_first, with_last, with_weight, with_value}
+use Rattle.lru_shard.specs.Row.{Row, row, row_of, times, with_first, with_last, with_value}
 use Rattle.lru_shard.specs.Shard.{Shard, shard, Size, size_of, and_row, most_rows, is_full, refusal, MayRefuse, Accepts}
 use Rattle.lru_shard.specs.Unit.{tailed, weight_at, raised, started, AdmitsMade, IncrementsRow, IncrementsWeight, AdmitsGiven, RefusesNew, UpdatesRow, UpdatesOrAdmits}
 use Rattle.lru_shard.proofs.Refusals.{refusal_none, refusal_weight}

@@ -1,15 +1,15 @@
 -- What calls answer of a shard, by what they answer of its rows; and what leaves a row taken out.
-use Rattle.std.proofs.Common.{◌≡◌, ℕ, ◌+◌, ◌-◌, ◌<◌, ◌≤◌, cond, eqb, not, List, [], ◌∷◌, ◌++◌, length, map, Some, None, refl, sym, ap, ◌∙◌, arith, subst, inl, inr, true, false}
-use Rattle.std.specs.Prelude.{Option, Bool, is_some, nat_eq, slice_get, take, ◌||◌}
+use Rattle.std.proofs.Common.{◌≡◌, ℕ, ◌+◌, ◌-◌, ◌≤◌, eqb, not, List, [], ◌∷◌, ◌++◌, length, map, Some, None, refl, sym, ap, ◌∙◌, arith, subst, false}
+use Rattle.std.specs.Prelude.{Option, is_some, nat_eq, slice_get, take, ◌||◌}
 use Rattle.std.specs.Option.{option_map}
 use Rattle.std.specs.List.{list_any}
 use Rattle.std.proofs.lemmas.Bool.{cond_both, false≢true}
 use Rattle.std.proofs.lemmas.List.{map-append, take-map}
 use Rattle.std.proofs.lemmas.Option.{slice_get-map}
 use Rattle.lru_rows.specs.declared.rows.Taken.{Taken}
-use Rattle.lru_rows.specs.Rows.{Placed, Recency, row_at, row_of as placed_of, IsAt as IsAtPlace, Finds, IsRecency, last_row as last_placed, pair_of as placed_pair, Removes, PopsLast, without as without_place}
+use Rattle.lru_rows.specs.Rows.{Placed, Recency, row_at, row_of as placed_of, IsAt as IsAtPlace, Finds, IsRecency, last_row as last_placed, pair_of as placed_pair, Removes, PopsLast}
 use Rattle.lru_shard.specs.Representation.{row_in, rows_in, IsKept}
-use Rattle.lru_shard.specs.Row.{Row, row, row_of, pair_of, times, is_held, weight_of, without, last_row, without_last}
+use Rattle.lru_shard.specs.Row.{Row, row_of, pair_of, times, is_held, weight_of, without, last_row, without_last}
 use Rattle.lru_shard.specs.Shard.{Shard, shard, IsShard}
 use Rattle.lru_shard.specs.Unit.{accessed}
 use Rattle.lru_shard.proofs.Edits.{IsAt, none_around, last_row_push, without_last_push, without-at, weight-without, length-without, distinct-without, without-absent, accessed-absent}

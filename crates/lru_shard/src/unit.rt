@@ -4,6 +4,7 @@ ghost use Rattle.lru_rows.specs.Rows.{recency, placed, row_at as placed_at, row_
 ghost use Rattle.lru_shard.specs.Shard.{number_of, refusal, size_of, and_row};
 ghost use Rattle.lru_shard.specs.Unit.{raised, started};
 
+use lru_index::hashing::SeededHashes;
 use lru_list::linked_list::{LinkedListIter, MOST_ITEMS};
 use lru_rows::iter::RowsIter;
 use lru_rows::rows::Rows;
@@ -11,6 +12,7 @@ use std::alloc::{AllocError, Global};
 use std::error::Error;
 use std::fmt;
 use std::fmt::Display;
+use std::hash::BuildHasher;
 use std::iter::FusedIterator;
 use std::marker::Model;
 
@@ -128,7 +130,7 @@ fn started(delta: usize, max_weight: Option<usize>) -> usize
 
 // Puts a row first for which a place was made sure of.
 #[inline(always)]
-fn put_vacant<T: Drop>(rows: &mut Rows<u64, T>, key: u64, data: T, weight: usize)
+fn put_vacant<T: Drop, S: BuildHasher>(rows: &mut Rows<u64, T, S>, key: u64, data: T, weight: usize)
     requires absent { placed_of nat_eq rows.old.rows key ≡ None }
     requires vacant { 0 < rows.old.free }
     requires short { length rows.old.rows < most_placed }
@@ -144,14 +146,14 @@ fn put_vacant<T: Drop>(rows: &mut Rows<u64, T>, key: u64, data: T, weight: usize
 ///
 /// Only `with_capacity`, `reserve` and a call that makes a row for a missing key take memory.
 #[derive(Drop)]
-pub struct LruUnit<T> {
+pub struct LruUnit<T, S: BuildHasher = SeededHashes> {
     // what calls write comes first: behind a lock it lies beside the lock's own word
     used_weight: usize,
     cap: usize,
-    rows: Rows<u64, T>,
+    rows: Rows<u64, T, S>,
 }
 
-impl<T> Model for LruUnit<T> {
+impl<T, S: BuildHasher> Model for LruUnit<T, S> {
     ghost use Rattle.lru_shard.specs.Shard.{Shard, shard, shard_code};
 
     ghost Value = { Shard T };
@@ -166,6 +168,35 @@ impl<T> Model for LruUnit<T> {
 }
 
 impl<T> LruUnit<T> {
+    ghost use Rattle.std.specs.Prelude.{[], IfOk};
+    ghost use Rattle.lru_shard.specs.Shard.{shard};
+
+    /// An empty shard with room for `capacity` rows, whose weights may sum up to `cap`. The seed of the hashes stays the
+    /// same from run to run.
+    pub fn with_capacity(alloc: Global, capacity: usize, cap: usize) -> Result<Self, AllocError>
+    where
+        T: Drop,
+        ensures { IfOk result (λ unit. unit ≡ shard [] cap) }
+    {
+        LruUnit::with_capacity_and_hasher(alloc, capacity, cap, SeededHashes::fixed())
+    }
+
+    /// The same with a seed for the hashes: who picks the keys and does not know it can't pick keys that collide.
+    pub fn with_capacity_and_seed(
+        alloc: Global,
+        capacity: usize,
+        cap: usize,
+        seed: u64,
+    ) -> Result<Self, AllocError>
+    where
+        T: Drop,
+        ensures { IfOk result (λ unit. unit ≡ shard [] cap) }
+    {
+        LruUnit::with_capacity_and_hasher(alloc, capacity, cap, SeededHashes::with_seed(seed))
+    }
+}
+
+impl<T, S: BuildHasher> LruUnit<T, S> {
     ghost use Rattle.std.specs.Prelude.{[], IfOk, map, option_map, is_some};
     ghost use Rattle.std.specs.Option.{option_copied};
     ghost use Rattle.lru_shard.specs.Row.{weight_of, row_of, pair_of, is_held, without, last_row, without_last};
@@ -173,14 +204,20 @@ impl<T> LruUnit<T> {
     ghost use Rattle.lru_shard.specs.Unit.{accessed, needs_promote};
     ghost use Rattle.lru_shard.specs.Unit.{shown};
 
-    /// An empty shard with room for `capacity` rows, whose weights may sum up to `cap`.
-    pub fn with_capacity(alloc: Global, capacity: usize, cap: usize) -> Result<Self, AllocError>
+    /// An empty shard with room for `capacity` rows, whose weights may sum up to `cap`, over hashers of the caller's.
+    pub fn with_capacity_and_hasher(
+        alloc: Global,
+        capacity: usize,
+        cap: usize,
+        hash_builder: S,
+    ) -> Result<Self, AllocError>
     where
         T: Drop,
+        S: Drop,
         ensures { IfOk result (λ unit. unit ≡ shard [] cap) }
     {
         Ok(LruUnit {
-            rows: Rows::with_capacity(alloc, capacity)?,
+            rows: Rows::with_capacity_and_hasher(alloc, capacity, hash_builder)?,
             used_weight: 0,
             cap,
         })
@@ -284,7 +321,7 @@ impl<T> LruUnit<T> {
     }
 }
 
-impl<T: Drop> LruUnit<T> {
+impl<T: Drop, S: BuildHasher> LruUnit<T, S> {
     ghost use Rattle.std.specs.Prelude.{option_map};
     ghost use Rattle.lru_shard.specs.Row.{row_of, pair_of, without, last_row, without_last};
     ghost use Rattle.lru_shard.specs.Shard.{shard};

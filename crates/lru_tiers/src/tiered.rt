@@ -4,10 +4,12 @@ ghost use Rattle.lru_tiers.specs.Tiers.{Tiers, AreTiers};
 ghost use Rattle.lru_tiers.specs.TierRuns.{Event, Runs, IsAccounted};
 
 use lru_cores::lru_core::LruCore;
+use lru_index::hashing::SeededHashes;
 use lru_rules::eviction::drawn_shards;
 use lru_shard::unit::{Cause, Refused};
 use rand_core::Rng;
 use std::alloc::{AllocError, Global};
+use std::hash::BuildHasher;
 use std::marker::Model;
 
 /// One of the two tiers.
@@ -31,12 +33,12 @@ pub struct BalanceError<T> {
 /// New rows come into the hot core. What makes it over spills into the cold one, and what makes that over
 /// is evicted.
 #[derive(Drop)]
-pub struct TieredCore<T, const N: usize> {
-    hot: LruCore<T, N>,
-    cold: LruCore<T, N>,
+pub struct TieredCore<T, const N: usize, S: BuildHasher = SeededHashes> {
+    hot: LruCore<T, N, S>,
+    cold: LruCore<T, N, S>,
 }
 
-impl<T, const N: usize> Model for TieredCore<T, N> {
+impl<T, const N: usize, S: BuildHasher> Model for TieredCore<T, N, S> {
     ghost use Rattle.lru_tiers.specs.Tiers.{Tiers, tiers, tiers_code, AreTiers};
 
     ghost Value = { Tiers T };
@@ -49,12 +51,10 @@ impl<T, const N: usize> Model for TieredCore<T, N> {
 }
 
 impl<T, const N: usize> TieredCore<T, N> {
-    ghost use Rattle.lru_cores.specs.Core.{Core};
-    ghost use Rattle.lru_cores.specs.Eviction.{is_over};
-    ghost use Rattle.lru_tiers.specs.Tiers.{tiers, row_where, AreTiers, empty_tier};
+    ghost use Rattle.lru_tiers.specs.Tiers.{tiers, empty_tier};
 
     /// Two empty cores with these limits on their weights. Each shard has room for `capacity` rows, and may
-    /// weigh `usize::MAX / N`.
+    /// weigh `usize::MAX / N`. The seed of the hashes stays the same from run to run.
     pub fn with_limits(
         alloc: Global,
         hot_limit: usize,
@@ -66,14 +66,62 @@ impl<T, const N: usize> TieredCore<T, N> {
         requires { 0 < N }
         ensures { IfOk result (λ tiered. tiered ≡ tiers (empty_tier N hot_limit) (empty_tier N cold_limit)) }
     {
+        let hashes = SeededHashes::fixed();
+        TieredCore::with_limits_and_hasher(alloc, hot_limit, cold_limit, capacity, hashes)
+    }
+
+    /// The same with a seed for the hashes of both cores: who picks the keys and does not know it can't pick keys that
+    /// collide. A key's shard does not hang on it.
+    pub fn with_limits_and_seed(
+        alloc: Global,
+        hot_limit: usize,
+        cold_limit: usize,
+        capacity: usize,
+        seed: u64,
+    ) -> Result<Self, AllocError>
+    where
+        T: Drop,
+        requires { 0 < N }
+        ensures { IfOk result (λ tiered. tiered ≡ tiers (empty_tier N hot_limit) (empty_tier N cold_limit)) }
+    {
+        let hashes = SeededHashes::with_seed(seed);
+        TieredCore::with_limits_and_hasher(alloc, hot_limit, cold_limit, capacity, hashes)
+    }
+}
+
+impl<T, const N: usize, S: BuildHasher> TieredCore<T, N, S> {
+    ghost use Rattle.lru_cores.specs.Core.{Core};
+    ghost use Rattle.lru_cores.specs.Eviction.{is_over};
+    ghost use Rattle.lru_tiers.specs.Tiers.{tiers, row_where, AreTiers, empty_tier};
+
+    /// The same over hashers of the caller's, which all shards share.
+    pub fn with_limits_and_hasher(
+        alloc: Global,
+        hot_limit: usize,
+        cold_limit: usize,
+        capacity: usize,
+        hash_builder: S,
+    ) -> Result<Self, AllocError>
+    where
+        T: Drop,
+        S: Copy,
+        requires { 0 < N }
+        ensures { IfOk result (λ tiered. tiered ≡ tiers (empty_tier N hot_limit) (empty_tier N cold_limit)) }
+    {
         Ok(TieredCore {
-            hot: LruCore::with_capacity(alloc, hot_limit, capacity)?,
-            cold: LruCore::with_capacity(alloc, cold_limit, capacity)?,
+            hot: LruCore::with_capacity_and_hasher(alloc, hot_limit, capacity, None, hash_builder)?,
+            cold: LruCore::with_capacity_and_hasher(
+                alloc,
+                cold_limit,
+                capacity,
+                None,
+                hash_builder,
+            )?,
         })
     }
 
     /// The hot core.
-    pub fn hot(&self) -> &LruCore<T, N>
+    pub fn hot(&self) -> &LruCore<T, N, S>
         ensures value { result.now ≡ self.now.hot }
         ensures valid { AreTiers N self.now }
     {
@@ -81,7 +129,7 @@ impl<T, const N: usize> TieredCore<T, N> {
     }
 
     /// The cold core.
-    pub fn cold(&self) -> &LruCore<T, N>
+    pub fn cold(&self) -> &LruCore<T, N, S>
         ensures value { result.now ≡ self.now.cold }
         ensures valid { AreTiers N self.now }
     {
@@ -106,7 +154,7 @@ impl<T, const N: usize> TieredCore<T, N> {
     }
 }
 
-impl<T: Drop, const N: usize> TieredCore<T, N> {
+impl<T: Drop, const N: usize, S: BuildHasher> TieredCore<T, N, S> {
     ghost use Rattle.lru_cores.specs.Eviction.{is_over};
     ghost use Rattle.lru_tiers.specs.Tiers.{tiers, core_without, row_where};
     ghost use Rattle.lru_tiers.specs.TierCalls.{AdmitsHot, Touches, Spills, SpillsToLimit, StopsSpilling, Balances};

@@ -14,27 +14,33 @@ use Rattle.lru_shard.proofs.LastRows.{weight-without_last, length-without_last, 
 use Rattle.lru_actors.specs.declared.message.LruMsg.{LruMsg}
 use Rattle.lru_actors.specs.declared.message.LruMsg.TheVariants.{Admit, IncrementWeight, Promote, Remove, InsertTail, Evict, PeekLru, Snapshot, QueryWeight}
 use Rattle.lru_actors.specs.declared.effect.Effect.{Effect}
+use Rattle.lru_actors.specs.declared.effect.Reply.{Reply}
 use Rattle.lru_actors.specs.Messages.{State, consumed, evicted_of}
+use Rattle.lru_world.proofs.Counted.{answers_length}
 use Rattle.lru_actors.specs.Processing.{Processes, ProcessesAll}
 use Rattle.lru_schedules.specs.Turns.{sent, turn, turns_of, rows_after, leaving, evictions}
 use Rattle.lru_world.specs.declared.bench.Asked.{Asked}
 use Rattle.lru_letters.specs.declared.letter.Letter.{Letter}
-use Rattle.lru_world.specs.Batch.{is_evict, asked_by, replied, weight_taken, rows_taken, pairs_evicted}
+use Rattle.lru_world.specs.Batch.{answers, is_evict, asked_by, replied, weight_taken, rows_taken, pairs_evicted}
 
 module _ {K T : Type 0} where
-  -- who is left to be answered gets the own reply
-  pub replied_more : (asked : List (Asked K T)) (es : List (Effect K)) (e : Effect K) (d : Asked K T) → length es < length asked
-      → replied (set asked (length es) (record (get_or asked (length es) d) { reply = e.reply })) es ≡ replied asked (es ++ e ∷ [])
-  replied_more [] es e d h = absurd (omega arith)
-  replied_more (a ∷ later) [] e d h = refl
-  replied_more (a ∷ later) (x ∷ es) e d h = ap (λ l. record a { reply = x.reply } ∷ l) (replied_more later es e d (omega arith))
+  -- who is left to be answered gets the own answer
+  pub replied_more : (asked : List (Asked K T)) (xs : List (Option (Reply K × ℕ))) (x : Option (Reply K × ℕ)) (d : Asked K T) → length xs < length asked
+      → replied (set asked (length xs) (record (get_or asked (length xs) d) { reply = x })) xs ≡ replied asked (xs ++ x ∷ [])
+  replied_more [] xs x d h = absurd (omega arith)
+  replied_more (a ∷ later) [] x d h = refl
+  replied_more (a ∷ later) (y ∷ xs) x d h = ap (λ l. record a { reply = y } ∷ l) (replied_more later xs x d (omega arith))
 
-  -- the reply of the last effect that is left goes to its place
-  pub noted : (asked : List (Asked K T)) (left : List (Effect K)) (e : Effect K) (i : ℕ) (a : Asked K T) → i ≡ length left → a ≡ get_or asked i a → length left < length asked
-      → replied (set asked i (record a { reply = e.reply })) left ≡ replied asked (left ++ e ∷ [])
-  noted asked left e i a is_i is_a h =
-      let there : a ≡ get_or asked (length left) a = is_a ∙ ap (λ j. get_or asked j a) is_i in
-      (λ j. replied (set asked (is_i j) (record (there j) { reply = e.reply })) left) ∙ replied_more asked left e a h
+  -- the answer of the last effect that is left goes to its place
+  pub noted : (asked : List (Asked K T)) (total after : ℕ) (left : List (Effect K)) (e : Effect K) (i : ℕ) (a : Asked K T) → i ≡ length left → a ≡ get_or asked i a → length left < length asked
+      → answers total (left ++ e ∷ []) ≡ answers after left ++ option_map (λ r. (r, total)) e.reply ∷ []
+      → replied (set asked i (record a { reply = option_map (λ r. (r, total)) e.reply })) (answers after left) ≡ replied asked (answers total (left ++ e ∷ []))
+  noted asked total after left e i a is_i is_a h split =
+      let n = answers_length after left in
+      let at : i ≡ length (answers after left) = is_i ∙ sym n in
+      let there : a ≡ get_or asked (length (answers after left)) a = is_a ∙ ap (λ j. get_or asked j a) at in
+      (λ j. replied (set asked (at j) (record (there j) { reply = option_map (λ r. (r, total)) e.reply })) (answers after left))
+      ∙ replied_more asked (answers after left) (option_map (λ r. (r, total)) e.reply) a (omega (arith, n, h)) ∙ ap (replied asked) (sym split)
 
   -- one message more
   pub sum_step : (f : Asked K T × Effect K → ℕ) (asked : List (Asked K T)) (es : List (Effect K)) (i : ℕ) (a : Asked K T) (e : Effect K) (old new : ℕ) → i < length es → length es ≡ length asked

@@ -1,4 +1,5 @@
 mod Apart
+pub mod Counted
 pub mod Evicted
 mod Heaviest
 mod PastLimits

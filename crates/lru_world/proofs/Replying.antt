@@ -1,27 +1,32 @@
 -- Replies of a batch, and what its messages leave.
-use Rattle.std.proofs.Common.{◌≡◌, ℕ, zero, suc, ◌+◌, ◌%◌, ◌^◌, ◌<◌, List, [], ◌∷◌, ◌++◌, length, map, take, Some, None, refl, sym, ap, ◌∙◌, subst, arith}
+use Rattle.std.proofs.Common.{◌≡◌, ℕ, zero, suc, ◌+◌, ◌-◌, ◌%◌, ◌^◌, ◌<◌, List, [], ◌∷◌, ◌++◌, length, map, take, drop, Some, None, refl, sym, ap, ◌∙◌, subst, arith}
 use Rattle.std.specs.Prelude.{Bool, Option, slice_get, option_map, is_some, true, false}
 use Rattle.std.specs.Option.{ForSome}
 use Rattle.std.proofs.Math.Logic.{∥∥₁_map}
-use Rattle.std.proofs.Math.Nat.{mod-eq_of_lt}
-use Rattle.std.proofs.lemmas.List.{map-append, length-append}
+use Rattle.std.proofs.Math.Nat.{mod-eq_of_lt, add-mod_right}
+use Rattle.std.proofs.lemmas.List.{map-append, length-append, length-map}
 use Rattle.lru_hands.proofs.Hands.{some_same, none_some}
 use Rattle.lru_shard.specs.Row.{Row}
 use Rattle.lru_actors.specs.declared.message.LruMsg.{LruMsg}
 use Rattle.lru_actors.specs.declared.effect.Effect.{Effect}
+use Rattle.lru_actors.specs.declared.effect.Reply.{Reply}
 use Rattle.lru_actors.specs.Messages.{State}
 use Rattle.lru_letters.specs.declared.letter.Letter.{Letter}
 use Rattle.lru_logs.specs.declared.voice.Voice.{Voice}
 use Rattle.lru_logs.specs.declared.tie.Archive.{Ghosts}
 use Rattle.lru_logs.specs.Logs.{taken_by}
 use Rattle.lru_inbox.specs.Inboxes.{messages_of, taken_in}
-use Rattle.lru_inbox.specs.Replies.{IsLeft, IsReply}
-use Rattle.lru_inbox.proofs.Steps.{by_turns, reply_at}
+use Rattle.lru_inbox.specs.Replies.{IsLeft, IsReply, refused_in}
+use Rattle.lru_inbox.proofs.Steps.{by_turns, left_all, reply_at, turns_by}
+use Rattle.lru_inbox.proofs.Counting.{refusals_are, refusals_both, refusals_few, refused_both}
 use Rattle.lru_ledger.specs.declared.slip.Slip.{Slip}
 use Rattle.lru_logged_shard.specs.Accounts.{IsKept}
 use Rattle.lru_logged_shard.proofs.Accounts.{kept_more}
+use Rattle.lru_schedules.specs.Turns.{Turn, refusals}
+use Rattle.lru_schedules.specs.World.{PutsPair, IsSameQueue, itself, AtAnyTime}
 use Rattle.lru_world.specs.declared.bench.Asked.{Asked}
-use Rattle.lru_world.specs.Batch.{replied, AddsSlips, StepsFrom}
+use Rattle.lru_world.specs.Batch.{answers, fewer, replied, AddsSlips, StepsFrom}
+use Rattle.lru_world.proofs.Evicted.{as_many}
 use Rattle.lru_world.specs.Replying.{AreReplies, Gains, TookPast}
 
 -- lists
@@ -39,6 +44,28 @@ get_mapped f [] i y e = absurd (none_some y e)
 get_mapped f (x ∷ xs) zero y e = (x, refl, some_same (f x) y e)
 get_mapped f (x ∷ xs) (suc i) y e = get_mapped f xs i y e
 
+-- of which effect an answer is
+first_answer : {A : Type 0} (o : Option A) (m : ℕ) (r : A) (n : ℕ) → option_map {U = A × ℕ} (λ x. (x, m)) o ≡ Some (r, n) → (o ≡ Some r) × (n ≡ m)
+first_answer None m r n at = absurd (none_some (r, n) at)
+first_answer (Some q) m r n at = let s = some_same (q, m) (r, n) at in (ap (λ p. Some p.0) s, sym (ap (λ p. p.1) s))
+
+get_answer : {K : Type 0} (total : ℕ) (es : List (Effect K)) (i : ℕ) (r : Reply K) (n : ℕ) → slice_get (answers total es) i ≡ Some (Some (r, n))
+    → (e : Effect K) × (slice_get es i ≡ Some e) × (e.reply ≡ Some r) × (n ≡ fewer total (refused_in (drop (suc i) es)))
+get_answer total [] i r n at = absurd (none_some (Some (r, n)) at)
+get_answer {K} total (e ∷ es) zero r n at =
+    let m = fewer total (refused_in es) in
+    let f = first_answer e.reply m r n (some_same (option_map {U = Reply K × ℕ} (λ x. (x, m)) e.reply) (Some (r, n)) at) in
+    (e, refl, f.0, f.1)
+get_answer total (e ∷ es) (suc i) r n at = get_answer total es i r n at
+
+-- how many were refused up to one message, by how many were in all
+count_at : (upto rest total n : ℕ) → upto + rest < 2 ^ 64 → total ≡ (upto + rest) % 2 ^ 64 → n ≡ fewer total rest → upto ≡ n
+count_at upto rest total n fits is e =
+    let t : total ≡ upto + rest = is ∙ mod-eq_of_lt fits in
+    let z : upto + rest + (2 ^ 64 - rest) ≡ upto + 2 ^ 64 = omega (arith, fits) in
+    let f : upto < 2 ^ 64 = omega (arith, fits) in
+    sym (e ∙ ap (λ k. (k + (2 ^ 64 - rest)) % 2 ^ 64) t ∙ ap (λ k. k % 2 ^ 64) z ∙ add-mod_right upto (2 ^ 64) ∙ mod-eq_of_lt f)
+
 take_past : {A : Type 0} (xs ys : List A) (n : ℕ) → take (length xs + n) (xs ++ ys) ≡ xs ++ take n ys
 take_past [] ys n = ap (λ k. take k ys) (let z : 0 + n ≡ n = omega arith in z)
 take_past (x ∷ xs) ys n = ap (λ k. take k (x ∷ (xs ++ ys))) (let z : suc (length xs) + n ≡ suc (length xs + n) = omega arith in z) ∙ ap (λ l. x ∷ l) (take_past xs ys n)
@@ -54,28 +81,28 @@ module _ {K T : Type 0} (IsClone : K → K → Type 0) (cap : ℕ) where
   -- one reply is given, and the others are left
   pub replies_fewer : (taken : List (LruMsg K)) (before : ℕ) (left : List (Asked K T)) (a : Asked K T) (all : List (Asked K T)) → all ≡ left ++ a ∷ [] → AreReplies IsClone cap taken before (map (λ (x : Asked K T). x.reply) all)
       → AreReplies IsClone cap taken before (map (λ (x : Asked K T). x.reply) left)
-  replies_fewer taken before left a all is h = λ i r at.
-      h i r (ap (λ l. slice_get (map (λ (x : Asked K T). x.reply) l) i) is ∙ ap (λ l. slice_get l i) (map-append (λ (x : Asked K T). x.reply) left (a ∷ [])) ∙ get_left (map (λ (x : Asked K T). x.reply) left) (a.reply ∷ []) i (Some r) at)
+  replies_fewer taken before left a all is h = λ i r n at.
+      h i r n (ap (λ l. slice_get (map (λ (x : Asked K T). x.reply) l) i) is ∙ ap (λ l. slice_get l i) (map-append (λ (x : Asked K T). x.reply) left (a ∷ [])) ∙ get_left (map (λ (x : Asked K T). x.reply) left) (a.reply ∷ []) i (Some (r, n)) at)
 
   pub reply_last : (taken : List (LruMsg K)) (before count : ℕ) (left : List (Asked K T)) (a : Asked K T) (all : List (Asked K T)) → all ≡ left ++ a ∷ [] → count ≡ before + suc (length left)
-      → AreReplies IsClone cap taken before (map (λ (x : Asked K T). x.reply) all) → ForSome a.reply (λ r. ∥ IsReply IsClone cap (take count taken) r ∥₁)
-  reply_last taken before count left a all is counted h = λ r e.
-      subst (λ n. ∥ IsReply IsClone cap (take n taken) r ∥₁) (sym counted)
-      (h (length left) r (ap (λ l. slice_get (map (λ (x : Asked K T). x.reply) l) (length left)) is ∙ ap (λ l. slice_get l (length left)) (map-append (λ (x : Asked K T). x.reply) left (a ∷ []))
+      → AreReplies IsClone cap taken before (map (λ (x : Asked K T). x.reply) all) → ForSome a.reply (λ told. ∥ IsReply IsClone cap (take count taken) told.1 told.0 ∥₁)
+  reply_last taken before count left a all is counted h = λ told e.
+      subst (λ n. ∥ IsReply IsClone cap (take n taken) told.1 told.0 ∥₁) (sym counted)
+      (h (length left) told.0 told.1 (ap (λ l. slice_get (map (λ (x : Asked K T). x.reply) l) (length left)) is ∙ ap (λ l. slice_get l (length left)) (map-append (λ (x : Asked K T). x.reply) left (a ∷ []))
       ∙ (let n = length_map left in ap (slice_get (map (λ (x : Asked K T). x.reply) left ++ a.reply ∷ [])) (sym n)) ∙ get_last (map (λ (x : Asked K T). x.reply) left) a.reply ∙ ap (λ o. Some o) e))
     where
       length_map : (xs : List (Asked K T)) → length (map (λ (x : Asked K T). x.reply) xs) ≡ length xs
       length_map [] = refl
       length_map (x ∷ xs) = let ih = length_map xs in omega (arith, ih)
 
-  -- who asked has the replies of the effects
-  pub replied_replies : (asked : List (Asked K T)) (es : List (Effect K)) → length es ≡ length asked → map (λ (x : Asked K T). x.reply) (replied asked es) ≡ map (λ (e : Effect K). e.reply) es
+  -- who asked has the answers
+  pub replied_replies : (asked : List (Asked K T)) (es : List (Option (Reply K × ℕ))) → length es ≡ length asked → map (λ (x : Asked K T). x.reply) (replied asked es) ≡ es
   replied_replies [] [] h = refl
   replied_replies [] (e ∷ es) h = absurd (omega (arith, h))
   replied_replies (a ∷ later) [] h = absurd (omega (arith, h))
-  replied_replies (a ∷ later) (e ∷ es) h = ap (λ l. e.reply ∷ l) (replied_replies later es (omega (arith, h)))
+  replied_replies (a ∷ later) (e ∷ es) h = ap (λ l. e ∷ l) (replied_replies later es (omega (arith, h)))
 
-  pub replied_length : (asked : List (Asked K T)) (es : List (Effect K)) → length es ≡ length asked → length (replied asked es) ≡ length asked
+  pub replied_length : (asked : List (Asked K T)) (es : List (Option (Reply K × ℕ))) → length es ≡ length asked → length (replied asked es) ≡ length asked
   replied_length [] [] h = refl
   replied_length [] (e ∷ es) h = absurd (omega (arith, h))
   replied_length (a ∷ later) [] h = absurd (omega (arith, h))
@@ -106,12 +133,30 @@ module _ {K : Type 0} (IsClone : K → K → Type 0) (cap : ℕ) where
     batch_kept slips slips' kept adds = ∥∥₁_map kept (λ was.
         subst (λ xs. IsKept cap xs new look' slips') (ap (λ xs. xs ++ gained) first_is ∙ sym gains.2) (kept_more IsClone cap done gained es old look steps.0 new look' steps.1 slips slips' was steps.2 adds))
 
-    pub batch_replies : AreReplies IsClone cap taken before (map (λ (e : Effect K). e.reply) es)
-    batch_replies i r at =
-        let f = get_mapped (λ (f : Effect K). f.reply) es i (Some r) at in
+    pub batch_replies : length taken < 2 ^ 64 → AreReplies IsClone cap taken before (answers new.refused es)
+    batch_replies fits i r n at =
+        let f = get_answer new.refused es i r n at in
         let is : done ++ take (suc i) gained ≡ take (before + suc i) taken
         = ap (λ xs. xs ++ take (suc i) gained) first_is ∙ sym (take_past gains.0 gained (suc i)) ∙ ap (λ n. take (n + suc i) (gains.0 ++ gained)) gains.1 ∙ ap (take (before + suc i)) (sym gains.2) in
-        ∥∥₁_map left (λ was. subst (λ xs. IsReply IsClone cap xs r) is (reply_at IsClone cap done gained es old look steps.0 new look' steps.1 was.turns (by_turns cap done old look was) steps.2 i f.0 r f.1 f.2))
+        ∥∥₁_map left (λ was.
+        subst (λ k. IsReply IsClone cap (take (before + suc i) taken) k r) (counted was i n f.3)
+        (subst (λ xs. IsReply IsClone cap xs (refusals was.turns + refused_in (take (suc i) es)) r) is
+        (reply_at IsClone cap done gained es old look steps.0 new look' steps.1 was.turns (by_turns cap done old look was) steps.2 i f.0 r f.1 f.2)))
+      where
+        counted : (was : IsLeft cap done old look) (i n : ℕ) → n ≡ fewer new.refused (refused_in (drop (suc i) es)) → refusals was.turns + refused_in (take (suc i) es) ≡ n
+        counted was i n is =
+            let turns = was.turns ++ turns_by gained es in
+            let all = left_all IsClone cap done gained es old look steps.0 new look' steps.1 was.turns (by_turns cap done old look was) steps.2 in
+            let many = as_many IsClone PutsPair IsSameQueue itself AtAnyTime gained es old look steps.0 new look' steps.1 steps.2 in
+            let long = length-map turns (λ (t : Turn K). t.msg) in
+            let whole = ap length (all.messages_are ∙ ap (λ xs. xs ++ gained) first_is ∙ sym gains.2) in
+            let few = refusals_few turns in
+            let both = refusals_both was.turns (turns_by gained es) in
+            let own = refusals_are gained es many in
+            let parts = refused_both es (suc i) in
+            let sum : refusals turns ≡ refusals was.turns + refused_in (take (suc i) es) + refused_in (drop (suc i) es) = omega (arith, both, own, parts) in
+            count_at (refusals was.turns + refused_in (take (suc i) es)) (refused_in (drop (suc i) es)) new.refused n (omega (arith, sum, few, long, whole, fits))
+            (ap (λ (z : State K). z.refused) all.state ∙ ap (λ k. k % 2 ^ 64) sum) is
 
   pub batch_past : (o : Option (List (LruMsg K))) (before count most : ℕ) (gained : List (LruMsg K)) → ForSome o (λ taken. before ≡ length taken) → count ≡ length gained → most < 2 ^ 64
       → ForSome (option_map (λ t. t ++ gained) o) (λ taken. most ≡ length taken) → ForSome (option_map (λ t. t ++ gained) o) (λ taken. TookPast before count taken)

@@ -1,12 +1,14 @@
 -- A batch of an actor: what is kept of its letters, who is answered what, and what it changed.
-use Rattle.std.specs.Prelude.{◌≡◌, ℕ, ◌-◌, ◌%◌, ◌^◌, Bool, true, false, List, [], ◌∷◌, ◌++◌, length, map, sum_by, max, Option, None, Some, if◌then◌else◌}
+use Rattle.std.specs.Prelude.{◌≡◌, ℕ, ◌+◌, ◌-◌, ◌%◌, ◌^◌, Bool, true, false, List, [], ◌∷◌, ◌++◌, length, map, sum_by, max, Option, None, Some, option_map, if◌then◌else◌}
 use Rattle.lru_shard.specs.Row.{Row, weight_of}
 use Rattle.lru_actors.specs.declared.message.LruMsg.{LruMsg}
 use Rattle.lru_actors.specs.declared.message.LruMsg.TheVariants.{Evict, Promote, PeekLru, Snapshot, QueryWeight}
 use Rattle.lru_actors.specs.declared.effect.Effect.{Effect}
+use Rattle.lru_actors.specs.declared.effect.Reply.{Reply}
 use Rattle.lru_actors.specs.Messages.{State}
 use Rattle.lru_actors.specs.Processing.{ProcessesAll}
 use Rattle.lru_dispatch.specs.Queue.{Queue}
+use Rattle.lru_inbox.specs.Replies.{refused_in}
 use Rattle.lru_ledger.specs.declared.slip.Slip.{Slip}
 use Rattle.lru_letters.specs.declared.letter.Letter.{Letter}
 use Rattle.lru_logged_shard.specs.Accounts.{row_of_slip, rows_evicted}
@@ -14,6 +16,10 @@ use Rattle.lru_schedules.specs.Turns.{sent, turns_of, evictions}
 use Rattle.lru_schedules.specs.World.{PutsPair, IsSameQueue, itself, AtAnyTime}
 use Rattle.lru_world.specs.declared.bench.Asked.{Asked}
 use Rattle.lru_world.specs.declared.world.Change.{Change}
+
+-- so many fewer, modulo 2 ^ 64
+abbrev pub fewer : ℕ → ℕ → ℕ
+fewer total n = (total + (2 ^ 64 - n)) % 2 ^ 64
 
 -- the weight that a hash was set to; 0 where none was set
 abbrev pub weight_told : Option (ℕ × ℕ) → ℕ
@@ -50,6 +56,12 @@ module _ {K : Type 0} where
   heaviest_put [] = 0
   heaviest_put (e ∷ es) = max (weight_put e) (heaviest_put es)
 
+  -- what each message of a batch is answered: its effect's reply, with how many messages were refused up to it, where so many were
+  -- up to the last
+  abbrev pub answers : ℕ → List (Effect K) → List (Option (Reply K × ℕ))
+  answers total [] = []
+  answers total (e ∷ es) = option_map (λ r. (r, fewer total (refused_in es))) e.reply ∷ answers total es
+
   -- how a batch changed a shard, and what it evicted
   pub record IsChange (old : State K) (msgs : List (LruMsg K)) (effects : List (Effect K)) (new : State K) (c : Change) : Type 0 where
     pub weight_before : c.weight_before ≡ weight_of old.shard.rows
@@ -82,11 +94,11 @@ module _ {K T : Type 0} where
   abbrev pub asked_by : Letter K T → Asked K T
   asked_by l = record { evicts = is_evict l.message; cell = l.cell; reply = None }
 
-  -- those who asked, each with the reply of the effect of its own message
-  abbrev pub replied : List (Asked K T) → List (Effect K) → List (Asked K T)
+  -- those who asked, each with the own answer
+  abbrev pub replied : List (Asked K T) → List (Option (Reply K × ℕ)) → List (Asked K T)
   replied asked [] = asked
-  replied [] (e ∷ es) = []
-  replied (a ∷ later) (e ∷ es) = record a { reply = e.reply } ∷ replied later es
+  replied [] (x ∷ xs) = []
+  replied (a ∷ later) (x ∷ xs) = record a { reply = x } ∷ replied later xs
 
   -- the weight of the row that a message's eviction took, and how many rows it took
   abbrev pub weight_taken : Asked K T × Effect K → ℕ

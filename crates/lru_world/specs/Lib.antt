@@ -2,3 +2,4 @@ pub mod Batch
 pub mod Replying
 pub mod Places
 pub mod Outlets
+pub mod Resting

@@ -8,10 +8,11 @@ use Rattle.lru_logs.specs.declared.voice.Voice.{Voice}
 use Rattle.lru_logs.specs.Logs.{hand, blank_fronts}
 use Rattle.lru_inbox.specs.Replies.{IsReply}
 
--- each reply tells of the rows after its own message, where the first of these messages comes after so many that were taken before
-abbrev pub AreReplies : {K : Type 0} → (K → K → Type 0) → ℕ → List (LruMsg K) → ℕ → List (Option (Reply K)) → Type 0
+-- each reply tells of the rows after its own message, with how many messages were refused up to that, where the first of these
+-- messages comes after so many that were taken before
+abbrev pub AreReplies : {K : Type 0} → (K → K → Type 0) → ℕ → List (LruMsg K) → ℕ → List (Option (Reply K × ℕ)) → Type 0
 AreReplies {K} IsClone cap taken before replies =
-    (i : ℕ) (r : Reply K) → slice_get replies i ≡ Some (Some r) → ∥ IsReply IsClone cap (take (before + suc i) taken) r ∥₁
+    (i : ℕ) (r : Reply K) (refused : ℕ) → slice_get replies i ≡ Some (Some (r, refused)) → ∥ IsReply IsClone cap (take (before + suc i) taken) refused r ∥₁
 
 -- nothing was taken, as far as it is known
 abbrev pub HasNothing : {A : Type 0} → Option (List A) → Type 0

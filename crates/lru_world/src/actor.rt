@@ -5,7 +5,7 @@ ghost use Rattle.std.specs.Sync.Mutex.{mutex_guard_value};
 ghost use Rattle.lru_rules.specs.Limits.{cap_of};
 ghost use Rattle.lru_inbox.specs.Inboxes.{taken_in};
 ghost use Rattle.lru_inbox.specs.Replies.{IsReply};
-ghost use Rattle.lru_world.specs.Batch.{is_evict};
+ghost use Rattle.lru_world.specs.Batch.{answers, is_evict};
 ghost use Rattle.lru_world.specs.Places.{is_logged};
 ghost use Rattle.lru_world.specs.Replying.{AreReplies, Gains, HasNothing, TookPast};
 
@@ -112,13 +112,14 @@ impl<K: Clone + Drop, B: Registry + Archive> Actor<K, B> {
         let _taken = self.taker.taken();
         pass(gate, shard, count);
         self.bench.take_in(rt, &mut self.letters);
-        self.process(rt, world, place, before);
+        let refused = self.process(rt, world, place, before);
         world.evictions_done(evictions_in(&self.bench.asked));
         let looks = self.bench.effects.iter().any(|effect| effect.look);
         reply_where_asked(
             rt,
             &mut self.taker,
             before,
+            refused,
             &mut self.bench.effects,
             &mut self.bench.asked,
         );
@@ -129,14 +130,15 @@ impl<K: Clone + Drop, B: Registry + Archive> Actor<K, B> {
         true
     }
 
-    // Processes the batch, with its own rows or with those of its shard's place.
+    // Processes the batch, with its own rows or with those of its shard's place, and answers how many messages the shard refused so
+    // far, modulo 2^64.
     fn process<R: Wait>(
         &mut self,
         rt: &R,
         world: &World<K, B>,
         place: &ShardPlace<K, B>,
         before: u64,
-    )
+    ) -> u64
         requires shard { self.old.taker.shard < vec_len world.now.shards }
         requires kind { is_logged place.now ≡ is_some self.old.taker.voice }
         requires gains { ForSome (taken_in self.old.taker.voice) (Gains before self.old.bench.batch.items) }
@@ -146,7 +148,7 @@ impl<K: Clone + Drop, B: Registry + Archive> Actor<K, B> {
         requires asked { map (λ a. a.evicts) self.old.bench.asked.items ≡ map is_evict self.old.bench.batch.items }
         ensures effects { vec_len self.new.bench.effects ≡ vec_len self.old.bench.asked }
         ensures asked { self.new.bench.asked ≡ self.old.bench.asked }
-        ensures replies { ForSome (taken_in self.old.taker.voice) (λ taken. AreReplies K.is_clone (cap_of B.shards) taken before (map (λ e. e.reply) self.new.bench.effects.items)) }
+        ensures replies { ForSome (taken_in self.old.taker.voice) (λ taken. AreReplies K.is_clone (cap_of B.shards) taken before (answers result self.new.bench.effects.items)) }
         ensures taker { (self.new.taker.shard ≡ self.old.taker.shard) × (self.new.taker.count ≡ self.old.taker.count) × (taken_in self.new.taker.voice ≡ taken_in self.old.taker.voice) }
     {
         match &place.weights {
@@ -154,12 +156,14 @@ impl<K: Clone + Drop, B: Registry + Archive> Actor<K, B> {
                 let shard = self.taker.shard;
                 self.bench
                     .process(rt, &mut self.state, map, world, shard, &mut self.seat);
+                self.state.refused()
             }
             Weights::WithRows(rows) => {
                 let ledger = world.outlet.is_ledger();
                 let mut rows = rows_after(rt, rows, self.taker.shard, before, ledger);
                 self.bench
                     .process_logged(rt, &mut *rows, &mut self.taker, world);
+                rows.state.refused()
             }
         }
     }
@@ -196,21 +200,22 @@ fn pass<G: Gate>(gate: &Option<Arc<G, Global>>, shard: usize, count: usize) {
 }
 
 // Gives those who asked the replies of their messages' effects, the first of which comes after so many messages that were taken
-// before. Most batches ask for nothing.
+// before. So many were refused up to the last, modulo 2^64. Most batches ask for nothing.
 fn reply_where_asked<K: Clone + Drop, B: Archive, R: Wait>(
     rt: &R,
     taker: &mut Taker<K, B>,
     before: u64,
+    refused: u64,
     effects: &mut Vec<Effect<K>>,
     asked: &mut Vec<Asked<K, Told<K, B>>>,
 )
     requires each { vec_len effects.old ≡ vec_len asked.old }
     requires taken { ForSome (taken_in taker.old.voice) (λ taken. TookPast before (vec_len asked.old) taken) }
-    requires replies { ForSome (taken_in taker.old.voice) (λ taken. AreReplies K.is_clone (cap_of B.shards) taken before (map (λ e. e.reply) effects.old.items)) }
+    requires replies { ForSome (taken_in taker.old.voice) (λ taken. AreReplies K.is_clone (cap_of B.shards) taken before (answers refused effects.old.items)) }
     ensures taker { (taker.new.shard ≡ taker.old.shard) × (taken_in taker.new.voice ≡ taken_in taker.old.voice) }
 {
     if asked.iter().any(|asked| asked.cell.is_some()) {
-        note_replies(effects, asked);
+        note_replies(effects, asked, refused);
         reply_all(rt, taker, before, asked);
     }
 }
@@ -240,12 +245,12 @@ fn answer<K: Clone + Drop, B: Archive, R: Wait>(
     asked: Asked<K, Told<K, B>>,
 )
     requires count { ForSome (taken_in taker.old.voice) (λ taken. count ≤ length taken) }
-    requires tells { ForSome (taken_in taker.old.voice) (λ taken. ForSome asked.reply (λ reply. ∥ IsReply K.is_clone (cap_of B.shards) (take count taken) reply ∥₁)) }
+    requires tells { ForSome (taken_in taker.old.voice) (λ taken. ForSome asked.reply (λ told. ∥ IsReply K.is_clone (cap_of B.shards) (take count taken) told.1 told.0 ∥₁)) }
     ensures taker { (taker.new.shard ≡ taker.old.shard) × (taken_in taker.new.voice ≡ taken_in taker.old.voice) }
 {
     let Asked { cell, reply, .. } = asked;
     match (cell, reply) {
-        (Some(cell), Some(reply)) => cell.give(rt, taker.tell(count, reply)),
+        (Some(cell), Some((reply, refused))) => cell.give(rt, taker.tell(count, refused, reply)),
         (Some(cell), None) => cell.leave(rt),
         (None, _) => {}
     }

@@ -1,6 +1,6 @@
 //! Whether one more eviction may be asked for. Nobody knows what a row weighs that is still to be evicted, so each is counted
 //! as the heaviest there is: then none is asked for that the limits would not want.
-ghost use Rattle.std.specs.Prelude.{◌≡◌, ℕ, ◌-◌, ◌*◌, ◌≤◌, List, All, length, sum, IsTrue};
+ghost use Rattle.std.specs.Prelude.{◌≡◌, ℕ, ◌+◌, ◌-◌, ◌*◌, ◌%◌, ◌^◌, ◌≤◌, List, All, length, sum, IsTrue, Some, None, if◌then◌else◌};
 ghost use Rattle.lru_rules.specs.Limits.{is_past};
 
 use crate::world::Limits;
@@ -30,4 +30,15 @@ pub fn may_ask(limits: &Limits, held: &Held, pending: usize) -> bool
             .saturating_sub(pending.saturating_mul(held.heaviest)),
         held.len.saturating_sub(pending),
     )
+}
+
+/// How many are asked for with one more, modulo 2^64, where one more may be asked for beside so many that are under way.
+pub fn next_asked(limits: &Limits, held: &Held, asked: usize, pending: usize) -> Option<usize>
+    ensures { result ≡ (if is_past limits.now.weight_limit limits.now.len_watermark (held.now.weight - pending * held.now.heaviest) (held.now.len - pending) then Some ((asked + 1) % 2 ^ 64) else None) }
+{
+    if may_ask(limits, held, pending) {
+        Some(asked.wrapping_add(1))
+    } else {
+        None
+    }
 }

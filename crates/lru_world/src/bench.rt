@@ -1,5 +1,5 @@
 //! The batch of an actor that is under way.
-ghost use Rattle.std.specs.Prelude.{◌≡◌, ℕ, Option, ◌%◌, ◌^◌, ◌<◌, ◌≤◌, [], All, map, length, count_by, sum_by, vec_len, vec_capacity, nat_eq, true, false, Some, IsSome, is_some, IsTrue};
+ghost use Rattle.std.specs.Prelude.{◌≡◌, ℕ, Option, ◌%◌, ◌^◌, ◌<◌, ◌≤◌, [], All, map, length, count_by, sum_by, vec_len, vec_capacity, nat_eq, true, false, Some, IsSome, is_some, IsTrue, option_map, if◌then◌else◌};
 ghost use Rattle.std.specs.List.{zip};
 ghost use Rattle.std.specs.HashMap as hash;
 ghost use Rattle.lru_actors.specs.Processing.{ProcessesAll};
@@ -9,7 +9,7 @@ ghost use Rattle.std.specs.Option.{ForSome};
 ghost use Rattle.lru_world.specs.Replying.{AreReplies, Gains};
 ghost use Rattle.lru_logged_shard.specs.Seats.{slips_at};
 ghost use Rattle.lru_world.specs.Outlets.{is_ledger};
-ghost use Rattle.lru_world.specs.Batch.{AddsSlips, StepsAll, StepsFrom, is_evict, evicts_none, stays_inside, asked_by, replied, weight_taken, rows_taken, weight_put, heaviest_put, IsChange};
+ghost use Rattle.lru_world.specs.Batch.{AddsSlips, answers, StepsAll, StepsFrom, fewer, is_evict, evicts_none, stays_inside, asked_by, replied, weight_taken, rows_taken, weight_put, heaviest_put, IsChange};
 
 use crate::outlet::Outlet;
 use crate::world::{Change, World};
@@ -39,8 +39,8 @@ pub(crate) const MOST: usize = 16;
 pub(crate) struct Asked<K: Drop, T: Drop> {
     pub(crate) evicts: bool,
     pub(crate) cell: Option<Arc<ReplyCell<T>, Global>>,
-    // what it is answered, once it was processed
-    pub(crate) reply: Option<Reply<K>>,
+    // what it is answered, once it was processed, and how many messages were refused up to it, modulo 2^64
+    pub(crate) reply: Option<(Reply<K>, u64)>,
 }
 
 /// The batch of messages that is under way, with what each one did.
@@ -92,6 +92,8 @@ impl<K: Clone + Drop, T: Drop> Bench<K, T> {
         requires room { 16 ≤ vec_capacity self.old.effects }
         requires asked { map (λ a. a.evicts) self.old.asked.items ≡ map is_evict self.old.batch.items }
         ensures steps { StepsAll K.is_clone state.old self.old.batch.items self.new.effects.items state.new }
+        ensures slips { is_ledger world.now.outlet ≡ true → AddsSlips state.old.shard.rows self.old.batch.items self.new.effects.items (slips_at seat.old) (slips_at seat.new) }
+        ensures seat { is_ledger world.now.outlet ≡ false → seat.new ≡ seat.old }
         ensures effects { vec_len self.new.effects ≡ vec_len self.old.asked }
         ensures asked { self.new.asked ≡ self.old.asked }
     {
@@ -121,12 +123,14 @@ impl<K: Clone + Drop, T: Drop> Bench<K, T> {
         requires none { self.old.effects.items ≡ [] }
         requires room { 16 ≤ vec_capacity self.old.effects }
         requires asked { map (λ a. a.evicts) self.old.asked.items ≡ map is_evict self.old.batch.items }
-        ensures replies { ForSome (taken_in taker.old.voice) (λ taken. AreReplies K.is_clone (cap_of B.shards) taken rows.old.count (map (λ e. e.reply) self.new.effects.items)) }
+        ensures replies { ForSome (taken_in taker.old.voice) (λ taken. AreReplies K.is_clone (cap_of B.shards) taken rows.old.count (answers rows.new.state.refused self.new.effects.items)) }
         ensures taker { (taker.new.shard ≡ taker.old.shard) × (taker.new.count ≡ taker.old.count) × (taken_in taker.new.voice ≡ taken_in taker.old.voice) }
         ensures effects { vec_len self.new.effects ≡ vec_len self.old.asked }
         ensures asked { self.new.asked ≡ self.old.asked }
     {
         let before = rows.count;
+        // Read for the proof alone, which learns from it that there are fewer than 2^64 messages.
+        let _taken = taker.taken();
         rows.meet(taker, before);
         let shard = taker.shard;
         self.process_with(
@@ -421,17 +425,42 @@ fn weight_put<K: Drop>(effect: &Effect<K>) -> usize
     }
 }
 
-// Notes for each who asked what the effect of its message answers, and empties the effects.
+// Notes for each who asked what the effect of its message answers, with how many messages were refused up to it, and empties the
+// effects. So many were refused up to the last one, modulo 2^64.
 pub(crate) fn note_replies<K: Drop, T: Drop>(
     effects: &mut Vec<Effect<K>>,
     asked: &mut Vec<Asked<K, T>>,
+    refused: u64,
 )
     requires { vec_len effects.old ≤ vec_len asked.old }
-    ensures { asked.new.items ≡ replied asked.old.items effects.old.items }
+    ensures { asked.new.items ≡ replied asked.old.items (answers refused effects.old.items) }
 {
+    let mut refused = refused;
     while let Some(effect) = effects.pop() {
         let asked = &mut asked[effects.len()];
-        asked.reply = effect.reply;
+        asked.reply = counted(effect.reply, refused);
+        refused = refused_before(refused, effect.refused);
+    }
+}
+
+// A reply with how many messages were refused.
+fn counted<K: Drop>(reply: Option<Reply<K>>, refused: u64) -> Option<(Reply<K>, u64)>
+    ensures { result ≡ option_map (λ r. (r, refused)) reply }
+{
+    match reply {
+        Some(reply) => Some((reply, refused)),
+        None => None,
+    }
+}
+
+// How many messages were refused before one, where so many were up to it, modulo 2^64.
+fn refused_before(refused: u64, was_refused: bool) -> u64
+    ensures { result ≡ (if was_refused then fewer refused 1 else refused) }
+{
+    if was_refused {
+        refused.wrapping_sub(1)
+    } else {
+        refused
     }
 }
 

@@ -1,10 +1,11 @@
 //! Where evicted pairs wait for those who take them.
 ghost use Rattle.std.specs.Prelude.{◌≡◌};
-ghost use Rattle.lru_world.specs.Outlets.{is_ledger};
+ghost use Rattle.lru_world.specs.Outlets.{is_ledger, taken_by_pair, taken_by_slip, pair_in};
 
+use lru_ledger::Slip;
 use lru_shared_ledger::{LedgerBox, Registry, TakeSeat};
 use lru_shared_mailbox::Mailbox;
-use std::alloc::Global;
+use std::alloc::{AllocError, Global};
 use std::marker::Brand;
 use std::sync::{Arc, Wait};
 
@@ -28,23 +29,49 @@ pub enum Taken<K> {
     NoMemory,
 }
 
+impl<K: Drop> Taken<K> {
+    /// The pair that was taken, if one was.
+    pub fn into_pair(self) -> Option<(K, usize)>
+        ensures { result ≡ pair_in self }
+    {
+        match self {
+            Taken::Pair(key, weight) => Some((key, weight)),
+            _ => None,
+        }
+    }
+}
+
+// What a taker of a mailbox is answered.
+fn taken_of_pair<K>(pair: Option<(K, usize)>) -> Taken<K>
+    ensures { result ≡ taken_by_pair pair }
+{
+    match pair {
+        Some((key, weight)) => Taken::Pair(key, weight),
+        None => Taken::Nothing,
+    }
+}
+
+// What a taker of a box is answered: the weight is that of the slip.
+fn taken_of_slip<K>(taken: Result<Option<(Slip, K)>, AllocError>) -> Taken<K>
+    ensures { result ≡ taken_by_slip taken }
+{
+    match taken {
+        Ok(Some((slip, key))) => Taken::Pair(key, slip.weight),
+        Ok(None) => Taken::Nothing,
+        Err(_) => Taken::NoMemory,
+    }
+}
+
 impl<K: Drop, B: Registry> Outlet<K, B> {
     /// Takes the first pair. It waits while there is none and one may come. Of a box it takes with a seat.
     pub fn take(&self, rt: &impl Wait, seat: &mut Option<TakeSeat<B>>) -> Taken<K> {
         match self {
-            Outlet::Mailbox(mailbox) => match mailbox.pop(rt) {
-                Some((key, weight)) => Taken::Pair(key, weight),
-                None => Taken::Nothing,
-            },
+            Outlet::Mailbox(mailbox) => taken_of_pair(mailbox.pop(rt)),
             Outlet::Ledger(ledger) => {
                 let Some(seat) = seat else {
                     return Taken::Nothing;
                 };
-                match ledger.take(rt, seat) {
-                    Ok(Some((slip, key))) => Taken::Pair(key, slip.weight),
-                    Ok(None) => Taken::Nothing,
-                    Err(_) => Taken::NoMemory,
-                }
+                taken_of_slip(ledger.take(rt, seat))
             }
         }
     }

@@ -1,4 +1,7 @@
 //! What eviction workers wait for.
+ghost use Rattle.std.specs.Prelude.{◌≡◌};
+ghost use Rattle.lru_world.specs.Resting.{rested};
+
 use std::sync::{Condvar, Mutex, Wait};
 
 #[derive(Debug, Drop)]
@@ -8,6 +11,15 @@ struct Raised {
     // how many workers have nothing to do as long as the count stays
     resting: usize,
     stopped: bool,
+}
+
+// A worker has nothing to do for this count, if it is still the one.
+fn rest(raised: &mut Raised, seen: u64)
+    ensures { raised.new ≡ rested seen raised.old }
+{
+    if raised.count == seen {
+        raised.resting = raised.resting.wrapping_add(1);
+    }
 }
 
 /// A count that is raised to wake the eviction workers, until it is stopped.
@@ -47,10 +59,7 @@ impl Trigger {
 
     /// A worker has nothing more to do for this count. It waits for another one next.
     pub fn rests(&self, rt: &impl Wait, seen: u64) {
-        let mut raised = self.raised.lock(rt);
-        if raised.count == seen {
-            raised.resting = raised.resting.wrapping_add(1);
-        }
+        rest(&mut *self.raised.lock(rt), seen);
     }
 
     /// The count, while so many workers have nothing to do until it is another one, or once the trigger is stopped.

@@ -10,7 +10,7 @@ ghost use Rattle.lru_rules.specs.Limits.{cap_of};
 ghost use Rattle.lru_world.specs.Replying.{HasNothing, AreTakers};
 ghost use Rattle.lru_world.specs.Places.{is_logged};
 
-use crate::asking::{Held, may_ask};
+use crate::asking::{Held, next_asked};
 use crate::outlet::Outlet;
 use crate::rest::Rest;
 use crate::trigger::Trigger;
@@ -152,7 +152,7 @@ impl<K: Clone + Drop, B: Registry + Archive> ShardPlace<K, B> {
         caller: &mut Caller<K, B>,
         hash: u64,
     ) -> Option<usize>
-        ensures { LearnsWeight (cap_of B.shards) shard hash caller.old.voice.token.me.0.fronts result caller.new.voice.token.me.0.fronts }
+        ensures { LearnsWeight (cap_of B.shards) shard hash caller.old.voice.token.me.0.fronts result caller.new.refused caller.new.voice.token.me.0.fronts }
     {
         self.rows_of(rt, shard).look(caller, hash)
     }
@@ -347,16 +347,12 @@ impl<K: Clone + Drop, B: Registry + Archive> World<K, B> {
     pub fn may_ask(&self) -> bool {
         let asked = self.asked.load(Ordering::SeqCst);
         let pending = asked.wrapping_sub(self.done.load(Ordering::SeqCst));
-        may_ask(&self.limits, &self.held(), pending)
-            && self
-                .asked
-                .compare_exchange(
-                    asked,
-                    asked.wrapping_add(1),
-                    Ordering::SeqCst,
-                    Ordering::SeqCst,
-                )
-                .is_ok()
+        let Some(next) = next_asked(&self.limits, &self.held(), asked, pending) else {
+            return false;
+        };
+        self.asked
+            .compare_exchange(asked, next, Ordering::SeqCst, Ordering::SeqCst)
+            .is_ok()
     }
 
     /// So many evictions that were asked for are done: what they took is counted, or they took nothing.

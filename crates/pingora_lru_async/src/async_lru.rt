@@ -21,12 +21,14 @@ pub use lru_async::builder::{AsyncLruBuilder, Settings};
 pub use lru_async::ledger_lru::LedgerLru;
 /// A receiver of its evicted pairs.
 pub use lru_async::receiver::EvictionReceiver;
+/// What a save did with the shards.
+pub use lru_async::saving::SaveReport;
 /// Why a message was not sent, and why nothing was built.
 pub use lru_sends::refusals::{BuildError, SendRefused};
 /// Where evicted pairs go.
 pub use lru_dispatch::{Dispatch, Putter};
-/// Who calls an order with logs.
-pub use lru_inbox::Caller;
+/// Who calls an order with logs; and the law that an answer is exact where no message was refused.
+pub use lru_inbox::{Caller, exact_law};
 /// One whose whole history is accounted for once it is closed, how it is made, and what it came to.
 pub use lru_accounts::{Account, AccountedLru, build_accounted};
 /// What a shard came to, with its log.

@@ -48,5 +48,5 @@ module _ {K S T : Type 0} (eq : K → K → Bool) (hash : S → K → ℕ) where
     pub indexed : Indexes eq hash index (item_of order.live)
     pub wide : made order + 2 ≤ length values
     pub weighed : length values ≤ length weights
-    pub indexable : length values ≤ room_of index
+    pub indexable : length weights ≤ room_of index
     pub few : length values ≤ 4294967295

@@ -9,6 +9,7 @@ use Rattle.lru_frames.specs.Causes.{IsWrong}
 use Rattle.lru_checkpoints.specs.Checkpoints.{AreMarked, FitsEach, HasFrames}
 use Rattle.lru_checkpoints.specs.Loads.{IsOtherFrame, IsRefusedFrame, rows_of}
 use Rattle.lru_checkpoints.proofs.Loaded.{refused_from, same_shards}
+use Rattle.lru_checkpoints.proofs.Marked.{checkpoint_whole}
 use Rattle.lru_checkpoints.proofs.loading.load_generation.Goals as goal
 
 pub returns-in-Err-load_frames-clause-touches : goal.returns-in-Err-load_frames-clause-touches
@@ -133,3 +134,11 @@ returns-clause-written g c k shards h =
     (subst (λ (n : ℕ). HasFrames K.bytes_of V.bytes_of dir file_name n (length marks) found (m.files start)) is
     (subst (λ (f : Files). HasFrames K.bytes_of V.bytes_of dir file_name c.in-Ok.manifest.generation (length marks) found f) files (c.in-Ok-load_frames.ensures.found k-1)))
     (subst (λ (ms : List Mark). HasFrames K.bytes_of V.bytes_of dir file_name generation (length ms) shards (m.files start)) (sym same) h.frames)
+
+pub returns-clause-told : goal.returns-clause-told
+unfolding returns-clause-found
+returns-clause-told g c k =
+    let K = g.K.Stored in
+    let V = g.V.Stored in
+    let stood = returns-clause-found g c k in
+    (c.in-Ok.ensures.number, checkpoint_whole K.bytes_of K.is_value V.bytes_of V.is_value c.args.dir.now c.args.file_name.now c.args.generation (rows_of c.in-Ok-load_frames.shards.items) (g.F.Folder.meaning.files c.args.folder.now) stood)

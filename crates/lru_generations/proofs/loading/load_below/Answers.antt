@@ -1,5 +1,5 @@
-use Rattle.std.proofs.Common.{◌<◌, ℕ, List, sym, subst}
-use Rattle.std.specs.Prelude.{◌↔◌, Contains, IfOk, Option}
+use Rattle.std.proofs.Common.{◌≡◌, ◌<◌, ℕ, List, Some, sym, subst}
+use Rattle.std.specs.Prelude.{◌↔◌, Contains, IfOk, IfSome, Option}
 use Rattle.lru_folder.specs.Files.{Files}
 use Rattle.lru_folder.specs.Meaning.{Meaning}
 use Rattle.lru_manifests.specs.declared.names.PartName.{PartName}
@@ -7,7 +7,7 @@ use Rattle.lru_manifests.specs.declared.names.PartName.TheVariants.{Manifest}
 use Rattle.lru_whole_files.proofs.Touched.{touches_then}
 use Rattle.lru_checkpoints.specs.Checkpoints.{Shards, HasCheckpoint}
 use Rattle.lru_generations.specs.Loaded.{IsLoadedBelow, IsReadableBelow, IsSameCheckpoint}
-use Rattle.lru_generations.specs.Newest.{AreGenerationsBelow, IsBelow}
+use Rattle.lru_generations.specs.Newest.{AreGenerationsBelow, IsAsKnown, IsBelow}
 use Rattle.lru_generations.proofs.Passing.{below_so, if_ok}
 use Rattle.lru_generations.proofs.Refusals.{frame_again}
 use Rattle.lru_generations.proofs.loading.load_below.Goals as goal
@@ -77,3 +77,8 @@ returns-clause-passed g c k =
 pub returns-clause-touches : goal.returns-clause-touches
 returns-clause-touches g c k =
     touches_then g.F.Folder.meaning (λ q. ⊥) c.args.folder.now c.parts_of.new.folder c.load_newest.new.folder (c.parts_of.ensures.touches k) (c.load_newest.ensures.touches (c.parts_of.ensures.kept.0 k))
+
+pub returns-clause-known : goal.returns-clause-known
+returns-clause-known g c k =
+    subst (λ (f : Files). IfOk c.load_newest.result (λ loaded. IfSome loaded.newest (λ checkpoint. (checkpoint.known.generation ≡ checkpoint.generation)
+    × IsAsKnown c.args.dir.now c.args.file_name.now f (Some checkpoint.known)))) (c.parts_of.ensures.files k) (c.load_newest.ensures.known (c.parts_of.ensures.kept.0 k))

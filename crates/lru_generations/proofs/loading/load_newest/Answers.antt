@@ -4,9 +4,10 @@ use Rattle.std.proofs.lemmas.List.Elements.{Contains-get_or}
 use Rattle.std.specs.Prelude.{Contains, Option}
 use Rattle.lru_folder.specs.Files.{Files}
 use Rattle.lru_folder.specs.Meaning.{Meaning}
+use Rattle.lru_manifests.specs.declared.manifest.Manifest.{Manifest}
 use Rattle.lru_manifests.specs.Manifests.{manifest_bytes}
 use Rattle.lru_whole_files.proofs.Touched.{touches_started, touches_then}
-use Rattle.lru_checkpoints.specs.Checkpoints.{HasCheckpoint}
+use Rattle.lru_checkpoints.specs.Checkpoints.{HasCheckpoint, IsWhole}
 use Rattle.lru_checkpoints.specs.Loads.{IsFault, IsRefused, IsRefusedFrame, rows_of}
 use Rattle.lru_generations.specs.declared.newest.Passed.{Passed}
 use Rattle.lru_generations.specs.Loaded.{IsReadable, IsReadableBelow}
@@ -182,3 +183,16 @@ returns-clause-passed g c k =
       unblamed = so_far.unblamed;
       reason = so_far.refused k;
     }
+
+pub returns-in-Ok-clause-known : goal.returns-in-Ok-clause-known
+returns-in-Ok-clause-known g c k =
+    let so_far = c.loop-generation.invariant in
+    let told = c.in-Ok.ensures.told (so_far.kept.0 k) in
+    let n = get_or c.args.generations.now c.loop-generation.generation-index 0 in
+    let manifest = c.in-Ok.manifest in
+    let files = g.F.Folder.meaning.files c.args.folder.now in
+    subst (λ (x : Manifest). (x.generation ≡ n) × IsWhole c.args.dir.now c.args.file_name.now x.generation x.frames.items files) (sym c.new-known.ensures) (
+      told.0,
+      subst (λ (x : ℕ). IsWhole c.args.dir.now c.args.file_name.now x manifest.frames.items files) (sym told.0)
+          (subst (λ (f : Files). IsWhole c.args.dir.now c.args.file_name.now n manifest.frames.items f) (so_far.files k) told.1),
+    )

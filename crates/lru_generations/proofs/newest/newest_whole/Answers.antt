@@ -1,20 +1,22 @@
 use Rattle.std.proofs.Common.{◌≡◌, ℕ, List, [], ◌∷◌, ◌++◌, length, get_or, refl, sym, ◌∙◌, ap, subst, arith}
-use Rattle.std.specs.Prelude.{Contains}
+use Rattle.std.specs.Prelude.{Contains, Option, option_copied}
 use Rattle.lru_folder.specs.Files.{Files}
 use Rattle.lru_folder.specs.Meaning.{Meaning}
+use Rattle.lru_manifests.specs.declared.manifest.Manifest.{Manifest}
 use Rattle.lru_manifests.specs.Manifests.{manifest_bytes}
 use Rattle.lru_whole_files.proofs.Touched.{touches_started, touches_then}
-use Rattle.lru_checkpoints.specs.Checkpoints.{IsWhole}
+use Rattle.lru_checkpoints.specs.Checkpoints.{IsTaken}
 use Rattle.lru_checkpoints.specs.Loads.{IsFault, IsRefused, IsRefusedByCheck}
 use Rattle.lru_generations.specs.declared.newest.Passed.{Passed}
-use Rattle.lru_generations.specs.Newest.{HasAllManifests, IsWholeAt}
+use Rattle.lru_generations.specs.Newest.{HasAllManifests, IsTakenAt}
 use Rattle.lru_generations.proofs.Passing.{each_more, front_all, front_at, map_more, none_at_all, none_higher, none_more, numbers_of}
 use Rattle.lru_generations.proofs.Refusals.{check_again}
+use Rattle.lru_checkpoints.proofs.Taken.{taken_manifest}
 use Rattle.lru_generations.proofs.newest.newest_whole.Goals as goal
 
--- what is whole has a manifest
-among : (dir file_name : List ℕ) (files : Files) (generations : List ℕ) → HasAllManifests dir file_name files generations → (n : ℕ) → IsWholeAt dir file_name files n → Contains generations n
-among dir file_name files generations all n w = all n w.1.numbers.generation (manifest_bytes n w.0, w.1.manifest)
+-- what is taken for whole has a manifest
+among : (dir file_name : List ℕ) (files : Files) (known : Option Manifest) (generations : List ℕ) → HasAllManifests dir file_name files generations → (n : ℕ) → IsTakenAt dir file_name files known n → Contains generations n
+among dir file_name files known generations all n w = let at = taken_manifest dir file_name known n w.0 files w.1 in all n at.numbers.generation (manifest_bytes n w.0, at.manifest)
 
 pub loop-generation-init : goal.loop-generation-init
 loop-generation-init g c =
@@ -40,9 +42,11 @@ returns-in-Ok-clause-newest g c k all =
     let files = m.files c.args.folder.now in
     let numbers = c.args.generations.now in
     let i = c.loop-generation.generation-index in
-    let marks = c.in-Ok.field-0.frames.items in (
-      (marks, subst (λ (f : Files). IsWhole dir file_name (get_or numbers i 0) marks f) (so_far.files k) (c.in-Ok.ensures.found (so_far.kept.0 k))),
-      none_higher (IsWholeAt dir file_name files) numbers (among dir file_name files numbers all) c.requires.falling i c.loop-generation-test.true (so_far.none k),
+    let marks = c.in-Ok.field-0.frames.items in
+    let known = option_copied c.args.known in
+    let told = subst (λ (o : Option Manifest). IsTaken dir file_name o (get_or numbers i 0) marks (m.files c.loop-generation.folder)) c.manifest_of.ensures (c.in-Ok.ensures.found (so_far.kept.0 k)) in (
+      (marks, subst (λ (f : Files). IsTaken dir file_name known (get_or numbers i 0) marks f) (so_far.files k) told),
+      none_higher (IsTakenAt dir file_name files known) numbers (among dir file_name files known numbers all) c.requires.falling i c.loop-generation-test.true (so_far.none k),
     )
 
 pub returns-in-Ok-clause-passed : goal.returns-in-Ok-clause-passed
@@ -53,19 +57,19 @@ returns-in-Ok-clause-passed g c k =
     record {
       front = front_at c.args.generations.now c.loop-generation.generation-index (numbers_of c.loop-generation.passed.items) _ c.loop-generation-test.true so_far.front refl;
       unblamed = so_far.unblamed;
-      reason = λ one h. check_again m c.args.dir.now c.args.file_name.now start c.loop-generation.folder start c.check_generation.new.folder refl
+      reason = λ one h. check_again m c.args.dir.now c.args.file_name.now start c.loop-generation.folder start c.check_unless_known.new.folder refl
           one.generation one.error (so_far.unblamed one h) (so_far.refused k one h);
     }
 
 pub returns-in-Ok-clause-touches : goal.returns-in-Ok-clause-touches
 returns-in-Ok-clause-touches g c k =
     let so_far = c.loop-generation.invariant in
-    touches_then g.F.Folder.meaning (λ q. ⊥) c.args.folder.now c.loop-generation.folder c.check_generation.new.folder (so_far.touches k) (c.check_generation.ensures.touches (so_far.kept.0 k))
+    touches_then g.F.Folder.meaning (λ q. ⊥) c.args.folder.now c.loop-generation.folder c.check_unless_known.new.folder (so_far.touches k) (c.check_unless_known.ensures.touches (so_far.kept.0 k))
 
 pub returns-in_err-pass_over-in-Err-clause-touches : goal.returns-in_err-pass_over-in-Err-clause-touches
 returns-in_err-pass_over-in-Err-clause-touches g c k =
     let so_far = c.loop-generation.invariant in
-    touches_then g.F.Folder.meaning (λ q. ⊥) c.args.folder.now c.loop-generation.folder c.check_generation.new.folder (so_far.touches k) (c.check_generation.ensures.touches (so_far.kept.0 k))
+    touches_then g.F.Folder.meaning (λ q. ⊥) c.args.folder.now c.loop-generation.folder c.check_unless_known.new.folder (so_far.touches k) (c.check_unless_known.ensures.touches (so_far.kept.0 k))
 
 pub loop-generation-preserved : goal.loop-generation-preserved
 loop-generation-preserved g c =
@@ -75,10 +79,11 @@ loop-generation-preserved g c =
     let file_name = c.args.file_name.now in
     let start = c.args.folder.now in
     let mid = c.loop-generation.folder in
-    let new = c.check_generation.new.folder in
+    let new = c.check_unless_known.new.folder in
     let numbers = c.args.generations.now in
     let i = c.loop-generation.generation-index in
     let n = get_or numbers i 0 in
+    let known = option_copied c.args.known in
     let error = c.in-Err.error in
     let passed = c.loop-generation.passed.items in
     let last : Passed = record { generation = n; error = error } in
@@ -86,25 +91,26 @@ loop-generation-preserved g c =
     let blames : ¬ IsFault error = c.in_ok-pass_over-in-Err.ensures.unblamed in
     record {
       front = ap (λ (l : List Passed). numbers_of l) is ∙ map_more (λ (one : Passed). one.generation) numbers i passed last c.loop-generation-test.true so_far.front refl;
-      none = λ k. none_more (IsWholeAt dir file_name (m.files start)) numbers i (so_far.none k)
-          (λ w. blames (c.in-Err.ensures.whole (so_far.kept.0 k) w.0 (subst (λ (f : Files). IsWhole dir file_name n w.0 f) (sym (so_far.files k)) w.1)));
+      none = λ k. none_more (IsTakenAt dir file_name (m.files start) known) numbers i (so_far.none k)
+          (λ w. blames (c.in-Err.ensures.whole (so_far.kept.0 k) w.0 (subst (λ (o : Option Manifest). IsTaken dir file_name o n w.0 (m.files mid)) (sym c.manifest_of.ensures)
+          (subst (λ (f : Files). IsTaken dir file_name known n w.0 f) (sym (so_far.files k)) w.1))));
       unblamed = λ one h. each_more (λ (p : Passed). ¬ IsFault p.error) passed last so_far.unblamed blames one (subst (λ (l : List Passed). Contains l one) is h);
       refused = λ k one h. each_more (λ (p : Passed). IsRefused m (IsRefusedByCheck m dir file_name) dir file_name p.generation start new p.error) passed last
           (λ p at. check_again m dir file_name start mid start new refl p.generation p.error (so_far.unblamed p at) (so_far.refused k p at))
           (check_again m dir file_name mid new start new (so_far.files k) n error blames (c.in-Err.ensures.refused (so_far.kept.0 k)))
           one (subst (λ (l : List Passed). Contains l one) is h);
-      files = λ k. c.check_generation.ensures.files (so_far.kept.0 k) ∙ so_far.files k;
-      touches = λ k. touches_then m (λ q. ⊥) start mid new (so_far.touches k) (c.check_generation.ensures.touches (so_far.kept.0 k));
+      files = λ k. c.check_unless_known.ensures.files (so_far.kept.0 k) ∙ so_far.files k;
+      touches = λ k. touches_then m (λ q. ⊥) start mid new (so_far.touches k) (c.check_unless_known.ensures.touches (so_far.kept.0 k));
       quiet = λ k. c.in-Err.ensures.quiet (so_far.kept.0 k) blames ∙ so_far.quiet k;
-      places = λ k. c.check_generation.ensures.places (so_far.kept.0 k) ∙ so_far.places k;
-      kept = (λ k. c.check_generation.ensures.kept.0 (so_far.kept.0 k), λ k. so_far.kept.1 (c.check_generation.ensures.kept.1 k));
+      places = λ k. c.check_unless_known.ensures.places (so_far.kept.0 k) ∙ so_far.places k;
+      kept = (λ k. c.check_unless_known.ensures.kept.0 (so_far.kept.0 k), λ k. so_far.kept.1 (c.check_unless_known.ensures.kept.1 k));
     }
 
 pub returns-clause-newest : goal.returns-clause-newest
 returns-clause-newest g c k all =
     let files = g.F.Folder.meaning.files c.args.folder.now in
     let numbers = c.args.generations.now in
-    none_at_all (IsWholeAt c.args.dir.now c.args.file_name.now files) numbers (among c.args.dir.now c.args.file_name.now files numbers all)
+    none_at_all (IsTakenAt c.args.dir.now c.args.file_name.now files (option_copied c.args.known)) numbers (among c.args.dir.now c.args.file_name.now files (option_copied c.args.known) numbers all)
     c.loop-generation.generation-index c.loop-generation-test.false (c.loop-generation.invariant.none k)
 
 pub returns-clause-passed : goal.returns-clause-passed

@@ -1,11 +1,12 @@
 use Rattle.std.proofs.Common.{◌≡◌, inl, inr, refl, sym, subst}
+use Rattle.lru_folder.specs.Files.{Files}
 use Rattle.lru_folder.specs.Meaning.{Meaning}
 use Rattle.lru_manifests.specs.Names.{frame_path, manifest_path, manifest_temp_path}
 use Rattle.lru_whole_files.proofs.Touched.{touches_then, touches_more}
 use Rattle.lru_checkpoints.specs.Causes.{IsUnnamed}
-use Rattle.lru_checkpoints.specs.Checkpoints.{HasCheckpoint, IsFrame}
+use Rattle.lru_checkpoints.specs.Checkpoints.{HasCheckpoint, IsFrame, IsWhole}
 use Rattle.lru_checkpoints.proofs.Lists.{never}
-use Rattle.lru_checkpoints.proofs.Saved.{new_checkpoint, saves_all}
+use Rattle.lru_checkpoints.proofs.Saved.{new_checkpoint, new_whole, saves_all}
 use Rattle.lru_generations.specs.Saving.{IsUnfinished}
 use Rattle.lru_generations.proofs.ForGood.{save_fault, saves_looked, saves_unfinished, still_whole}
 use Rattle.lru_generations.proofs.saving.save_for_good.Goals as goal
@@ -98,8 +99,8 @@ returns-in-Err-sync_names-clause-error g c k =
     save_fault g.F.Folder.meaning c.args.dir.now c.args.file_name.now c.args.generation c.save_manifest.new.folder c.sync_names.new.folder c.in-Err-sync_names.error
     (c.in-Err-sync_names.ensures.reason (c.save_manifest.ensures.kept.0 (c.save_parts.ensures.kept.0 k)) c.args.file_name.now c.args.generation)
 
-pub returns-clause-saves : goal.returns-clause-saves
-returns-clause-saves g c k =
+pub returns-in-Ok-sync_names-clause-saves : goal.returns-in-Ok-sync_names-clause-saves
+returns-in-Ok-sync_names-clause-saves g c k =
     let m : Meaning _ = g.F.Folder.meaning in
     let start = c.args.folder.now in
     let one = c.save_parts.new.folder in
@@ -112,8 +113,8 @@ returns-clause-saves g c k =
     (saves_all g.K.Stored.bytes_of g.K.Stored.is_value g.V.Stored.bytes_of g.V.Stored.is_value c.args.dir.now c.args.file_name.now (g.S.Source.hands_out c.args.source.now) (g.S.Source.count c.args.source.now) c.args.generation c.requires.few c.ranges.generation.fits m start parts.0 c.in-Ok.frames.items parts.1.0 parts.1.1.0 parts.1.1.1.0 c.in_default.ensures.fits one two
     (c.save_parts.ensures.touches k) stand.0 stand.1 (c.save_manifest.ensures.replaces k-1)) (c.sync_names.ensures.time k-2) (c.sync_names.ensures.loss k-2)
 
-pub returns-clause-saved : goal.returns-clause-saved
-returns-clause-saved g c k =
+pub returns-in-Ok-sync_names-clause-saved : goal.returns-in-Ok-sync_names-clause-saved
+returns-in-Ok-sync_names-clause-saved g c k =
     let m : Meaning _ = g.F.Folder.meaning in
     let start = c.args.folder.now in
     let one = c.save_parts.new.folder in
@@ -141,3 +142,20 @@ returns-clause-saved g c k =
         ),
       ),
     )
+
+pub returns-in-Ok-sync_names-clause-told : goal.returns-in-Ok-sync_names-clause-told
+returns-in-Ok-sync_names-clause-told g c k =
+    let m : Meaning _ = g.F.Folder.meaning in
+    let one = c.save_parts.new.folder in
+    let two = c.save_manifest.new.folder in
+    let k-1 = c.save_parts.ensures.kept.0 k in
+    let k-2 = c.save_manifest.ensures.kept.0 k-1 in
+    let parts = c.in-Ok.ensures.saved in
+    let stand = parts.1.1.1.1 k in
+    let dir = c.args.dir.now in
+    let file_name = c.args.file_name.now in
+    let named = c.in_default.ensures in
+    let frames = c.in-Ok.frames.items in
+    let whole : IsWhole dir file_name c.args.generation frames (m.files two) = new_whole g.K.Stored.bytes_of g.K.Stored.is_value g.V.Stored.bytes_of g.V.Stored.is_value dir file_name (g.S.Source.hands_out c.args.source.now) (g.S.Source.count c.args.source.now) c.args.generation c.requires.few c.ranges.generation.fits parts.0 frames parts.1.0 parts.1.1.0 parts.1.1.1.0 named.fits (m.files one) (m.loose one) stand.0 stand.1
+    (m.files one) (m.files two) (named.done k-1) in
+    (refl, subst (λ (f : Files). IsWhole dir file_name c.args.generation frames f) (sym (c.sync_names.ensures.time k-2).leaves) whole)

@@ -1,12 +1,12 @@
 use Rattle.std.proofs.Common.{rules, ◌≡◌, ◌<◌, inl, inr, ⊎_elim, ℕ, List, sym, ◌∙◌, subst}
-use Rattle.std.specs.Prelude.{AllPairs, Contains}
+use Rattle.std.specs.Prelude.{AllPairs, Contains, option_copied}
 use Rattle.lru_folder.specs.Files.{Files}
 use Rattle.lru_folder.specs.Meaning.{Meaning}
 use Rattle.lru_manifests.specs.declared.names.PartName.{PartName}
 use Rattle.lru_manifests.specs.declared.names.PartName.TheVariants.{Manifest}
 use Rattle.lru_manifests.specs.Listing.{HasParts, IsAbove}
 use Rattle.lru_whole_files.proofs.Touched.{touches_started, touches_then, touches_looked}
-use Rattle.lru_generations.specs.Newest.{AreGenerations, HasAllManifests, IsNewest}
+use Rattle.lru_generations.specs.Newest.{AreGenerations, HasAllManifests, IsHighestTaken}
 use Rattle.lru_checkpoints.specs.declared.errors.CheckpointError.{CheckpointError}
 use Rattle.lru_generations.specs.Saving.{HasReasonOrIsInUse, IsUnsaved}
 use Rattle.lru_generations.proofs.ForGood.{save_fault}
@@ -155,7 +155,7 @@ returns-clause-found g c k =
     ((c.in_ok-generations.ensures.found number).1 (subst (λ (xs : List PartName). Contains xs (Manifest number)) (sym c.deref-2.ensures.value) ((still.there (Manifest number) small).1 has))) in
     record {
       listed = subst (λ (f : Files). HasParts dir file_name f parts) first listed;
-      top = subst (λ (f : Files). IsNewest dir file_name f c.in_ok-newest.newest.generation) (second ∙ first) (c.in_ok-newest.ensures.newest k-2 all);
+      top = subst (λ (f : Files). IsHighestTaken dir file_name f (option_copied c.args.known) c.in_ok-newest.newest.generation) (second ∙ first) (c.in_ok-newest.ensures.newest k-2 all);
       above = subst (λ (xs : List PartName). IsAbove xs c.in-Some.generation) c.deref.ensures.value c.in-Some.ensures.0;
     }
 

@@ -1,4 +1,4 @@
-use Rattle.std.proofs.Common.{of_calls, ◌++◌, ◌∷◌, [], lit<, sym, arith}
+use Rattle.std.proofs.Common.{of_calls, ◌++◌, ◌∷◌, [], lit<, refl, sym, arith}
 use Rattle.std.proofs.lemmas.Fn.{FoldsTo-push}
 use Rattle.lru_cores.specs.Sparing.{HasPut}
 use Rattle.lru_cores.proofs.Sparing.{some_lists, over_held, spares, never_bare, sparing_shorter, sparing_push, stands_on}
@@ -11,6 +11,9 @@ pub unreachable-requires : goal.unreachable-requires
 unreachable-requires g c =
     let put : HasPut c.loop-victim.self c.args.key = record { row = c.requires.put.row; own = c.requires.put.own; first = c.loop-victim.invariant.1.1.1.1 c.requires.put.row c.requires.put.own c.requires.put.first } in
     never_bare g.row.N c.loop-victim.self c.in-Some.ensures.valid c.args.key c.in-Some.victim c.evict_from.new.self put (sym c.in-Some.ensures.over) c.in-Some.ensures.victim c.in_default-evict_from.ensures
+
+pub loop-victim-init : goal.loop-victim-init
+loop-victim-init g c = (search of_calls parts 8, ([], (refl, (refl, λ r own first. first))))
 
 pub loop-victim-smaller : goal.loop-victim-smaller
 loop-victim-smaller g c =

@@ -28,5 +28,5 @@ pub new-requires-2-clause-tells : goal.new-requires-2-clause-tells
 new-requires-2-clause-tells g c = λ x e.
     let xs = taken_by c.in-Some.voice.token.me.0 in
     let is = shown_is c.args.self.now.shard c.args.count xs c.in-Some.voice.token.me c.show.result.me (c.args.self.now.told c.in-Some.voice c.in-Some.is) c.show.ensures.shown in
-    subst (λ t. ∥ IsReply g.K.Clone.is_clone (cap_of g.B.Archive.shards) (shown t.me.0) c.args.reply ∥₁) (some_same c.show.result x e)
-    (subst (λ m. ∥ IsReply g.K.Clone.is_clone (cap_of g.B.Archive.shards) (shown m.0) c.args.reply ∥₁) (sym is) (c.requires.tells (taken_by c.in-Some.voice.token.me.0) (ap taken_in c.in-Some.is)))
+    subst (λ t. ∥ IsReply g.K.Clone.is_clone (cap_of g.B.Archive.shards) (shown t.me.0) c.args.refused c.args.reply ∥₁) (some_same c.show.result x e)
+    (subst (λ m. ∥ IsReply g.K.Clone.is_clone (cap_of g.B.Archive.shards) (shown m.0) c.args.refused c.args.reply ∥₁) (sym is) (c.requires.tells (taken_by c.in-Some.voice.token.me.0) (ap taken_in c.in-Some.is)))

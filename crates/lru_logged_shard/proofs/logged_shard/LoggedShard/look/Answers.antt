@@ -1,7 +1,9 @@
-use Rattle.std.proofs.Common.{[], ◌∷◌, ◌++◌, ap, ◌∙◌, subst}
+use Rattle.std.proofs.Common.{[], ◌∷◌, ◌++◌, ◌<◌, ◌^◌, length, arith, sym, ap, ◌∙◌, subst}
 use Rattle.std.proofs.Math.Logic.{∥∥₁_map}
 use Rattle.lru_logs.specs.Logs.{of_fronts, joined, Shows}
 use Rattle.lru_inbox.specs.Inboxes.{shown}
+use Rattle.lru_inbox.proofs.Counting.{refusals_fit}
+use Rattle.lru_actors.specs.Messages.{State}
 use Rattle.lru_logged_shard.proofs.Meeting.{seen_with}
 use Rattle.lru_logged_shard.proofs.logged_shard.LoggedShard.look.Goals as goal
 
@@ -20,6 +22,7 @@ returns-clause-told g c =
         turns = k.left.turns;
         messages_are = k.left.messages_are;
         allowed = k.left.allowed;
+        refused_are = (let fits : length xs < 2 ^ 64 = omega (arith, c.args.self.now.counted) in sym (refusals_fit k.left.turns xs k.left.messages_are fits) ∙ sym (ap (λ (z : State g.row.K.Denot). z.refused) k.left.state) ∙ sym c.refused-caller.ensures);
         weighs = c.weight_of.ensures ∙ k.left.map_is c.args.hash;
       }),
     )

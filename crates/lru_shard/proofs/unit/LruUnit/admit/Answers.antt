@@ -1,5 +1,5 @@
 use Rattle.std.proofs.Common.{refl}
-use Rattle.lru_shard.proofs.PresentRows.{at_place, part_read, weight_there, refuses_heavy, at_valued, at_weighted, at_first, still_at, kept_first, accepts_first}
+use Rattle.lru_shard.proofs.PresentRows.{part_read, weight_there, refuses_heavy, at_valued, at_weighted, at_first, still_at, kept_first, accepts_first}
 use Rattle.lru_shard.proofs.Views.{no_row_in}
 use Rattle.lru_shard.proofs.unit.LruUnit.admit.Goals as goal
 

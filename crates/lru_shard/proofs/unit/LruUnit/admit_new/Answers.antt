@@ -1,7 +1,6 @@
 use Rattle.lru_shard.specs.Shard.{size_of, and_row}
-use Rattle.std.proofs.Common.{refl, sym, ap, not, ◌∙◌}
+use Rattle.std.proofs.Common.{refl, ap, ◌∙◌}
 use Rattle.lru_shard.specs.declared.unit.Cause.TheVariants.{Memory}
-use Rattle.lru_shard.proofs.Views.{no_row_in, found_some}
 use Rattle.lru_shard.proofs.NewRows.{refuses_first, may_memory, unplaced_in, view_vacant, kept_first, accepts_first}
 use Rattle.lru_shard.proofs.UnitCalls.{may_refuse, no_weight}
 use Rattle.lru_shard.proofs.unit.LruUnit.admit_new.Goals as goal

@@ -1,10 +1,10 @@
 use Rattle.lru_shard.specs.Shard.{size_of, and_row}
-use Rattle.std.proofs.Common.{refl, sym, ap, not, ◌∙◌}
+use Rattle.std.proofs.Common.{refl, ap, not, ◌∙◌}
 use Rattle.lru_shard.specs.declared.unit.Cause.TheVariants.{Memory}
 use Rattle.lru_shard.proofs.Views.{no_row_in, found_some, none_found}
 use Rattle.lru_shard.proofs.PresentRows.{tailed_found}
-use Rattle.lru_shard.proofs.NewRows.{refuses_last, may_memory, unplaced_in, view_vacant, kept_last, accepts_last}
-use Rattle.lru_shard.proofs.UnitCalls.{may_refuse, no_weight}
+use Rattle.lru_shard.proofs.NewRows.{refuses_last, may_memory, view_vacant, kept_last, accepts_last}
+use Rattle.lru_shard.proofs.UnitCalls.{may_refuse}
 use Rattle.lru_shard.proofs.unit.LruUnit.insert_tail.Goals as goal
 
 pub returns-in-Err : goal.returns-in-Err

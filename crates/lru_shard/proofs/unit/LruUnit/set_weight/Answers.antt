@@ -1,5 +1,5 @@
 use Rattle.std.proofs.Common.{refl}
-use Rattle.lru_shard.proofs.PresentRows.{at_place, part_read, weight_found, declines_heavy, stand, at_own, kept_weighted, accepts_weighted}
+use Rattle.lru_shard.proofs.PresentRows.{at_place, part_read, weight_found, declines_heavy, at_own, kept_weighted, accepts_weighted}
 use Rattle.lru_shard.proofs.Views.{nothing_found, no_row_in}
 use Rattle.lru_shard.proofs.NewRows.{accepts_absent}
 use Rattle.lru_shard.proofs.unit.LruUnit.set_weight.Goals as goal

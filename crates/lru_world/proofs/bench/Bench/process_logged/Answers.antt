@@ -1,4 +1,4 @@
-use Rattle.std.proofs.Common.{[], ◌∷◌, length, nat_eq, sym, ap, ◌∙◌, subst}
+use Rattle.std.proofs.Common.{[], ◌∷◌, ◌<◌, ◌^◌, arith, length, nat_eq, sym, ap, ◌∙◌, subst}
 use Rattle.std.specs.HashMap as hash
 use Rattle.lru_rules.specs.Limits.{cap_of}
 use Rattle.lru_logs.specs.Logs.{front, of_fronts, taken_by}
@@ -12,7 +12,7 @@ use Rattle.lru_desks.specs.declared.tie.Registry.{Ghosts}
 use Rattle.lru_logged_shard.specs.Accounts.{IsKept}
 use Rattle.lru_logged_shard.specs.Seats.{slips_at}
 use Rattle.lru_world.specs.Outlets.{is_ledger}
-use Rattle.lru_world.proofs.Replying.{adds, batch_kept, batch_replies, take_all}
+use Rattle.lru_world.proofs.Replying.{adds, batch_kept, batch_replies, counted_in, take_all}
 use Rattle.lru_world.proofs.bench.Bench.process_logged.Goals as goal
 
 pub invariant_of-rows : goal.invariant_of-rows
@@ -44,5 +44,7 @@ invariant_of-rows g c =
 pub returns-clause-replies : goal.returns-clause-replies
 returns-clause-replies g c = λ taken e.
     let rows = c.meet.new.self in
+    let many = counted_in c.args.taker.now.voice c.args.taker.now.count c.args.taker.now.counted taken e in
+    let fits : length taken < 2 ^ 64 = omega (arith, many, c.taken-taken.ensures, c.taken-taken.type_inv) in
     batch_replies g.K.Clone.is_clone (cap_of g.B.Archive.shards) taken (shown rows.seen.me.0) c.args.self.now.batch.items c.args.rows.now.count c.process_with.new.self.effects.items rows.state (hash.get nat_eq rows.weights) c.process_with.new.state (hash.get nat_eq c.process_with.new.weights)
-    (c.meet.ensures.same.5 ∙ c.meet.ensures.met taken e) (c.requires.gains taken e) (∥∥₁_map rows.kept (λ k. k.left)) c.process_with.ensures.from
+    (c.meet.ensures.same.5 ∙ c.meet.ensures.met taken e) (c.requires.gains taken e) (∥∥₁_map rows.kept (λ k. k.left)) c.process_with.ensures.from fits

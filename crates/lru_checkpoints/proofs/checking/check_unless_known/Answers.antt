@@ -1,4 +1,5 @@
-use Rattle.std.proofs.Common.{◌≡◌, ◌<◌, ◌^◌, ℕ, List, length, Some, slice_get, inr, sym, subst}
+use Rattle.std.proofs.Common.{◌≡◌, ◌<◌, ◌^◌, ℕ, List, length, Some, slice_get, inr, sym, ◌∙◌, subst}
+use Rattle.std.specs.Prelude.{option_copied}
 use Rattle.std.specs.FinMap.{get}
 use Rattle.lru_folder.specs.Files.{Files}
 use Rattle.lru_folder.specs.Meaning.{Meaning}
@@ -7,10 +8,12 @@ use Rattle.lru_manifests.specs.Manifests.{part_header}
 use Rattle.lru_manifests.specs.Names.{frame_path}
 use Rattle.lru_whole_files.proofs.Touched.{touches_then}
 use Rattle.lru_frames.specs.Marks.{IsWrongFrame}
-use Rattle.lru_checkpoints.specs.Checkpoints.{IsWholeFrame}
+use Rattle.lru_checkpoints.specs.Checkpoints.{IsKnown, IsWholeFrame}
 use Rattle.lru_checkpoints.specs.Loads.{IsRefusedByCheck}
 use Rattle.lru_checkpoints.proofs.Loaded.{refused_from}
-use Rattle.lru_checkpoints.proofs.checking.check_generation.Goals as goal
+use Rattle.lru_checkpoints.proofs.Lists.{never}
+use Rattle.lru_checkpoints.proofs.Taken.{still_taken, taken_manifest, taken_unless, whole_taken}
+use Rattle.lru_checkpoints.proofs.checking.check_unless_known.Goals as goal
 
 pub returns-in-Err-check_frames-clause-touches : goal.returns-in-Err-check_frames-clause-touches
 returns-in-Err-check_frames-clause-touches g c k =
@@ -59,7 +62,7 @@ returns-in-Err-check_frames-clause-refused g c k =
     )
 
 pub returns-in-Err-check_frames-clause-whole : goal.returns-in-Err-check_frames-clause-whole
-returns-in-Err-check_frames-clause-whole g c k others h =
+returns-in-Err-check_frames-clause-whole g c k others taken =
     let m : Meaning _ = g.F.Folder.meaning in
     let dir = c.args.dir.now in
     let file_name = c.args.file_name.now in
@@ -70,7 +73,10 @@ returns-in-Err-check_frames-clause-whole g c k others h =
     let marks = c.in-Ok.manifest.frames.items in
     let is : c.in-Ok.manifest.generation ≡ generation = c.in-Ok.ensures.number in
     let files : m.files mid ≡ m.files start = c.load_manifest.ensures.files k in
-    let same : others ≡ marks = sym (c.in-Ok.ensures.written k others h.numbers h.few h.manifest) in
+    let at = taken_manifest dir file_name (option_copied c.args.known) generation others (m.files start) taken in
+    let same : others ≡ marks = sym (c.in-Ok.ensures.written k others at.numbers at.few at.manifest) in
+    let unlike = λ (h : IsKnown (option_copied c.args.known) c.in-Ok.manifest). never (sym c.if-is_known.false ∙ c.is_known.ensures.1 h) in
+    let h = taken_unless dir file_name (option_copied c.args.known) c.in-Ok.manifest generation others (m.files start) is same unlike taken in
     let Frames = λ (n : ℕ) (ms : List Mark) (f : Files). (shard : ℕ) (mark : Mark) → slice_get ms shard ≡ Some mark
     → (bytes : List ℕ) × ((get f (frame_path dir file_name n shard) ≡ Some bytes) × IsWholeFrame (part_header n (length ms) shard) mark bytes) in
     c.in-Err-check_frames.ensures.whole k-1 (subst (λ (n : ℕ). n < 2 ^ 64) (sym is) h.numbers.generation)
@@ -90,9 +96,14 @@ returns-in-Ok-check_frames-clause-found g c k =
     let files = c.load_manifest.ensures.files k in
     let Frames = λ (n : ℕ) (f : Files). (shard : ℕ) (mark : Mark) → slice_get marks shard ≡ Some mark
     → (bytes : List ℕ) × ((get f (frame_path dir file_name n shard) ≡ Some bytes) × IsWholeFrame (part_header n (length marks) shard) mark bytes) in
-    record {
+    whole_taken dir file_name (option_copied c.args.known) generation marks (m.files start) (record {
       numbers = c.in-Ok.ensures.fits;
       few = c.in-Ok.ensures.few;
       manifest = c.in-Ok.ensures.found k;
       frames = subst (λ (n : ℕ). Frames n (m.files start)) is (subst (λ (f : Files). Frames c.in-Ok.manifest.generation f) files (c.in-Ok-check_frames.ensures.found k-1));
-    }
+    })
+
+pub returns-then-is_known-clause-found : goal.returns-then-is_known-clause-found
+returns-then-is_known-clause-found g c k =
+    still_taken c.args.dir.now c.args.file_name.now (option_copied c.args.known) c.in-Ok.manifest c.args.generation (g.F.Folder.meaning.files c.args.folder.now)
+    c.in-Ok.ensures.number (c.is_known.ensures.0 c.if-is_known.true) c.in-Ok.ensures.fits c.in-Ok.ensures.few (c.in-Ok.ensures.found k)

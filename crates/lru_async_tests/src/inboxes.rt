@@ -1,0 +1,43 @@
+//! Mailboxes with their logs, as threads share them.
+
+use lru_actors::message::LruMsg;
+use lru_letters::Letter;
+use lru_shared_inbox::SharedInbox;
+use std::alloc::Global;
+use std::marker::Brand;
+use std::sync::Wait;
+use std::test::Fail;
+
+// Puts so many messages. How many wait then.
+fn put_many<R: Wait>(rt: &R, inbox: &SharedInbox<u64, Brand>, count: u64) -> Option<usize> {
+    for hash in 0..count {
+        let letter = Letter::new(LruMsg::Promote { hash });
+        if inbox.push(rt, letter).is_err() {
+            return None;
+        }
+    }
+    Some(inbox.len(rt))
+}
+
+#[test]
+fn a_push_beside_many_waits_too(rt: HostRuntime) -> Result<(), Fail> {
+    let alloc: Global = rt.alloc();
+    let inbox = SharedInbox::<u64, Brand>::new(alloc, 0, None);
+    assert_eq!(rt; put_many(&rt, &inbox, 10_000), Some(10_000));
+    Ok(())
+}
+
+#[test]
+fn letters_left_behind_are_handed_back(rt: HostRuntime) -> Result<(), Fail> {
+    let alloc: Global = rt.alloc();
+    let inbox = SharedInbox::<u64, Brand>::new(alloc, 0, None);
+    let put = put_many(&rt, &inbox, 3);
+    let left = inbox.leave(&rt);
+    let same = left.iter().enumerate().all(|(
+        place,
+        letter,
+    )| matches!(letter.message, LruMsg::Promote { hash } if hash == place as u64));
+    assert_eq!(rt; (put, left.len(), same), (Some(3), 3, true));
+    assert_eq!(rt; (inbox.len(&rt), inbox.put_and_lost(&rt)), (0, (3, 3)));
+    Ok(())
+}
