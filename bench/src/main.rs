@@ -162,6 +162,15 @@ fn once(column: usize, rows: usize) {
     println!("{}", round.bytes);
 }
 
+/// Prints the calls of each phase and its name, in the order in which one subject goes through them, with the mark that a
+/// plan begins with.
+fn phases(rows: usize) {
+    for plan in plans_of(rows) {
+        println!("0 begin");
+        plan.phases.iter().for_each(|phase| println!("{} {}", phase.to - phase.from, phase.name));
+    }
+}
+
 /// The longest single admit of an order that grows, medians over the rounds.
 fn growth(log: u32, rounds: usize) {
     let plans = [plan::growth_plan(log)];
@@ -191,6 +200,9 @@ fn main() {
         if word == "growth" {
             return growth(log.parse().expect("a number"), 5);
         }
+        if word == "phases" {
+            return phases(log.parse().expect("a number"));
+        }
     }
     let words: Vec<Option<usize>> = texts.iter().map(|word| word.parse().ok()).collect();
     match words[..] {
@@ -200,7 +212,7 @@ fn main() {
         }
         [Some(column), Some(rows)] if column < SUBJECTS.len() + BY_TEXTS.len() => once(column, rows),
         _ => {
-            eprintln!("usage: bench [COLUMN ROWS | alone | growth LOG | traces OBJECTS SIZE FILE], with a column of the tables, counted from 0");
+            eprintln!("usage: bench [COLUMN ROWS | alone | growth LOG | phases ROWS | traces OBJECTS SIZE FILE], with a column of the tables, counted from 0");
             std::process::exit(2);
         }
     }

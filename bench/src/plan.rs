@@ -70,6 +70,8 @@ pub fn main_plan(rows: usize) -> Plan {
     plan.add("promote zipf", Work::Promote, (0..rows).map(|_| first[zipf.draw(&mut draws)]));
     plan.add("peek", Work::Peek, (0..rows).map(|_| first[draws.below(rows)]));
     plan.add("peek_weight", Work::PeekWeight, (0..rows).map(|_| first[draws.below(rows)]));
+    plan.add("look for what is not there", Work::Peek, second.iter().copied());
+    plan.add("put over an entry", Work::AdmitAndEvict, (0..rows).map(|_| first[draws.below(rows)]));
     plan.add("iterate", Work::Iterate, first.iter().copied());
     plan.add("admit and evict", Work::AdmitAndEvict, second.iter().copied());
     // each second one of these is there

@@ -17,15 +17,19 @@ pub enum Work {
     Get,
     /// Nine of those to a put in place of the key's entry.
     NineGets,
+    /// A put in place of the key's entry.
+    PutOver,
     /// A put of an entry that is new, for which another goes.
     Put,
+    /// A get of a key that has no entry, whose value is made and put then, for which another goes.
+    Make,
     AdmitAndEvict,
     /// Of a peer the same; of an `Lru` two calls.
     AdmitThenEvict,
 }
 
 impl Work {
-    pub const ALL: [Work; 8] = [
+    pub const ALL: [Work; 10] = [
         Work::Peek,
         Work::Promote,
         Work::Mix,
@@ -33,7 +37,9 @@ impl Work {
         Work::AdmitThenEvict,
         Work::Get,
         Work::NineGets,
+        Work::PutOver,
         Work::Put,
+        Work::Make,
     ];
 
     pub fn name(self) -> &'static str {
@@ -43,7 +49,9 @@ impl Work {
             Work::Mix => "mix",
             Work::Get => "get",
             Work::NineGets => "nine gets to a put",
+            Work::PutOver => "put over an entry",
             Work::Put => "put",
+            Work::Make => "make a missing value",
             Work::AdmitAndEvict => "admit and evict",
             Work::AdmitThenEvict => "admit then evict",
         }
@@ -69,8 +77,8 @@ impl Keys {
 
     fn of(&self, work: Work) -> &[u64] {
         match work {
-            Work::Peek | Work::Promote | Work::Mix | Work::Get | Work::NineGets => &self.drawn,
-            Work::AdmitAndEvict | Work::AdmitThenEvict | Work::Put => &self.new,
+            Work::Peek | Work::Promote | Work::Mix | Work::Get | Work::NineGets | Work::PutOver => &self.drawn,
+            Work::AdmitAndEvict | Work::AdmitThenEvict | Work::Put | Work::Make => &self.new,
         }
     }
 }
@@ -154,7 +162,9 @@ impl<S: Order, L: Lock<S>, const N: usize> Sharded<S, L, N> {
             Work::Mix if place % 4 != 0 => self.peek(key),
             Work::Mix | Work::Get => self.promote(key),
             Work::NineGets if place % 10 != 0 => self.promote(key),
-            Work::NineGets | Work::Put => self.shard_of(key).write(|shard| shard.admit(key)),
+            Work::NineGets | Work::Put | Work::PutOver => self.shard_of(key).write(|shard| shard.admit(key)),
+            // (as for the put of a row that is new twice)
+            Work::Make => self.shard_of(!key).write(|shard| shard.promote(!key) || shard.admit(!key)),
             Work::AdmitAndEvict => self.shard_of(key).write(|shard| shard.admit(key)),
             // (those of the other rows, which are new again)
             Work::AdmitThenEvict => self.shard_of(!key).write(|shard| shard.admit(!key)),

@@ -19,8 +19,12 @@ enum Work {
     Get,
     /// Nine of those to a put in place of the key's entry.
     NineGets,
+    /// A put in place of the key's entry.
+    PutOver,
     /// A put of an entry that is new, for which another goes.
     Put,
+    /// A get of a key that has no entry, whose value is made and put then, for which another goes.
+    Make,
 }
 
 impl Work {
@@ -28,14 +32,16 @@ impl Work {
         match self {
             Work::Get => "get",
             Work::NineGets => "nine gets to a put",
+            Work::PutOver => "put over an entry",
             Work::Put => "put",
+            Work::Make => "make a missing value",
         }
     }
 
     fn keys_of(self, keys: &Keys) -> &[u64] {
         match self {
-            Work::Put => &keys.new,
-            Work::Get | Work::NineGets => &keys.drawn,
+            Work::Put | Work::Make => &keys.new,
+            Work::Get | Work::NineGets | Work::PutOver => &keys.drawn,
         }
     }
 }
@@ -51,6 +57,12 @@ fn has_put<R: Wait, const N: usize>(rt: &R, cache: &SharedCache<u64, u64, N>, ke
     cache.put(rt, key, key, 1, |_| {}).is_ok()
 }
 
+// Whether a key that had no entry has one now.
+fn has_made<R: Wait, const N: usize>(rt: &R, cache: &SharedCache<u64, u64, N>, key: u64) -> bool {
+    let made = cache.get_or_put_with(rt, key, || Ok::<_, ()>((key, 1)), |_| {});
+    made.is_ok()
+}
+
 // Does the work with each key, and answers for how many the entry is there.
 fn work_on<R: Wait, const N: usize>(
     rt: &R,
@@ -63,7 +75,9 @@ fn work_on<R: Wait, const N: usize>(
         let is_there = match work {
             Work::Get => has_got(rt, cache, key),
             Work::NineGets if place % 10 != 0 => has_got(rt, cache, key),
-            Work::NineGets | Work::Put => has_put(rt, cache, *key),
+            Work::NineGets | Work::PutOver | Work::Put => has_put(rt, cache, *key),
+            // (those of the other entries, which are new again)
+            Work::Make => has_made(rt, cache, !*key),
         };
         if is_there {
             done = done.wrapping_add(1);
@@ -146,8 +160,10 @@ fn measure_shared<R: Print + Clock + Threads + Wait + Sync, const N: usize>(
     let roomy = full::<R, N>(rt, alloc, &keys.rows, room)?;
     time_shared(rt, alloc, watch, keys, &roomy, (Work::Get, threads))?;
     time_shared(rt, alloc, watch, keys, &roomy, (Work::NineGets, threads))?;
+    time_shared(rt, alloc, watch, keys, &roomy, (Work::PutOver, threads))?;
     let tight = full::<R, N>(rt, alloc, &keys.rows, keys.rows.len())?;
-    time_shared(rt, alloc, watch, keys, &tight, (Work::Put, threads))
+    time_shared(rt, alloc, watch, keys, &tight, (Work::Put, threads))?;
+    time_shared(rt, alloc, watch, keys, &tight, (Work::Make, threads))
 }
 
 /// Makes the calls on so many entries, in 16 shards.
