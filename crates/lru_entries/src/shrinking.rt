@@ -9,7 +9,34 @@ use std::hash::{BuildHasher, Hash};
 
 /// Takes rows out from the last on, until they weigh at most `most_weight` and are at most `most_rows`, hands each to
 /// `visit`, and answers what the others weigh.
+#[inline(always)]
 pub fn shrink<K, V, S, F>(
+    rows: &mut Pairs<K, V, S>,
+    used: usize,
+    most_weight: usize,
+    most_rows: usize,
+    visit: F,
+) -> usize
+where
+    K: Hash + Drop,
+    V: Drop,
+    S: BuildHasher,
+    F: FnMut(Entry<K, V>) + Drop,
+    requires used { used ≡ weight_in rows.old.held.rows }
+    requires visit { F.IsAlwaysCallable visit }
+    ensures shrinks { Shrinks (λ p x q. F.step p x tt q) visit most_weight most_rows rows.old.held rows.new.held }
+    ensures used { result ≡ weight_in rows.new.held.rows }
+    ensures hashes { rows.new.hashes ≡ rows.old.hashes }
+{
+    // (most often all fit, and then no call is made)
+    if fits(used, rows.len(), most_weight, most_rows) {
+        return used;
+    }
+    let_go(rows, used, most_weight, most_rows, visit)
+}
+
+// The same, where most likely some have to go.
+fn let_go<K, V, S, F>(
     rows: &mut Pairs<K, V, S>,
     used: usize,
     most_weight: usize,

@@ -1,7 +1,7 @@
 use Rattle.std.proofs.Common.{◌≡◌, length}
 use denote.Param.Always.{always_mut}
 use Rattle.lru_entries.specs.Partings.{Shrinking}
-use Rattle.lru_entries.proofs.shrinking.shrink.Given as goal
+use Rattle.lru_entries.proofs.shrinking.let_go.Given as goal
 
 abbrev pub invariant-loop-rows : goal.invariant-loop-rows
 invariant-loop-rows g l =
