@@ -1,0 +1,3 @@
+pub mod Victims
+pub mod Asking
+pub mod Entering
