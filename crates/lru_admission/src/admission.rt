@@ -132,6 +132,28 @@ impl<K: Hash + Drop, V: Drop> AskingCache<K, V, SeededHashes> {
     }
 }
 
+impl<K: Hash + Drop, V: Drop, S: BuildHasher + Drop> AskingCache<K, V, S> {
+    /// A cache as `new` makes it, over hashers of the caller's.
+    ///
+    /// # Errors
+    ///
+    /// There is no memory.
+    pub fn with_hasher(
+        alloc: Global,
+        most_weight: usize,
+        most_entries: usize,
+        counted: usize,
+        hash_builder: S,
+    ) -> Result<Self, AllocError>
+        ensures { IfOk result (λ cache. cache ≡ watched (empty hash_builder most_weight most_entries) (fresh counted)) }
+    {
+        Ok(AskingCache {
+            cache: Cache::with_hasher(alloc, most_weight, most_entries, hash_builder)?,
+            sketch: Sketch::new(alloc, counted)?,
+        })
+    }
+}
+
 impl<K: Hash, V, S: BuildHasher> AskingCache<K, V, S> {
     /// The cache, for every call that changes nothing.
     pub fn cache(&self) -> &Cache<K, V, S>
