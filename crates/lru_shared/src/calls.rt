@@ -7,16 +7,13 @@ ghost use Rattle.lru_shared.specs.Shards.{home};
 ghost use Rattle.lru_shared.specs.Calls.{ShowsEntry, VisitsEach, GetsClone, GetsOrPuts, EndsMaking};
 
 use crate::one;
-use crate::shards::Shards;
+use crate::shards::{Shards, home_of};
 use lru_cache::cache::{Cache, Cause, Entry, Refused};
 use lru_index::alike::SameHashes;
 use lru_index::hashing::hash_of;
 use lru_index::keys::Query;
 use std::alloc::AllocError;
 use std::hash::{BuildHasher, Hash};
-
-// How many values the low bits of a hash have, by which its shard is told.
-const LOW: u64 = 4294967296;
 
 /// Why `get_or_put_with` answers no value.
 #[derive(Debug, Drop)]
@@ -28,17 +25,6 @@ pub enum NotGot<K, V, E> {
     Unmade(K, E),
     /// The entry was refused, or there is no memory to clone its value. Key and value are handed back.
     Refused(Refused<K, V>),
-}
-
-// The shard of a hash. It takes the low bits: the index of a shard takes the high ones, which so differ among the keys of a
-// shard as they do among all.
-#[inline(always)]
-pub(crate) fn home_of(shards: usize, hash: u64) -> usize
-    requires { 0 < shards }
-    ensures value { result ≡ home shards hash }
-    ensures below { result < shards }
-{
-    (hash % LOW) as usize % shards
 }
 
 // Whether what the query stands for has an entry.

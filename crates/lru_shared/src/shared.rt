@@ -1,10 +1,10 @@
 //! A cache that threads share.
-ghost use Rattle.std.specs.Prelude.{◌≡◌, ◌<◌, length, vec_len, true, IfOk, IfErr, IfSome};
+ghost use Rattle.std.specs.Prelude.{◌≡◌, ◌<◌, length, vec_len, true, IfErr, IfSome};
 ghost use Rattle.lru_shared.specs.Answers.{HandsBack, MayShow, MayLend, MayPut};
 
 use crate::calls;
 pub use crate::calls::NotGot;
-use crate::locked::{Locked, Shard, Shelf};
+use crate::locked::{Held, Locked, Shard, behind_locks};
 use crate::sharded::empty_caches;
 use crossbeam_utils::CachePadded;
 use lru_cache::cache::{Cache, Entry, Refused};
@@ -13,18 +13,18 @@ use lru_index::hashing::SeededHashes;
 use lru_index::keys::Query;
 use std::alloc::{AllocError, Global};
 use std::hash::{BuildHasher, Hash};
-use std::sync::{MutexGuard, Wait};
+use std::sync::Wait;
 
 /// A shard under its lock, which is held as long as this is there.
 #[derive(Drop)]
 pub struct LockedShard<'a, K: Hash, V, S: BuildHasher> {
-    shelf: MutexGuard<'a, Shelf<Cache<K, V, S>>>,
+    held: Held<'a, Cache<K, V, S>>,
 }
 
 impl<'a, K: Hash, V, S: BuildHasher> LockedShard<'a, K, V, S> {
     /// The entries of the shard, as they are while the lock is held.
     pub fn cache(&self) -> &Cache<K, V, S> {
-        &self.shelf.cache
+        self.held.cache()
     }
 }
 
@@ -47,20 +47,6 @@ pub struct SharedCache<K: Hash, V, const N: usize, S: BuildHasher = SeededHashes
     hash_builder: S,
     ghost some: { 0 < N },
     ghost has_shards: { vec_len shards ≡ N },
-}
-
-// Puts each of these caches behind a lock of its own.
-fn behind_locks<C: Drop>(
-    alloc: Global,
-    caches: Vec<C>,
-) -> Result<Vec<CachePadded<Shard<C>>>, AllocError>
-    ensures { IfOk result (λ shards. vec_len shards ≡ vec_len caches) }
-{
-    let mut shards = Vec::with_capacity(alloc, caches.len())?;
-    for cache in caches {
-        shards.push(CachePadded::new(Shard::new(alloc, cache)))?;
-    }
-    Ok(shards)
 }
 
 impl<K: Hash + Drop, V: Drop, const N: usize> SharedCache<K, V, N, SeededHashes> {
@@ -176,7 +162,7 @@ impl<K: Hash, V, const N: usize, S: BuildHasher> SharedCache<K, V, N, S> {
         requires { shard < N }
     {
         LockedShard {
-            shelf: self.shards[shard].shelf.lock(rt),
+            held: self.shards[shard].lock(rt),
         }
     }
 
