@@ -1,10 +1,10 @@
 //! The calls on keys and values that stand in shards, written once: of shards of one owner and of shards behind locks.
 ghost use Rattle.std.specs.Prelude.{◌≡◌, ◌<◌, ◌⊎◌, Ok, Err, None, is_some, length, IfOk, IfErr};
 ghost use Rattle.lru_index.specs.Hashing.{key_hash};
-ghost use Rattle.lru_cache.specs.Cache.{entry_of, without, with_entries, Puts, UpdatesEntry};
+ghost use Rattle.lru_cache.specs.Cache.{entry_of, without, with_entries, Puts, UpdatesEntry, Clears, Retains};
 ghost use Rattle.lru_entries.specs.Entries.{weight_of};
 ghost use Rattle.lru_shared.specs.Shards.{home};
-ghost use Rattle.lru_shared.specs.Calls.{ShowsEntry, VisitsEach, GetsClone, GetsOrPuts, EndsMaking};
+ghost use Rattle.lru_shared.specs.Calls.{ShowsEntry, VisitsEach, GetsClone, PutsMissing, GetsOrPuts, EndsMaking};
 
 use crate::one;
 use crate::shards::{Shards, home_of};
@@ -179,6 +179,50 @@ where
     )
 }
 
+// Lets all entries of a shard go.
+pub(crate) fn clear<K, V, S, T, F>(shards: &mut T, shard: usize, visit: F)
+where
+    K: Hash + Drop,
+    V: Drop,
+    S: BuildHasher,
+    T: Shards<Cache<K, V, S>>,
+    F: FnMut(Entry<K, V>) + Drop,
+    requires shard { shard < T.many shards.old }
+    requires visit { F.IsAlwaysCallable visit }
+    ensures acts { T.does shards.old shard (λ before after. Clears (λ p x q. F.step p x tt q) visit before after) shards.new }
+    ensures many { T.many shards.new ≡ T.many shards.old }
+{
+    shards.on(
+        shard,
+        |cache: &mut Cache<K, V, S>|
+            requires { F.IsAlwaysCallable visit }
+            ensures { Clears (λ p x q. F.step p x tt q) visit cache.old cache.new }
+        { cache.clear(visit) },
+    )
+}
+
+// Lets those entries of a shard go for which a test answers false.
+pub(crate) fn retain<K, V, S, T, F>(shards: &mut T, shard: usize, keep: F)
+where
+    K: Hash + Drop,
+    V: Drop,
+    S: BuildHasher,
+    T: Shards<Cache<K, V, S>>,
+    F: FnMut(&K, &V, usize) -> bool + Drop,
+    requires shard { shard < T.many shards.old }
+    requires keep { F.IsAlwaysCallable keep }
+    ensures acts { T.does shards.old shard (λ before after. Retains (λ p k v w b q. F.step p k v w b q) keep before after) shards.new }
+    ensures many { T.many shards.new ≡ T.many shards.old }
+{
+    shards.on(
+        shard,
+        |cache: &mut Cache<K, V, S>|
+            requires { F.IsAlwaysCallable keep }
+            ensures { Retains (λ p k v w b q. F.step p k v w b q) keep cache.old cache.new }
+        { cache.retain(keep) },
+    )
+}
+
 // Calls a closure with the key, the value and the weight of each entry of a shard, most recent first.
 pub(crate) fn visit_each<K, V, S, T, F>(shards: &T, shard: usize, visit: F)
 where
@@ -286,7 +330,8 @@ where
     )
 }
 
-// Puts what was made for a key, and answers a clone of its value. Who waits for it goes on in any case.
+// Puts what was made for a key, unless it has an entry by now, and answers a clone of its value. Who waits for it goes on in
+// any case.
 #[inline(always)]
 fn put_made<K, V, S, T, E, F>(
     shards: &mut T,
@@ -328,11 +373,11 @@ where
         |cache: &mut Cache<K, V, S>|
             requires hash { hash ≡ key_hash S.BuildHasher S.Hasher.Hasher K.hash_input hashes.now key }
             requires visit { F.IsAlwaysCallable visit }
-            ensures { Puts K.eq (λ p x q. F.step p x tt q) visit cache.old key value weight result cache.new }
-        { one::put(cache, key, value, weight, hash, hashes, visit) },
+            ensures { PutsMissing K.eq (λ p x q. F.step p x tt q) visit cache.old key value weight result cache.new }
+        { one::put_missing(cache, key, value, weight, hash, hashes, visit) },
     );
     match put {
-        Ok(_) => Ok(answer),
+        Ok(()) => Ok(answer),
         Err(refused) => Err(NotGot::Refused(refused)),
     }
 }

@@ -2,7 +2,7 @@
 ghost use Rattle.std.specs.Prelude.{◌≡◌, is_some};
 ghost use Rattle.lru_index.specs.Hashing.{key_hash};
 ghost use Rattle.lru_cache.specs.Cache.{entry_of, without, with_entries, Puts, UpdatesEntry};
-ghost use Rattle.lru_shared.specs.Calls.{ShowsEntry, VisitsEach, GetsClone};
+ghost use Rattle.lru_shared.specs.Calls.{ShowsEntry, VisitsEach, GetsClone, PutsMissing};
 
 use lru_cache::cache::{Cache, Entry, Refused};
 use lru_index::alike::SameHashes;
@@ -122,6 +122,35 @@ where
 {
     let own = cache.hash_as(&key, hash, hashes);
     cache.put_hashed(key, value, weight, own, visit)
+}
+
+// Puts what was made for a key that had no entry, unless it has one by now, which is newer: that one stays.
+#[inline(always)]
+pub(crate) fn put_missing<K, V, S, F>(
+    cache: &mut Cache<K, V, S>,
+    key: K,
+    value: V,
+    weight: usize,
+    hash: u64,
+    hashes: &S,
+    visit: F,
+) -> Result<(), Refused<K, V>>
+where
+    K: Hash + Drop,
+    V: Drop,
+    S: BuildHasher + SameHashes,
+    F: FnMut(Entry<K, V>) + Drop,
+    requires hash { hash ≡ key_hash S.BuildHasher S.Hasher.Hasher K.hash_input hashes.now key }
+    requires visit { F.IsAlwaysCallable visit }
+    ensures { PutsMissing K.eq (λ p x q. F.step p x tt q) visit cache.old key value weight result cache.new }
+{
+    if contains(cache, &key, hash, hashes) {
+        return Ok(());
+    }
+    match put(cache, key, value, weight, hash, hashes, visit) {
+        Ok(_) => Ok(()),
+        Err(refused) => Err(refused),
+    }
 }
 
 // Takes the entry out of what the query stands for.

@@ -1,6 +1,6 @@
 -- What a shard's answers follow from.
 use Rattle.std.proofs.Common.{◌≡◌, ℕ, List, [], ◌∷◌, Some, None, Ok, Err, inl, inr, refl, sym, ap, ◌∙◌, subst, true, false}
-use Rattle.std.specs.Prelude.{Bool, Option, Result, IfOk, is_some, reverse}
+use Rattle.std.specs.Prelude.{Bool, Option, Result, IfOk, IfSome, is_some, reverse}
 use Rattle.std.specs.Option.{option_map, option_map_or}
 use Rattle.std.specs.Borrow.{Bor, MutBor}
 use Rattle.std.specs.List.{FoldsTo}
@@ -15,6 +15,7 @@ use Rattle.lru_deadlines.specs.declared.deadlines.Until.{Until}
 use Rattle.lru_deadlines.specs.Deadlines.{living, RoomMade, UpdatesIfLiving}
 use Rattle.lru_deadlines.proofs.Living.{folds_at, room_at}
 use Rattle.lru_shared.specs.Counts.{looked}
+use Rattle.lru_shared.specs.Answers.{MayShow}
 use Rattle.lru_shared_deadlines.specs.declared.ages.Aged.{Aged}
 use Rattle.lru_shared_deadlines.specs.declared.ages.Moment.{Moment}
 use Rattle.lru_shared_deadlines.specs.Ages.{kept_until, begun}
@@ -26,6 +27,10 @@ module _ {K V : Type 0} where
       → (e : Ends K V) × ((found ≡ Some e) × ((l : Bor V) × ((l.now ≡ e.value.value.value) × post l answer)))
   shows post a lent answer None is at called = absurd (false≢true (sym (ap is_some is)))
   shows post a lent answer (Some e) is at called = (e, (refl, (lent, (at ∙ ap (λ (o : Option (Aged V)). (option_map_or (λ x. x) o a).value) is, called))))
+
+  pub may_show : {Q R : Type 0} (eq : K → Q → Bool) (post : Bor V → R → Type 0) (time : ℕ) (es : List (Ends K V)) (key : Q) (result : Option R) → ShowsLiving eq post time es key result → IfSome result (MayShow post)
+  may_show eq post time es key None h = tt
+  may_show eq post time es key (Some answer) (e, (found, (lent, (shows, called)))) = (lent, called)
 
   module _ {Q S : Type 0} (eq : K → Q → Bool) (m : Moment) (key : Q) where
     -- a closure that leaves the value as another may, and moves the deadline, lends as that one does

@@ -1,5 +1,5 @@
 -- What is answered of keys and values that end, in one shard and in many, and what is left there.
-use Rattle.std.specs.Prelude.{◌≡◌, ℕ, ◌-◌, ◌⊎◌, Bool, true, false, List, length, map, Option, Some, None, Result, Ok, Err, is_some, IsSome}
+use Rattle.std.specs.Prelude.{◌≡◌, ℕ, ◌-◌, ◌⊎◌, Bool, true, false, List, length, map, Option, Some, None, Result, Ok, Err, is_some}
 use Rattle.std.specs.List.{FoldsTo}
 use Rattle.std.specs.Borrow.{Bor, MutBor}
 use Rattle.std.specs.declared.alloc.AllocError.{AllocError}
@@ -129,9 +129,9 @@ module _ {K V : Type 0} where
     -- the same for a value that was made where the key had none, unless it has one by now, which is newer, and stays
     abbrev pub PutsMissing : F → (K → K → Bool) → Moment → ShardOf K V S → K → V → ℕ → Result (Unit {0}) (Refused K V) → ShardOf K V S → Type 0
     PutsMissing visit eq m before k v w (Ok told) after =
-        (IsSome (living eq m.time before.cache.entries k) × (after ≡ before))
-        ⊎ ((living eq m.time before.cache.entries k ≡ None) × ((was : Option (Ends K V)) × (PutsIn visit eq m before k v w (Ok was) after × HandsOver was)))
-    PutsMissing visit eq m before k v w (Err r) after = (living eq m.time before.cache.entries k ≡ None) × PutsIn visit eq m before k v w (Err r) after
+        ((is_some (living eq m.time before.cache.entries k) ≡ true) × (after ≡ before))
+        ⊎ ((is_some (living eq m.time before.cache.entries k) ≡ false) × ((was : Option (Ends K V)) × (PutsIn visit eq m before k v w (Ok was) after × HandsOver was)))
+    PutsMissing visit eq m before k v w (Err r) after = (is_some (living eq m.time before.cache.entries k) ≡ false) × PutsIn visit eq m before k v w (Err r) after
 
 -- ---- a value that is made where its key has none. `does` says what is known of all shards where that of the key is changed so
 module _ {K V S E F T : Type 0} (eq : K → K → Bool) (clones : V → V → Type 0) (Makes : Result (V × ℕ) E → Type 0) (Step : F → Ends K V → F → Type 0) (visit : F)

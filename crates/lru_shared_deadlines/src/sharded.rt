@@ -154,16 +154,6 @@ impl<K: Hash, V, const N: usize, S: BuildHasher> ShardedDeadlineCache<K, V, N, S
         self.ages
     }
 
-    // A time, and how long entries are answered.
-    fn at(&self, time: u64) -> Moment
-        ensures { result ≡ moment time self.now.ages }
-    {
-        Moment {
-            time,
-            ages: self.ages,
-        }
-    }
-
     /// How many entries a shard has, with those that are past.
     pub fn shard_len(&self, shard: usize) -> usize
         requires { shard < N }
@@ -249,7 +239,8 @@ impl<K: Hash, V, const N: usize, S: BuildHasher + SameHashes> ShardedDeadlineCac
         ensures ages { self.new.ages ≡ self.old.ages }
         ensures turn { self.new.turn ≡ self.old.turn }
     {
-        let moment = self.at(time);
+        let ages = self.ages;
+        let moment = Moment { time, ages };
         calls::get(&mut self.shards, &self.hash_builder, moment, query)
     }
 
@@ -268,7 +259,8 @@ impl<K: Hash, V, const N: usize, S: BuildHasher + SameHashes> ShardedDeadlineCac
         ensures ages { self.new.ages ≡ self.old.ages }
         ensures turn { self.new.turn ≡ self.old.turn }
     {
-        let moment = self.at(time);
+        let ages = self.ages;
+        let moment = Moment { time, ages };
         calls::lend(&mut self.shards, &self.hash_builder, moment, query, show)
     }
 }
@@ -302,7 +294,8 @@ impl<K: Hash + Drop, V: Drop, const N: usize, S: BuildHasher + SameHashes> Shard
         ensures ages { self.new.ages ≡ self.old.ages }
         ensures turn { self.new.turn ≡ self.old.turn }
     {
-        let moment = self.at(time);
+        let ages = self.ages;
+        let moment = Moment { time, ages };
         calls::put(
             &mut self.shards,
             &self.hash_builder,
@@ -351,7 +344,8 @@ impl<K: Hash + Drop, V: Drop, const N: usize, S: BuildHasher + SameHashes> Shard
         ensures ages { self.new.ages ≡ self.old.ages }
         ensures turn { self.new.turn ≡ self.old.turn }
     {
-        let moment = self.at(time);
+        let ages = self.ages;
+        let moment = Moment { time, ages };
         calls::get_or_put_with(
             &mut self.shards,
             &self.hash_builder,

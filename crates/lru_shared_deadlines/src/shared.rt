@@ -2,7 +2,7 @@
 ghost use Rattle.std.specs.Prelude.{◌≡◌, ◌<◌, length, vec_len, IfErr, IfSome};
 ghost use Rattle.lru_shared.specs.Answers.{HandsBack, MayShow};
 ghost use Rattle.lru_shared_deadlines.specs.Calls.{Lends, Gets, Takes, SweepsShard, ClearsShard, PutsIn};
-ghost use Rattle.lru_shared_deadlines.specs.Answers.{MayAct};
+ghost use Rattle.lru_shared_deadlines.specs.Answers.{MayAct, MayChange};
 
 use crate::ages::Moment;
 pub use crate::ages::{Aged, Ages, Gone};
@@ -122,16 +122,6 @@ impl<K: Hash, V, const N: usize, S: BuildHasher> SharedDeadlineCache<K, V, N, S>
         self.ages
     }
 
-    // A time, and how long entries are answered.
-    fn at(&self, time: u64) -> Moment
-        ensures { result.time ≡ time }
-    {
-        Moment {
-            time,
-            ages: self.ages,
-        }
-    }
-
     // The shards behind their locks, for which a call waits.
     #[inline(always)]
     fn locked<'a, W: Wait>(&'a self, rt: &'a W) -> Locked<'a, Shard<K, V, S>, W>
@@ -233,7 +223,8 @@ impl<K: Hash, V, const N: usize, S: BuildHasher + SameHashes> SharedDeadlineCach
         V: Clone,
         ensures { MayAct K V S time (λ m before after. Gets Q.stands_for V.is_clone m before query result after) }
     {
-        let moment = self.at(time);
+        let ages = self.ages;
+        let moment = Moment { time, ages };
         calls::get(&mut self.locked(rt), &self.hash_builder, moment, query)
     }
 
@@ -249,7 +240,8 @@ impl<K: Hash, V, const N: usize, S: BuildHasher + SameHashes> SharedDeadlineCach
         requires { F.IsAlwaysCallable show }
         ensures { MayAct K V S time (λ m before after. Lends Q.stands_for (F.post show) m before query result after) }
     {
-        let moment = self.at(time);
+        let ages = self.ages;
+        let moment = Moment { time, ages };
         calls::lend(
             &mut self.locked(rt),
             &self.hash_builder,
@@ -286,7 +278,8 @@ impl<K: Hash + Drop, V: Drop, const N: usize, S: BuildHasher + SameHashes> Share
         requires visit { (f : _) (x : _) → F.pre f x }
         ensures { MayAct K V S time (λ m before after. PutsIn (λ p x q. F.step p x tt q) visit K.eq m before key value weight result after) }
     {
-        let moment = self.at(time);
+        let ages = self.ages;
+        let moment = Moment { time, ages };
         calls::put(
             &mut self.locked(rt),
             &self.hash_builder,
@@ -300,7 +293,7 @@ impl<K: Hash + Drop, V: Drop, const N: usize, S: BuildHasher + SameHashes> Share
 
     /// Takes a key's entry out, by what stands for the key, also where it is past.
     pub fn remove<Q: Query<K>>(&self, rt: &impl Wait, query: Q) -> Option<Gone<K, V>>
-        ensures { MayAct K V S 0 (λ m before after. Takes Q.stands_for before query result after) }
+        ensures { MayChange K V S (λ before after. Takes Q.stands_for before query result after) }
     {
         calls::remove(&mut self.locked(rt), &self.hash_builder, query)
     }
@@ -334,7 +327,8 @@ impl<K: Hash + Drop, V: Drop, const N: usize, S: BuildHasher + SameHashes> Share
         requires visit { (f : _) (x : _) → F.pre f x }
         ensures { IfErr result (HandsBack (M.post make) key) }
     {
-        let moment = self.at(time);
+        let ages = self.ages;
+        let moment = Moment { time, ages };
         calls::get_or_put_with(
             &mut self.locked(rt),
             &self.hash_builder,
@@ -358,7 +352,7 @@ impl<K: Hash + Drop, V: Drop, const N: usize, S: BuildHasher> SharedDeadlineCach
         visit: F,
     )
         requires { F.IsAlwaysCallable visit }
-        ensures { MayAct K V S time (λ m before after. SweepsShard (λ p x q. F.step p x tt q) visit time most before after) }
+        ensures { MayChange K V S (λ before after. SweepsShard (λ p x q. F.step p x tt q) visit time most before after) }
     {
         let shard = self.turn.fetch_add(1, Ordering::SeqCst) % N;
         calls::sweep(&mut self.locked(rt), shard, time, most, visit);
@@ -368,7 +362,7 @@ impl<K: Hash + Drop, V: Drop, const N: usize, S: BuildHasher> SharedDeadlineCach
     pub fn clear_shard<F: FnMut(Gone<K, V>) + Drop>(&self, rt: &impl Wait, shard: usize, visit: F)
         requires shard { shard < N }
         requires visit { F.IsAlwaysCallable visit }
-        ensures { MayAct K V S 0 (λ m before after. ClearsShard (λ p x q. F.step p x tt q) visit before after) }
+        ensures { MayChange K V S (λ before after. ClearsShard (λ p x q. F.step p x tt q) visit before after) }
     {
         calls::clear(&mut self.locked(rt), shard, visit);
     }

@@ -94,8 +94,8 @@ fn past_goes_first(alloc: Global) -> Result<bool, AllocError> {
         }
         && stats.for_room
             == Left {
-                entries: 2,
-                weight: 2,
+                entries: 1,
+                weight: 1,
             };
     Ok(none && past && living && both && is_counted)
 }
