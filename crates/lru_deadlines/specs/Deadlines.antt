@@ -1,5 +1,5 @@
 -- A cache whose entries have deadlines: what is answered at a time, and what goes.
-use Rattle.std.specs.Prelude.{◌≡◌, ℕ, ◌-◌, nat_lt, nat_le, ◌&&◌, Bool, true, false, not, List, ◌++◌, length, take, drop, filter, ◌⊎◌, ◌∷◌, Option, Some, None, Result, Ok, Err, is_some, if◌then◌else◌}
+use Rattle.std.specs.Prelude.{◌≡◌, ℕ, ◌-◌, nat_lt, nat_le, ◌&&◌, Bool, not, List, [], ◌++◌, length, take, drop, filter, ◌⊎◌, ◌∷◌, Option, Some, None, Result, Ok, Err, is_some, if◌then◌else◌}
 use Rattle.std.specs.Borrow.{MutBor}
 use Rattle.lru_entries.specs.declared.entry.Entry.{Entry}
 use Rattle.lru_rows.specs.Rows.{Updates}
@@ -43,13 +43,16 @@ module _ {K V : Type 0} where
   abbrev pub has_room : {S : Type 0} → ℕ → Cached K (Until V) S → Bool
   has_room w c = nat_le w c.most_weight && nat_le (weight_of c.entries) (c.most_weight - w) && nat_lt (length c.entries) c.most_entries
 
-  -- where there is room, nothing goes; else those of the last entries that are past their deadline
-  abbrev pub RoomMade : {F S : Type 0} → (F → Entry K (Until V) → F → Type 0) → F → ℕ → Cached K (Until V) S → Cached K (Until V) S → Bool → Type 0
-  RoomMade Step visit time old new true = new ≡ old
-  RoomMade Step visit time old new false = Sweeps Step visit time look old new
+  -- what goes so that an entry of this weight has room: those of the last entries that are past their deadline, where it has none
+  abbrev pub gone_for_room : {S : Type 0} → ℕ → ℕ → Cached K (Until V) S → List (Entry K (Until V))
+  gone_for_room time w c = if has_room w c then [] else filter (is_past time) (last_of look c.entries)
+
+  -- what is left then
+  abbrev pub left_for_room : {S : Type 0} → ℕ → ℕ → Cached K (Until V) S → Cached K (Until V) S
+  left_for_room time w c = if has_room w c then c else with_entries c (before_last look c.entries ++ filter (λ e. not (is_past time e)) (last_of look c.entries))
 
   abbrev pub MakesRoom : {F S : Type 0} → (F → Entry K (Until V) → F → Type 0) → F → ℕ → ℕ → Cached K (Until V) S → Cached K (Until V) S → Type 0
-  MakesRoom Step visit time w old new = RoomMade Step visit time old new (has_room w old)
+  MakesRoom Step visit time w old new = IsShown Step visit (gone_for_room time w old) × (new ≡ left_for_room time w old)
 
   -- room is made for an entry, and then it is put. Of the closure is not said in which state the first calls leave it
   abbrev pub PutsAt : {F S : Type 0} → (K → K → Bool) → (F → Entry K (Until V) → F → Type 0) → F → ℕ → Cached K (Until V) S → K → Until V → ℕ → Result (Option (Entry K (Until V))) (Refused K (Until V)) → Cached K (Until V) S → Type 0

@@ -381,9 +381,10 @@ impl<K: Hash + Drop, V: Drop, S: BuildHasher> DeadlineCache<K, V, S> {
         requires { F.IsAlwaysCallable visit }
         ensures { MakesRoom (λ p x q. F.step p x tt q) visit time weight self.old self.new }
     {
-        if !self.has_room(weight) {
-            self.sweep(time, LOOK, visit);
+        if self.has_room(weight) {
+            return;
         }
+        self.sweep(time, LOOK, visit);
     }
 
     /// Uses a key: its entry goes first. It answers whether there is one.

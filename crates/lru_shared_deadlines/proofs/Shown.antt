@@ -70,19 +70,20 @@ module _ {K V : Type 0} where
         )
 
 -- calls of a closure that calls another
-module _ {K V S P F : Type 0} (R : P → Ends K V → P → Type 0) (T : F → Ends K V → F → Type 0) (get : P → F) (each : (p : P) (e : Ends K V) (q : P) → R p e q → T (get p) e (get q)) where
-  pub makes_room_at : (visit : P) (time w : ℕ) (before after : ShardOf K V S) → MakesShardRoom R visit time w before after → MakesShardRoom T (get visit) time w before after
-  makes_room_at visit time w before after (makes, counted) = (room_at R T get each visit time before.cache after.cache _ makes, counted)
+pub makes_room_at : {K V S P F : Type 0} (R : P → Ends K V → P → Type 0) (visit : P) (time w : ℕ) (before after : ShardOf K V S) → MakesShardRoom R visit time w before after → (T : F → Ends K V → F → Type 0) (get : P → F)
+    → ((p : P) (e : Ends K V) (q : P) → R p e q → T (get p) e (get q)) → MakesShardRoom T (get visit) time w before after
+makes_room_at R visit time w before after (makes, counted) T get each = (room_at R visit time before.cache after.cache _ makes T get each, counted)
 
-  pub places_at : (visit : P) (eq : K → K → Bool) (m : Moment) (before : ShardOf K V S) (k : K) (v : V) (w : ℕ) (result : Result (Option (Ends K V)) (Refused K V)) (after : ShardOf K V S)
-      → Places R visit eq m before k v w result after → Places T (get visit) eq m before k v w result after
-  places_at visit eq m before k v w (Ok was) after ((fits, (had, (front, (gone, (leaves, (shown, is)))))), counted) =
-      ((fits, (had, (front, (gone, (leaves, ((get shown.0, folds_at R T get each _ visit shown.0 shown.1), is)))))), counted)
-  places_at visit eq m before k v w (Err r) after h = h
+places_at : {K V S P F : Type 0} (R : P → Ends K V → P → Type 0) (visit : P) (eq : K → K → Bool) (m : Moment) (before : ShardOf K V S) (k : K) (v : V) (w : ℕ) (result : Result (Option (Ends K V)) (Refused K V)) (after : ShardOf K V S)
+    → Places R visit eq m before k v w result after → (T : F → Ends K V → F → Type 0) (get : P → F) → ((p : P) (e : Ends K V) (q : P) → R p e q → T (get p) e (get q)) → Places T (get visit) eq m before k v w result after
+places_at R visit eq m before k v w (Ok was) after ((fits, (had, (front, (gone, (leaves, (shown, is)))))), counted) T get each =
+    ((fits, (had, (front, (gone, (leaves, ((get shown.0, folds_at R T get each _ visit shown.0 shown.1), is)))))), counted)
+places_at R visit eq m before k v w (Err r) after h T get each = h
 
-  pub puts_at : (visit : P) (eq : K → K → Bool) (m : Moment) (before : ShardOf K V S) (k : K) (v : V) (w : ℕ) (result : Result (Option (Ends K V)) (Refused K V)) (after : ShardOf K V S)
-      → PutsIn R visit eq m before k v w result after → PutsIn T (get visit) eq m before k v w result after
-  puts_at visit eq m before k v w result after (mid, (makes, (seen, places))) = (mid, (makes_room_at visit m.time w before mid makes, (get seen, places_at seen eq m mid k v w result after places)))
+pub puts_at : {K V S P F : Type 0} (R : P → Ends K V → P → Type 0) (visit : P) (eq : K → K → Bool) (m : Moment) (before : ShardOf K V S) (k : K) (v : V) (w : ℕ) (result : Result (Option (Ends K V)) (Refused K V)) (after : ShardOf K V S)
+    → PutsIn R visit eq m before k v w result after → (T : F → Ends K V → F → Type 0) (get : P → F) → ((p : P) (e : Ends K V) (q : P) → R p e q → T (get p) e (get q)) → PutsIn T (get visit) eq m before k v w result after
+puts_at R visit eq m before k v w result after (mid, (makes, (seen, places))) T get each =
+    (mid, (makes_room_at R visit m.time w before mid makes T get each, (get seen, places_at R seen eq m mid k v w result after places T get each)))
 
 -- what is handed back of a refused entry is what was to be put
 pub refuses : {K V S F : Type 0} (Step : F → Ends K V → F → Type 0) (visit : F) (eq : K → K → Bool) (m : Moment) (before : Cached K (Until (Aged V)) S) (k : K) (v : V) (w : ℕ) (r : Refused K (Until (Aged V))) (after : Cached K (Until (Aged V)) S)
