@@ -197,7 +197,7 @@ where
         |cache: &mut Cache<K, V, S>|
             requires { F.IsAlwaysCallable visit }
             ensures { Clears (λ p x q. F.step p x tt q) visit cache.old cache.new }
-        { cache.clear(visit) },
+        { one::clear(cache, visit) },
     )
 }
 
@@ -219,7 +219,7 @@ where
         |cache: &mut Cache<K, V, S>|
             requires { F.IsAlwaysCallable keep }
             ensures { Retains (λ p k v w b q. F.step p k v w b q) keep cache.old cache.new }
-        { cache.retain(keep) },
+        { one::retain(cache, keep) },
     )
 }
 

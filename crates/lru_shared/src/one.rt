@@ -1,7 +1,7 @@
 //! What is done to the cache of one shard, by a hash that was made to tell the shard.
 ghost use Rattle.std.specs.Prelude.{◌≡◌, is_some};
 ghost use Rattle.lru_index.specs.Hashing.{key_hash};
-ghost use Rattle.lru_cache.specs.Cache.{entry_of, without, with_entries, Puts, UpdatesEntry};
+ghost use Rattle.lru_cache.specs.Cache.{entry_of, without, with_entries, Puts, UpdatesEntry, Clears, Retains};
 ghost use Rattle.lru_shared.specs.Calls.{ShowsEntry, VisitsEach, GetsClone, PutsMissing};
 
 use lru_cache::cache::{Cache, Entry, Refused};
@@ -172,6 +172,32 @@ where
 {
     let own = cache.hash_as(&query, hash, hashes);
     cache.remove_hashed(query, own)
+}
+
+// Lets all entries go.
+pub(crate) fn clear<K, V, S, F>(cache: &mut Cache<K, V, S>, visit: F)
+where
+    K: Hash + Drop,
+    V: Drop,
+    S: BuildHasher,
+    F: FnMut(Entry<K, V>) + Drop,
+    requires { F.IsAlwaysCallable visit }
+    ensures { Clears (λ p x q. F.step p x tt q) visit cache.old cache.new }
+{
+    cache.clear(visit);
+}
+
+// Lets those entries go for which a test answers false.
+pub(crate) fn retain<K, V, S, F>(cache: &mut Cache<K, V, S>, keep: F)
+where
+    K: Hash + Drop,
+    V: Drop,
+    S: BuildHasher,
+    F: FnMut(&K, &V, usize) -> bool + Drop,
+    requires { F.IsAlwaysCallable keep }
+    ensures { Retains (λ p k v w b q. F.step p k v w b q) keep cache.old cache.new }
+{
+    cache.retain(keep);
 }
 
 // Calls a closure with the key, the value and the weight of each entry, most recent first.

@@ -120,7 +120,8 @@ where
         hashes,
         |value: &mut V, _weight: usize| value.clone(),
     ) {
-        Some(cloned) => Ok(Some(cloned?)),
+        Some(Ok(value)) => Ok(Some(value)),
+        Some(Err(error)) => Err(error),
         None => Ok(None),
     }
 }
@@ -268,7 +269,7 @@ where
     if contains(shard, moment.time, &key, hash, hashes) {
         return Ok(());
     }
-    let put = put(
+    let told = put(
         shard,
         moment,
         key,
@@ -278,7 +279,7 @@ where
         hashes,
         |gone: Gone<K, V>| visit(gone),
     );
-    match put {
+    match told {
         Ok(Some(past)) => {
             visit(past);
             Ok(())

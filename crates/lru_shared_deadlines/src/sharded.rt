@@ -73,6 +73,19 @@ pub(crate) fn empty_shards<K: Hash + Drop, V: Drop, S: BuildHasher + Copy + Drop
     Ok(made)
 }
 
+// What the calls on these shards met.
+fn total<K: Hash, V, S: BuildHasher>(shards: &[Shard<K, V, S>]) -> Counts
+    ensures { result ≡ total shards.now }
+{
+    let mut stats = Counts::none();
+    let mut rest = shards;
+    while let Some((shard, others)) = rest.split_first() {
+        stats = stats.plus(shard.counts);
+        rest = others;
+    }
+    stats
+}
+
 impl<K: Hash + Drop, V: Drop, const N: usize> ShardedDeadlineCache<K, V, N, SeededHashes> {
     /// A cache of no entries, under limits that are divided among the shards. The seed of the hashes stays the same from run to
     /// run.
@@ -182,11 +195,7 @@ impl<K: Hash, V, const N: usize, S: BuildHasher> ShardedDeadlineCache<K, V, N, S
     pub fn stats(&self) -> Counts
         ensures { result ≡ total self.now.shards }
     {
-        let mut stats = Counts::none();
-        for shard in &self.shards.shards {
-            stats = stats.plus(shard.counts);
-        }
-        stats
+        total(&self.shards.shards)
     }
 
     /// Calls a closure with the key, the value with its deadline, and the weight of each entry of a shard, most recent first,
