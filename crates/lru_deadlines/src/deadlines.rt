@@ -1,18 +1,23 @@
 //! A cache of one owner, whose entries have deadlines.
-ghost use Rattle.std.specs.Prelude.{◌≡◌, length, map, is_some, nat_eq, nat_lt, IfOk};
+ghost use Rattle.std.specs.Prelude.{◌≡◌, ◌+◌, ◌≤◌, length, map, is_some, nat_eq, nat_lt, IfOk};
 ghost use Rattle.std.specs.Option.{option_map, option_copied};
-ghost use Rattle.lru_index.specs.Hashing.{seeded, unseeded};
-ghost use Rattle.lru_cache.specs.Cache.{empty, hashes_from, entry_of, without, with_entries, parts_of, IsCache, Puts, PopsLast, Clears};
+ghost use Rattle.lru_index.specs.Hashing.{key_hash, seeded, unseeded};
+ghost use Rattle.lru_rows.specs.Rows.{most_rows};
+ghost use Rattle.lru_cache.specs.Cache.{empty, hashes_from, entry_of, without, demoted, with_entries, parts_of, IsCache, Puts, PopsLast, PopsFirst, Limits, Clears, Drains, Retains};
 ghost use Rattle.lru_entries.specs.Entries.{weight_of};
-ghost use Rattle.lru_deadlines.specs.Deadlines.{until, living, PromotesLiving, UpdatesLiving, TakesPast, Sweeps};
+ghost use Rattle.lru_deadlines.specs.Deadlines.{until, living, has_room, PromotesLiving, UpdatesLiving, UpdatesIfLiving, ReweighsLiving, UsesOrPutsLiving, TakesPast, Sweeps, MakesRoom, PutsAt};
 
-use lru_cache::cache::{Cache, Entry, Refused};
+use lru_cache::cache::{Cache, Entry, NotPut, Refused};
+use lru_index::alike::SameHashes;
 use lru_index::hashing::SeededHashes;
 use lru_index::keys::Query;
-use lru_pairs::iter::PairsEntries;
+use lru_pairs::iter::{PairsEntries, PairsKeys};
 use std::alloc::{AllocError, Global};
 use std::hash::{BuildHasher, Hash};
 use std::marker::Model;
+
+/// How many of the entries that were used longest ago `put_at` looks at, where it has to make room.
+pub const LOOK: usize = 4;
 
 /// A value, and until when it is answered.
 #[derive(Debug, Drop)]
@@ -197,11 +202,96 @@ impl<K: Hash, V, S: BuildHasher> DeadlineCache<K, V, S> {
     fn find<Q: Query<K>>(&self, time: u64, query: Q) -> Option<&Until<V>>
         ensures { option_copied result ≡ option_map (λ e. e.value) (living Q.stands_for time self.now.entries query) }
     {
-        let until = self.cache.peek_by(query)?;
+        self.find_hashed(time, query, self.cache.hash_of(&query))
+    }
+
+    // The same, where the query's hash is known.
+    #[inline(always)]
+    fn find_hashed<Q: Query<K>>(&self, time: u64, query: Q, hash: u64) -> Option<&Until<V>>
+        requires { hash ≡ key_hash S.BuildHasher S.Hasher.Hasher Q.hash_input self.now.hashes query }
+        ensures { option_copied result ≡ option_map (λ e. e.value) (living Q.stands_for time self.now.entries query) }
+    {
+        let until = self.cache.peek_hashed(query, hash)?;
         if until.is_past(time) {
             return None;
         }
         Some(until)
+    }
+
+    /// The hash of a query as this cache makes it, where a hash of it is known, and what made that: unless that hashes
+    /// otherwise than this cache does, the query is not hashed again. The calls by `.._hashed` take it.
+    #[inline(always)]
+    pub fn hash_as<Q: Hash>(&self, query: &Q, hash: u64, hashes: &S) -> u64
+    where
+        S: SameHashes,
+        requires { hash ≡ key_hash S.BuildHasher S.Hasher.Hasher Q.hash_input hashes.now query.now }
+        ensures { result ≡ key_hash S.BuildHasher S.Hasher.Hasher Q.hash_input self.now.hashes query.now }
+    {
+        self.cache.hash_as(query, hash, hashes)
+    }
+
+    /// `contains_by`, where the query's hash is known.
+    #[inline(always)]
+    pub fn contains_hashed<Q: Query<K>>(&self, time: u64, query: Q, hash: u64) -> bool
+        requires { hash ≡ key_hash S.BuildHasher S.Hasher.Hasher Q.hash_input self.now.hashes query }
+        ensures { result ≡ is_some (living Q.stands_for time self.now.entries query) }
+    {
+        self.find_hashed(time, query, hash).is_some()
+    }
+
+    /// `peek_by`, where the query's hash is known.
+    #[inline(always)]
+    pub fn peek_hashed<Q: Query<K>>(&self, time: u64, query: Q, hash: u64) -> Option<&V>
+        requires { hash ≡ key_hash S.BuildHasher S.Hasher.Hasher Q.hash_input self.now.hashes query }
+        ensures { option_copied result ≡ option_map (λ e. e.value.value) (living Q.stands_for time self.now.entries query) }
+    {
+        let until = self.find_hashed(time, query, hash)?;
+        Some(&until.value)
+    }
+
+    /// Uses a key, by what stands for it and a hash that is known, lends its value and its deadline to `update` with its
+    /// weight, and answers what `update` does, which may change both. Its weight stays. A key without an entry, and one
+    /// whose entry is past its deadline, is answered by `None`: nothing is called, and the entry stays where it is.
+    #[inline(always)]
+    pub fn update_hashed<Q: Query<K>, R, U: FnOnce(&mut Until<V>, usize) -> R + Drop>(
+        &mut self,
+        time: u64,
+        query: Q,
+        hash: u64,
+        update: U,
+    ) -> Option<R>
+        requires hash { hash ≡ key_hash S.BuildHasher S.Hasher.Hasher Q.hash_input self.old.hashes query }
+        requires update { U.IsAlwaysCallable update }
+        ensures { UpdatesIfLiving Q.stands_for (U.post update) time self.old query result self.new }
+    {
+        if !self.contains_hashed(time, query, hash) {
+            return None;
+        }
+        self.cache.update_hashed(query, hash, update)
+    }
+
+    // Whether an entry of this weight has room beside all that are there.
+    fn has_room(&self, weight: usize) -> bool
+        ensures { result ≡ has_room weight self.now }
+    {
+        let most = self.most_weight();
+        weight <= most && self.weight() <= most - weight && self.len() < self.most_entries()
+    }
+
+    /// The keys, most recent first, with those whose entries are past their deadline.
+    pub fn keys(&self) -> PairsKeys<'_, K, Until<V>>
+        ensures { result ≡ map (λ e. e.key) self.now.entries }
+    {
+        self.cache.keys()
+    }
+
+    /// Puts a key's entry last, so that it is the next to go, also where it is past its deadline. It answers whether there
+    /// is one.
+    pub fn demote(&mut self, key: &K) -> bool
+        ensures answer { result ≡ is_some (entry_of K.eq self.old.entries key.now) }
+        ensures entries { self.new ≡ with_entries self.old (demoted K.eq self.old.entries key.now) }
+    {
+        self.cache.demote(key)
     }
 
     /// The key, the value with its deadline, and the weight of each entry, most recent first, with those that are past their
@@ -234,6 +324,67 @@ impl<K: Hash + Drop, V: Drop, S: BuildHasher> DeadlineCache<K, V, S> {
     {
         self.cache
             .put(key, Until { value, deadline }, weight, visit)
+    }
+
+    /// Puts an entry as `put_until` does, but for what goes: where it has no room beside all that are there, the last `LOOK`
+    /// entries are looked at first, those that were used longest ago, and of those go that are past their deadline, each
+    /// handed to `visit`. So what is past goes before what lives, as far as it is looked for. The look takes a time that
+    /// doesn't grow with the entries.
+    ///
+    /// # Errors
+    ///
+    /// As for `put` of a `Cache`. Key and value are handed back, and no entry goes but those.
+    pub fn put_at<F: FnMut(Entry<K, Until<V>>) + Drop>(
+        &mut self,
+        time: u64,
+        key: K,
+        until: Until<V>,
+        weight: usize,
+        mut visit: F,
+    ) -> Result<Option<Entry<K, Until<V>>>, Refused<K, Until<V>>>
+        requires visit { (f : _) (x : _) → F.pre f x }
+        ensures { PutsAt K.eq (λ p x q. F.step p x tt q) visit time self.old key until weight result self.new }
+    {
+        self.make_room(time, weight, |entry: Entry<K, Until<V>>| visit(entry));
+        self.cache.put(key, until, weight, visit)
+    }
+
+    /// `put_until`, where the key's hash is known.
+    ///
+    /// # Errors
+    ///
+    /// As for `put_until`.
+    #[inline(always)]
+    pub fn put_hashed<F: FnMut(Entry<K, Until<V>>) + Drop>(
+        &mut self,
+        key: K,
+        until: Until<V>,
+        weight: usize,
+        hash: u64,
+        visit: F,
+    ) -> Result<Option<Entry<K, Until<V>>>, Refused<K, Until<V>>>
+        requires hash { hash ≡ key_hash S.BuildHasher S.Hasher.Hasher K.hash_input self.old.hashes key }
+        requires visit { F.IsAlwaysCallable visit }
+        ensures { Puts K.eq (λ p x q. F.step p x tt q) visit self.old key until weight result self.new }
+    {
+        self.cache.put_hashed(key, until, weight, hash, visit)
+    }
+
+    /// Where an entry of this weight has no room beside all that are there, looks at the `LOOK` entries that were used longest
+    /// ago, takes those out that are past their deadline, and hands each to `visit`. The others stay where they are.
+    pub fn make_room<F: FnMut(Entry<K, Until<V>>) + Drop>(
+        &mut self,
+        time: u64,
+        weight: usize,
+        visit: F,
+    )
+        requires { F.IsAlwaysCallable visit }
+        ensures { MakesRoom (λ p x q. F.step p x tt q) visit time weight self.old self.new }
+    {
+        if self.has_room(weight) {
+            return;
+        }
+        self.sweep(time, LOOK, visit);
     }
 
     /// Uses a key: its entry goes first. It answers whether there is one.
@@ -303,6 +454,98 @@ impl<K: Hash + Drop, V: Drop, S: BuildHasher> DeadlineCache<K, V, S> {
         }
     }
 
+    /// Uses a key, lends its value and its deadline to `change` with its weight, and gives it the weight that `change`
+    /// answers. Then the entries that were used longest ago go, as many as have to for the others to be within the limits,
+    /// and each is handed to `visit`. It answers whether the key has an entry. Where it has none, nothing is called.
+    ///
+    /// # Errors
+    ///
+    /// The entry is past its deadline, and is handed over, and nothing is called; or it is too heavy by itself then, and is
+    /// handed back as it is then. It goes in either case, and no other does.
+    pub fn reweigh<U, F>(
+        &mut self,
+        time: u64,
+        key: &K,
+        change: U,
+        visit: F,
+    ) -> Result<bool, Entry<K, Until<V>>>
+    where
+        U: FnOnce(&mut Until<V>, usize) -> usize + Drop,
+        F: FnMut(Entry<K, Until<V>>) + Drop,
+        requires change { U.IsAlwaysCallable change }
+        requires visit { F.IsAlwaysCallable visit }
+        ensures { ReweighsLiving K.eq (U.post change) (λ p x q. F.step p x tt q) visit time self.old key.now result self.new }
+    {
+        match self.take_past(time, key) {
+            Some(past) => Err(past),
+            None => self.cache.reweigh(key, change, visit),
+        }
+    }
+
+    /// Uses a key, and answers true; or puts an entry of it that `make` makes, value and deadline and weight, as `put_until`
+    /// does, and answers false. `make` is called only where the key has no entry that is in its time. One that is past its
+    /// deadline is taken out first, and is handed to `visit`.
+    ///
+    /// # Errors
+    ///
+    /// `make` made none, or the entry was refused. What is not put is handed back, and no entry goes but one of this key that
+    /// is past its deadline.
+    pub fn use_or_put<E: Drop, M, F>(
+        &mut self,
+        time: u64,
+        key: K,
+        make: M,
+        mut visit: F,
+    ) -> Result<bool, NotPut<K, Until<V>, E>>
+    where
+        M: FnOnce() -> Result<(Until<V>, usize), E> + Drop,
+        F: FnMut(Entry<K, Until<V>>) + Drop,
+        requires make { M.IsAlwaysCallable make }
+        requires visit { (f : _) (x : _) → F.pre f x }
+        ensures { UsesOrPutsLiving K.eq (M.post make) (λ p x q. F.step p x tt q) visit time self.old key result self.new }
+    {
+        if let Some(past) = self.take_past(time, &key) {
+            visit(past);
+            return self.cache.use_or_put(key, make, visit);
+        }
+        self.cache.use_or_put(key, make, visit)
+    }
+
+    /// Makes room for `additional` more entries. Nothing else changes, also where it is refused.
+    ///
+    /// # Errors
+    ///
+    /// There is no memory for that many, or there can't be as many entries.
+    pub fn reserve(&mut self, additional: usize) -> Result<(), AllocError>
+        ensures same { self.new ≡ self.old }
+        ensures room { IfOk result (λ _. length self.new.entries + additional ≤ most_rows) }
+    {
+        self.cache.reserve(additional)
+    }
+
+    /// Gives the cache other limits. Then the entries that were used longest ago go, as many as have to, and each is handed
+    /// to `visit`.
+    pub fn set_limits<F: FnMut(Entry<K, Until<V>>) + Drop>(
+        &mut self,
+        most_weight: usize,
+        most_entries: usize,
+        visit: F,
+    )
+        requires { F.IsAlwaysCallable visit }
+        ensures { Limits (λ p x q. F.step p x tt q) visit self.old most_weight most_entries self.new }
+    {
+        self.cache.set_limits(most_weight, most_entries, visit);
+    }
+
+    /// Asks `keep` of each entry, the one that was used longest ago first, by its key, its value with its deadline, and its
+    /// weight, and lets those go for which it answers false. The others stay, in their order.
+    pub fn retain<F: FnMut(&K, &Until<V>, usize) -> bool + Drop>(&mut self, keep: F)
+        requires { F.IsAlwaysCallable keep }
+        ensures { Retains (λ p k v w b q. F.step p k v w b q) keep self.old self.new }
+    {
+        self.cache.retain(keep);
+    }
+
     // Takes a key's entry out where it is past its deadline.
     fn take_past<Q: Query<K>>(&mut self, time: u64, query: Q) -> Option<Entry<K, Until<V>>>
         ensures { TakesPast Q.stands_for time self.old query result self.new }
@@ -342,11 +585,28 @@ impl<K: Hash + Drop, V: Drop, S: BuildHasher> DeadlineCache<K, V, S> {
         self.cache.remove_by(query)
     }
 
+    /// `remove_by`, where the query's hash is known.
+    #[inline(always)]
+    pub fn remove_hashed<Q: Query<K>>(&mut self, query: Q, hash: u64) -> Option<Entry<K, Until<V>>>
+        requires { hash ≡ key_hash S.BuildHasher S.Hasher.Hasher Q.hash_input self.old.hashes query }
+        ensures answer { result ≡ entry_of Q.stands_for self.old.entries query }
+        ensures entries { self.new ≡ with_entries self.old (without Q.stands_for self.old.entries query) }
+    {
+        self.cache.remove_hashed(query, hash)
+    }
+
     /// Takes the entry out that was used longest ago, also where it is past its deadline.
     pub fn pop_last(&mut self) -> Option<Entry<K, Until<V>>>
         ensures { PopsLast self.old result self.new }
     {
         self.cache.pop_last()
+    }
+
+    /// Takes the entry out that was used last, also where it is past its deadline.
+    pub fn pop_first(&mut self) -> Option<Entry<K, Until<V>>>
+        ensures { PopsFirst self.old result self.new }
+    {
+        self.cache.pop_first()
     }
 
     /// Lets all entries go, the one that was used longest ago first, and hands each to `visit`. The limits stay, and so do
@@ -356,5 +616,14 @@ impl<K: Hash + Drop, V: Drop, S: BuildHasher> DeadlineCache<K, V, S> {
         ensures { Clears (λ p x q. F.step p x tt q) visit self.old self.new }
     {
         self.cache.clear(visit);
+    }
+
+    /// Lets all entries go, the one that was used last first, and hands each to `visit`. The limits stay, and so do the
+    /// places, as for `clear`.
+    pub fn drain<F: FnMut(Entry<K, Until<V>>) + Drop>(&mut self, visit: F)
+        requires { F.IsAlwaysCallable visit }
+        ensures { Drains (λ p x q. F.step p x tt q) visit self.old self.new }
+    {
+        self.cache.drain(visit);
     }
 }

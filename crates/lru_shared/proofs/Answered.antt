@@ -64,7 +64,7 @@ module _ {K V E F : Type 0} (S T : Type 0) (eq : K → K → Bool) (clones : V �
   may_do old P new = MayDo P
 
   unput : (made : V × ℕ) → Makes (Ok made) → (r : Refused K V) (before after : Cached K V S) → RefusesMade eq clones Makes Step visit may_do key made r before after → HandsBack Makes key (Unput r)
-  unput made may r before after (inl puts) = (puts.1.0, (made.1, subst (λ v. Makes (Ok (v, made.1))) (sym puts.1.1.0) may))
+  unput made may r before after (inl (none, puts)) = (puts.1.0, (made.1, subst (λ v. Makes (Ok (v, made.1))) (sym puts.1.1.0) may))
   unput made may r before after (inr lost) = (lost.1.0, (made.1, subst (λ v. Makes (Ok (v, made.1))) (sym lost.1.1.0) may))
 
   ended : (mid new : T) (made : Result (V × ℕ) E) → Makes made → (n : NotGot K V E) → EndsMaking eq clones Makes Step visit may_do key mid made (Err n) new → HandsBack Makes key n

@@ -1,5 +1,5 @@
 -- What is answered of keys and values that stand in shards, and what is left there.
-use Rattle.std.specs.Prelude.{◌≡◌, ℕ, ◌⊎◌, Bool, List, map, Option, Some, None, Result, Ok, Err, IfOk}
+use Rattle.std.specs.Prelude.{◌≡◌, ℕ, ◌⊎◌, Bool, true, false, List, map, Option, Some, None, Result, Ok, Err, IfOk, is_some}
 use Rattle.std.specs.List.{FoldsTo}
 use Rattle.std.specs.Borrow.{Bor}
 use Rattle.std.specs.declared.alloc.AllocError.{AllocError}
@@ -35,16 +35,22 @@ module _ {K V : Type 0} where
   abbrev pub GetsClone : {S Q : Type 0} → (K → Q → Bool) → (V → V → Type 0) → Cached K V S → Q → Result (Option V) AllocError → Cached K V S → Type 0
   GetsClone eq clones old key answer new = IfOk answer (λ found. IsCloned clones (entry_of eq old.entries key) found) × (new ≡ with_entries old (used eq old.entries key))
 
+-- an entry is put of a key that had none, unless it has one by now, which is newer, and stays
+abbrev pub PutsMissing : {K V S F : Type 0} → (K → K → Bool) → (F → Entry K V → F → Type 0) → F → Cached K V S → K → V → ℕ → Result (Unit {0}) (cached.Refused K V) → Cached K V S → Type 0
+PutsMissing {K} {V} eq Step visit before k v w (Ok told) after =
+    ((is_some (entry_of eq before.entries k) ≡ true) × (after ≡ before)) ⊎ ((is_some (entry_of eq before.entries k) ≡ false) × ((was : Option (Entry K V)) × Puts eq Step visit before k v w (Ok was) after))
+PutsMissing eq Step visit before k v w (Err r) after = (is_some (entry_of eq before.entries k) ≡ false) × Puts eq Step visit before k v w (Err r) after
+
 -- ---- a value that is made where its key has none. `does` says what is known of all shards where that of the key is changed so
 module _ {K V S E F T : Type 0} (eq : K → K → Bool) (clones : V → V → Type 0) (Makes : Result (V × ℕ) E → Type 0) (Step : F → Entry K V → F → Type 0) (visit : F)
     (does : T → (Cached K V S → Cached K V S → Type 0) → T → Type 0) (key : K) where
-  -- an entry of what was made is put, and a clone of its value is answered
+  -- an entry of what was made is put, unless there is a newer one, and a clone of its value is answered
   abbrev pub PutsMade : V × ℕ → V → Cached K V S → Cached K V S → Type 0
-  PutsMade made v before after = clones made.0 v × ((was : Option (Entry K V)) × Puts eq Step visit before key made.0 made.1 (Ok was) after)
+  PutsMade made v before after = clones made.0 v × PutsMissing eq Step visit before key made.0 made.1 (Ok tt) after
 
   -- it is refused, or there was no memory for the clone, and nothing changes; it is handed back
   abbrev pub RefusesMade : V × ℕ → cached.Refused K V → Cached K V S → Cached K V S → Type 0
-  RefusesMade made r before after = Puts eq Step visit before key made.0 made.1 (Err r) after ⊎ ((r.cause ≡ NoMemory) × ((r.key ≡ key) × ((r.value ≡ made.0) × (after ≡ before))))
+  RefusesMade made r before after = PutsMissing eq Step visit before key made.0 made.1 (Err r) after ⊎ ((r.cause ≡ NoMemory) × ((r.key ≡ key) × ((r.value ≡ made.0) × (after ≡ before))))
 
   -- what follows where a value was made, or none, for a key that had no entry
   abbrev pub EndsMaking : T → Result (V × ℕ) E → Result V (NotGot K V E) → T → Type 0

@@ -1,22 +1,19 @@
 //! The calls on keys and values that stand in shards, written once: of shards of one owner and of shards behind locks.
 ghost use Rattle.std.specs.Prelude.{◌≡◌, ◌<◌, ◌⊎◌, Ok, Err, None, is_some, length, IfOk, IfErr};
 ghost use Rattle.lru_index.specs.Hashing.{key_hash};
-ghost use Rattle.lru_cache.specs.Cache.{entry_of, without, with_entries, Puts, UpdatesEntry};
+ghost use Rattle.lru_cache.specs.Cache.{entry_of, without, with_entries, Puts, UpdatesEntry, Clears, Retains};
 ghost use Rattle.lru_entries.specs.Entries.{weight_of};
 ghost use Rattle.lru_shared.specs.Shards.{home};
-ghost use Rattle.lru_shared.specs.Calls.{ShowsEntry, VisitsEach, GetsClone, GetsOrPuts, EndsMaking};
+ghost use Rattle.lru_shared.specs.Calls.{ShowsEntry, VisitsEach, GetsClone, PutsMissing, GetsOrPuts, EndsMaking};
 
 use crate::one;
-use crate::shards::Shards;
+use crate::shards::{Shards, home_of};
 use lru_cache::cache::{Cache, Cause, Entry, Refused};
 use lru_index::alike::SameHashes;
 use lru_index::hashing::hash_of;
 use lru_index::keys::Query;
 use std::alloc::AllocError;
 use std::hash::{BuildHasher, Hash};
-
-// How many values the low bits of a hash have, by which its shard is told.
-const LOW: u64 = 4294967296;
 
 /// Why `get_or_put_with` answers no value.
 #[derive(Debug, Drop)]
@@ -28,17 +25,6 @@ pub enum NotGot<K, V, E> {
     Unmade(K, E),
     /// The entry was refused, or there is no memory to clone its value. Key and value are handed back.
     Refused(Refused<K, V>),
-}
-
-// The shard of a hash. It takes the low bits: the index of a shard takes the high ones, which so differ among the keys of a
-// shard as they do among all.
-#[inline(always)]
-pub(crate) fn home_of(shards: usize, hash: u64) -> usize
-    requires { 0 < shards }
-    ensures value { result ≡ home shards hash }
-    ensures below { result < shards }
-{
-    (hash % LOW) as usize % shards
 }
 
 // Whether what the query stands for has an entry.
@@ -193,6 +179,50 @@ where
     )
 }
 
+// Lets all entries of a shard go.
+pub(crate) fn clear<K, V, S, T, F>(shards: &mut T, shard: usize, visit: F)
+where
+    K: Hash + Drop,
+    V: Drop,
+    S: BuildHasher,
+    T: Shards<Cache<K, V, S>>,
+    F: FnMut(Entry<K, V>) + Drop,
+    requires shard { shard < T.many shards.old }
+    requires visit { F.IsAlwaysCallable visit }
+    ensures acts { T.does shards.old shard (λ before after. Clears (λ p x q. F.step p x tt q) visit before after) shards.new }
+    ensures many { T.many shards.new ≡ T.many shards.old }
+{
+    shards.on(
+        shard,
+        |cache: &mut Cache<K, V, S>|
+            requires { F.IsAlwaysCallable visit }
+            ensures { Clears (λ p x q. F.step p x tt q) visit cache.old cache.new }
+        { one::clear(cache, visit) },
+    )
+}
+
+// Lets those entries of a shard go for which a test answers false.
+pub(crate) fn retain<K, V, S, T, F>(shards: &mut T, shard: usize, keep: F)
+where
+    K: Hash + Drop,
+    V: Drop,
+    S: BuildHasher,
+    T: Shards<Cache<K, V, S>>,
+    F: FnMut(&K, &V, usize) -> bool + Drop,
+    requires shard { shard < T.many shards.old }
+    requires keep { F.IsAlwaysCallable keep }
+    ensures acts { T.does shards.old shard (λ before after. Retains (λ p k v w b q. F.step p k v w b q) keep before after) shards.new }
+    ensures many { T.many shards.new ≡ T.many shards.old }
+{
+    shards.on(
+        shard,
+        |cache: &mut Cache<K, V, S>|
+            requires { F.IsAlwaysCallable keep }
+            ensures { Retains (λ p k v w b q. F.step p k v w b q) keep cache.old cache.new }
+        { one::retain(cache, keep) },
+    )
+}
+
 // Calls a closure with the key, the value and the weight of each entry of a shard, most recent first.
 pub(crate) fn visit_each<K, V, S, T, F>(shards: &T, shard: usize, visit: F)
 where
@@ -300,7 +330,8 @@ where
     )
 }
 
-// Puts what was made for a key, and answers a clone of its value. Who waits for it goes on in any case.
+// Puts what was made for a key, unless it has an entry by now, and answers a clone of its value. Who waits for it goes on in
+// any case.
 #[inline(always)]
 fn put_made<K, V, S, T, E, F>(
     shards: &mut T,
@@ -342,11 +373,11 @@ where
         |cache: &mut Cache<K, V, S>|
             requires hash { hash ≡ key_hash S.BuildHasher S.Hasher.Hasher K.hash_input hashes.now key }
             requires visit { F.IsAlwaysCallable visit }
-            ensures { Puts K.eq (λ p x q. F.step p x tt q) visit cache.old key value weight result cache.new }
-        { one::put(cache, key, value, weight, hash, hashes, visit) },
+            ensures { PutsMissing K.eq (λ p x q. F.step p x tt q) visit cache.old key value weight result cache.new }
+        { one::put_missing(cache, key, value, weight, hash, hashes, visit) },
     );
     match put {
-        Ok(_) => Ok(answer),
+        Ok(()) => Ok(answer),
         Err(refused) => Err(NotGot::Refused(refused)),
     }
 }

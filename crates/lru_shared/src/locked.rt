@@ -1,5 +1,5 @@
 //! Shards behind locks.
-ghost use Rattle.std.specs.Prelude.{◌≡◌, ◌∷◌, ◌++◌, [], Ok, None, true, length, OnOk, OnErr};
+ghost use Rattle.std.specs.Prelude.{◌≡◌, ◌∷◌, ◌++◌, [], Ok, None, true, length, vec_len, OnOk, OnErr, IfOk};
 ghost use Rattle.lru_shared.specs.Making.{is_among, left_of};
 ghost use Rattle.lru_shared.specs.Shards.{MaySee, MayDo};
 
@@ -7,7 +7,7 @@ use crate::shards::Shards;
 use crossbeam_utils::CachePadded;
 use lru_short_locks::ShortMutex;
 use std::alloc::{AllocError, Global};
-use std::sync::{Condvar, Wait};
+use std::sync::{Condvar, MutexGuard, Wait};
 
 // Which values are being made for a shard, by the hashes of their keys: the keys themselves stay with those who make them.
 #[derive(Drop)]
@@ -51,27 +51,66 @@ impl Making {
 
 // What lies behind the lock of a shard: a cache, and which values are being made for it.
 #[derive(Drop)]
-pub(crate) struct Shelf<C> {
-    pub(crate) cache: C,
-    pub(crate) making: Making,
+struct Shelf<C> {
+    cache: C,
+    making: Making,
 }
 
-// A shard: a shelf behind its lock, and what those wait on who ask for a value that another thread makes.
+/// A shard: a cache behind its lock, and what those wait on who ask for a value that another thread makes.
 #[derive(Drop)]
-pub(crate) struct Shard<C> {
-    pub(crate) shelf: ShortMutex<Shelf<C>>,
-    pub(crate) ended: Condvar,
+pub struct Shard<C> {
+    shelf: ShortMutex<Shelf<C>>,
+    ended: Condvar,
+}
+
+/// The cache of a shard under its lock, which is held as long as this is there.
+#[derive(Drop)]
+pub struct Held<'a, C> {
+    shelf: MutexGuard<'a, Shelf<C>>,
+}
+
+impl<'a, C> Held<'a, C> {
+    /// The cache, as it is while the lock is held.
+    pub fn cache(&self) -> &C {
+        &self.shelf.cache
+    }
 }
 
 impl<C> Shard<C> {
-    // A shard of a cache, for which nothing is being made.
-    pub(crate) fn new(alloc: Global, cache: C) -> Self {
+    /// A shard of a cache, for which nothing is being made.
+    pub fn new(alloc: Global, cache: C) -> Self {
         let making = Making::none(alloc);
         Shard {
             shelf: ShortMutex::new(Shelf { cache, making }),
             ended: Condvar::new(),
         }
     }
+
+    /// Takes the lock, and holds it as long as what it answers is there.
+    pub fn lock(&self, rt: &impl Wait) -> Held<'_, C> {
+        Held {
+            shelf: self.shelf.lock(rt),
+        }
+    }
+}
+
+/// Puts each of these caches behind a lock of its own. No two of them share a line of the processor's cache, so that a thread
+/// at one doesn't slow a thread at another.
+///
+/// # Errors
+///
+/// There is no memory.
+pub fn behind_locks<C: Drop>(
+    alloc: Global,
+    caches: Vec<C>,
+) -> Result<Vec<CachePadded<Shard<C>>>, AllocError>
+    ensures { IfOk result (λ shards. vec_len shards ≡ vec_len caches) }
+{
+    let mut shards = Vec::with_capacity(alloc, caches.len())?;
+    for cache in caches {
+        shards.push(CachePadded::new(Shard::new(alloc, cache)))?;
+    }
+    Ok(shards)
 }
 
 // Whether a look-up found none.
@@ -81,11 +120,13 @@ fn has_found_none<V>(found: &Result<Option<V>, AllocError>) -> bool
     matches!(found, Ok(None))
 }
 
-// Shards, each behind its lock, and what waits for the locks.
+/// Shards, each behind its lock, and what waits for the locks.
 #[derive(Drop)]
-pub(crate) struct Locked<'a, C, W> {
-    pub(crate) shards: &'a [CachePadded<Shard<C>>],
-    pub(crate) rt: &'a W,
+pub struct Locked<'a, C, W> {
+    /// The shards, in the order of their numbers.
+    pub shards: &'a [CachePadded<Shard<C>>],
+    /// By which a call may wait.
+    pub rt: &'a W,
 }
 
 // Each call takes the lock of its shard, does once what it is to do, and lets go of it.

@@ -1,8 +1,8 @@
 //! What is done to the cache of one shard, by a hash that was made to tell the shard.
 ghost use Rattle.std.specs.Prelude.{◌≡◌, is_some};
 ghost use Rattle.lru_index.specs.Hashing.{key_hash};
-ghost use Rattle.lru_cache.specs.Cache.{entry_of, without, with_entries, Puts, UpdatesEntry};
-ghost use Rattle.lru_shared.specs.Calls.{ShowsEntry, VisitsEach, GetsClone};
+ghost use Rattle.lru_cache.specs.Cache.{entry_of, without, with_entries, Puts, UpdatesEntry, Clears, Retains};
+ghost use Rattle.lru_shared.specs.Calls.{ShowsEntry, VisitsEach, GetsClone, PutsMissing};
 
 use lru_cache::cache::{Cache, Entry, Refused};
 use lru_index::alike::SameHashes;
@@ -124,6 +124,35 @@ where
     cache.put_hashed(key, value, weight, own, visit)
 }
 
+// Puts what was made for a key that had no entry, unless it has one by now, which is newer: that one stays.
+#[inline(always)]
+pub(crate) fn put_missing<K, V, S, F>(
+    cache: &mut Cache<K, V, S>,
+    key: K,
+    value: V,
+    weight: usize,
+    hash: u64,
+    hashes: &S,
+    visit: F,
+) -> Result<(), Refused<K, V>>
+where
+    K: Hash + Drop,
+    V: Drop,
+    S: BuildHasher + SameHashes,
+    F: FnMut(Entry<K, V>) + Drop,
+    requires hash { hash ≡ key_hash S.BuildHasher S.Hasher.Hasher K.hash_input hashes.now key }
+    requires visit { F.IsAlwaysCallable visit }
+    ensures { PutsMissing K.eq (λ p x q. F.step p x tt q) visit cache.old key value weight result cache.new }
+{
+    if contains(cache, &key, hash, hashes) {
+        return Ok(());
+    }
+    match put(cache, key, value, weight, hash, hashes, visit) {
+        Ok(_) => Ok(()),
+        Err(refused) => Err(refused),
+    }
+}
+
 // Takes the entry out of what the query stands for.
 #[inline(always)]
 pub(crate) fn remove<K, V, S, Q>(
@@ -143,6 +172,32 @@ where
 {
     let own = cache.hash_as(&query, hash, hashes);
     cache.remove_hashed(query, own)
+}
+
+// Lets all entries go.
+pub(crate) fn clear<K, V, S, F>(cache: &mut Cache<K, V, S>, visit: F)
+where
+    K: Hash + Drop,
+    V: Drop,
+    S: BuildHasher,
+    F: FnMut(Entry<K, V>) + Drop,
+    requires { F.IsAlwaysCallable visit }
+    ensures { Clears (λ p x q. F.step p x tt q) visit cache.old cache.new }
+{
+    cache.clear(visit);
+}
+
+// Lets those entries go for which a test answers false.
+pub(crate) fn retain<K, V, S, F>(cache: &mut Cache<K, V, S>, keep: F)
+where
+    K: Hash + Drop,
+    V: Drop,
+    S: BuildHasher,
+    F: FnMut(&K, &V, usize) -> bool + Drop,
+    requires { F.IsAlwaysCallable keep }
+    ensures { Retains (λ p k v w b q. F.step p k v w b q) keep cache.old cache.new }
+{
+    cache.retain(keep);
 }
 
 // Calls a closure with the key, the value and the weight of each entry, most recent first.

@@ -1,7 +1,7 @@
 //! A cache of one owner in shards: what a shared cache is behind its locks.
 ghost use Rattle.std.specs.Prelude.{◌≡◌, ◌<◌, ◌/◌, is_some, length, replicate, IfOk};
 ghost use Rattle.lru_index.specs.Hashing.{key_hash, seeded, unseeded};
-ghost use Rattle.lru_cache.specs.Cache.{empty, hashes_from, entry_of, without, with_entries, Puts, UpdatesEntry};
+ghost use Rattle.lru_cache.specs.Cache.{empty, hashes_from, entry_of, without, with_entries, Puts, UpdatesEntry, Clears, Retains};
 ghost use Rattle.lru_entries.specs.Entries.{weight_of};
 ghost use Rattle.lru_shared.specs.Shards.{home, Sees, Owns};
 ghost use Rattle.lru_shared.specs.Calls.{ShowsEntry, VisitsEach, GetsClone, GetsOrPuts};
@@ -9,6 +9,7 @@ ghost use Rattle.lru_shared.specs.Sharded.{sharded};
 
 use crate::calls;
 use crate::calls::NotGot;
+use crate::limits::Limits;
 use crate::shards::Owned;
 use lru_cache::cache::{Cache, Entry, Refused};
 use lru_index::alike::SameHashes;
@@ -73,6 +74,18 @@ impl<K: Hash + Drop, V: Drop, const N: usize> ShardedCache<K, V, N, SeededHashes
         ensures { IfOk result (λ cache. cache ≡ sharded (replicate N (empty (hashes_from unseeded) (most_weight / N) (most_entries / N))) (hashes_from unseeded)) }
     {
         ShardedCache::with_hasher(alloc, most_weight, most_entries, SeededHashes::fixed())
+    }
+
+    /// A cache as `new` makes it, under limits that are told by name.
+    ///
+    /// # Errors
+    ///
+    /// There is no memory.
+    pub fn with_limits(alloc: Global, limits: Limits) -> Result<Self, AllocError>
+        requires { 0 < N }
+        ensures { IfOk result (λ cache. cache ≡ sharded (replicate N (empty (hashes_from unseeded) (limits.weight / N) (limits.entries / N))) (hashes_from unseeded)) }
+    {
+        ShardedCache::new(alloc, limits.weight, limits.entries)
     }
 
     /// A cache as `new` makes it, with a seed for the hashes: who picks the keys and does not know it can't pick keys that
@@ -278,5 +291,28 @@ impl<K: Hash + Drop, V: Drop, const N: usize, S: BuildHasher + SameHashes> Shard
         ensures hashes { self.new.hashes ≡ self.old.hashes }
     {
         calls::get_or_put_with(&mut self.shards, &self.hash_builder, key, make, visit)
+    }
+}
+
+impl<K: Hash + Drop, V: Drop, const N: usize, S: BuildHasher> ShardedCache<K, V, N, S> {
+    /// Lets all entries of a shard go, the one that was used longest ago first, and hands each to `visit`.
+    pub fn clear_shard<F: FnMut(Entry<K, V>) + Drop>(&mut self, shard: usize, visit: F)
+        requires shard { shard < N }
+        requires visit { F.IsAlwaysCallable visit }
+        ensures acts { Owns self.old.shards shard (λ before after. Clears (λ p x q. F.step p x tt q) visit before after) self.new.shards }
+        ensures hashes { self.new.hashes ≡ self.old.hashes }
+    {
+        calls::clear(&mut self.shards, shard, visit);
+    }
+
+    /// Asks `keep` of each entry of a shard, the one that was used longest ago first, by its key, its value and its weight, and
+    /// lets those go for which it answers false. The others stay, in their order.
+    pub fn retain_shard<F: FnMut(&K, &V, usize) -> bool + Drop>(&mut self, shard: usize, keep: F)
+        requires shard { shard < N }
+        requires keep { F.IsAlwaysCallable keep }
+        ensures acts { Owns self.old.shards shard (λ before after. Retains (λ p k v w b q. F.step p k v w b q) keep before after) self.new.shards }
+        ensures hashes { self.new.hashes ≡ self.old.hashes }
+    {
+        calls::retain(&mut self.shards, shard, keep);
     }
 }

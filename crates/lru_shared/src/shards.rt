@@ -1,8 +1,22 @@
 //! Shards that a call can be done on, of one owner or behind locks. What is called on them is written once, over both.
 ghost use Rattle.std.specs.Prelude.{◌≡◌, ℕ, ◌<◌, length, Option, Result};
-ghost use Rattle.lru_shared.specs.Shards.{Looks, Acts, Begins, Sees, Owns};
+ghost use Rattle.lru_shared.specs.Shards.{home, Looks, Acts, Begins, Sees, Owns};
 
 use std::alloc::AllocError;
+
+// How many values the low bits of a hash have, by which its shard is told.
+const LOW: u64 = 4294967296;
+
+/// The shard of a hash among so many. It takes the low bits: the index of a shard takes the high ones, which so differ among
+/// the keys of a shard as they do among all.
+#[inline(always)]
+pub fn home_of(shards: usize, hash: u64) -> usize
+    requires { 0 < shards }
+    ensures value { result ≡ home shards hash }
+    ensures below { result < shards }
+{
+    (hash % LOW) as usize % shards
+}
 
 /// Shards that are told by their numbers, from 0 on.
 pub trait Shards<S> {

@@ -1,10 +1,11 @@
 //! A cache that threads share.
-ghost use Rattle.std.specs.Prelude.{◌≡◌, ◌<◌, length, vec_len, true, IfOk, IfErr, IfSome};
+ghost use Rattle.std.specs.Prelude.{◌≡◌, ◌<◌, length, vec_len, true, IfErr, IfSome};
 ghost use Rattle.lru_shared.specs.Answers.{HandsBack, MayShow, MayLend, MayPut};
 
 use crate::calls;
 pub use crate::calls::NotGot;
-use crate::locked::{Locked, Shard, Shelf};
+pub use crate::limits::Limits;
+use crate::locked::{Held, Locked, Shard, behind_locks};
 use crate::sharded::empty_caches;
 use crossbeam_utils::CachePadded;
 use lru_cache::cache::{Cache, Entry, Refused};
@@ -13,18 +14,18 @@ use lru_index::hashing::SeededHashes;
 use lru_index::keys::Query;
 use std::alloc::{AllocError, Global};
 use std::hash::{BuildHasher, Hash};
-use std::sync::{MutexGuard, Wait};
+use std::sync::Wait;
 
 /// A shard under its lock, which is held as long as this is there.
 #[derive(Drop)]
 pub struct LockedShard<'a, K: Hash, V, S: BuildHasher> {
-    shelf: MutexGuard<'a, Shelf<Cache<K, V, S>>>,
+    held: Held<'a, Cache<K, V, S>>,
 }
 
 impl<'a, K: Hash, V, S: BuildHasher> LockedShard<'a, K, V, S> {
     /// The entries of the shard, as they are while the lock is held.
     pub fn cache(&self) -> &Cache<K, V, S> {
-        &self.shelf.cache
+        self.held.cache()
     }
 }
 
@@ -49,20 +50,6 @@ pub struct SharedCache<K: Hash, V, const N: usize, S: BuildHasher = SeededHashes
     ghost has_shards: { vec_len shards ≡ N },
 }
 
-// Puts each of these caches behind a lock of its own.
-fn behind_locks<C: Drop>(
-    alloc: Global,
-    caches: Vec<C>,
-) -> Result<Vec<CachePadded<Shard<C>>>, AllocError>
-    ensures { IfOk result (λ shards. vec_len shards ≡ vec_len caches) }
-{
-    let mut shards = Vec::with_capacity(alloc, caches.len())?;
-    for cache in caches {
-        shards.push(CachePadded::new(Shard::new(alloc, cache)))?;
-    }
-    Ok(shards)
-}
-
 impl<K: Hash + Drop, V: Drop, const N: usize> SharedCache<K, V, N, SeededHashes> {
     /// A cache of no entries, of at most `most_entries`, which may weigh `most_weight` together, each limit divided among
     /// the shards. The seed of the hashes stays the same from run to run.
@@ -74,6 +61,17 @@ impl<K: Hash + Drop, V: Drop, const N: usize> SharedCache<K, V, N, SeededHashes>
         requires { 0 < N }
     {
         SharedCache::with_hasher(alloc, most_weight, most_entries, SeededHashes::fixed())
+    }
+
+    /// A cache as `new` makes it, under limits that are told by name.
+    ///
+    /// # Errors
+    ///
+    /// There is no memory.
+    pub fn with_limits(alloc: Global, limits: Limits) -> Result<Self, AllocError>
+        requires { 0 < N }
+    {
+        SharedCache::new(alloc, limits.weight, limits.entries)
     }
 
     /// A cache as `new` makes it, with a seed for the hashes: who picks the keys and does not know it can't pick keys that
@@ -176,7 +174,7 @@ impl<K: Hash, V, const N: usize, S: BuildHasher> SharedCache<K, V, N, S> {
         requires { shard < N }
     {
         LockedShard {
-            shelf: self.shards[shard].shelf.lock(rt),
+            held: self.shards[shard].lock(rt),
         }
     }
 
@@ -324,7 +322,8 @@ impl<K: Hash + Drop, V: Drop, const N: usize, S: BuildHasher + SameHashes> Share
     /// `make` is called under no lock, and only where the key has no entry and nobody makes one. While it runs, others who
     /// call this for the same key wait until `make` is done; where no entry is put then, the next of them makes one. Other
     /// keys go on, but for those of the very same hash, which wait in the same way; so `make` must not call this on the
-    /// same cache. An entry that somebody else put of the key meanwhile is replaced, and let go.
+    /// same cache. Where somebody else put an entry of the key meanwhile, that one is newer and stays; what was made is answered
+    /// all the same.
     ///
     /// # Errors
     ///
@@ -346,5 +345,29 @@ impl<K: Hash + Drop, V: Drop, const N: usize, S: BuildHasher + SameHashes> Share
         ensures { IfErr result (HandsBack (M.post make) key) }
     {
         calls::get_or_put_with(&mut self.locked(rt), &self.hash_builder, key, make, visit)
+    }
+}
+
+impl<K: Hash + Drop, V: Drop, const N: usize, S: BuildHasher> SharedCache<K, V, N, S> {
+    /// Lets all entries of a shard go, the one that was used longest ago first, and hands each to `visit`, under the lock.
+    pub fn clear_shard<F: FnMut(Entry<K, V>) + Drop>(&self, rt: &impl Wait, shard: usize, visit: F)
+        requires shard { shard < N }
+        requires visit { F.IsAlwaysCallable visit }
+    {
+        calls::clear(&mut self.locked(rt), shard, visit);
+    }
+
+    /// Asks `keep` of each entry of a shard, the one that was used longest ago first, by its key, its value and its weight, under
+    /// the lock, and lets those go for which it answers false. The others stay, in their order.
+    pub fn retain_shard<F: FnMut(&K, &V, usize) -> bool + Drop>(
+        &self,
+        rt: &impl Wait,
+        shard: usize,
+        keep: F,
+    )
+        requires shard { shard < N }
+        requires keep { F.IsAlwaysCallable keep }
+    {
+        calls::retain(&mut self.locked(rt), shard, keep);
     }
 }

@@ -1,5 +1,5 @@
 //! Values that are made where a key has none: once, by one thread while others wait.
-use lru_shared::shared::{NotGot, SharedCache};
+use lru_shared::shared::{Limits, NotGot, SharedCache};
 use std::alloc::{AllocError, Global};
 use std::sync::Wait;
 use std::sync::atomic::{AtomicU64, Ordering};
@@ -104,5 +104,57 @@ fn a_value_is_made_once(rt: HostRuntime) -> Result<(), Fail> {
 #[test]
 fn the_next_makes_what_was_refused(rt: HostRuntime) -> Result<(), Fail> {
     assert_eq!(rt; all_ask(&rt, rt.alloc(), 2)?, (2, 3));
+    Ok(())
+}
+
+// While a value is made, another is put of its key: that one is newer, and stays.
+fn newer_stays(rt: &impl Wait, alloc: Global) -> Result<bool, AllocError> {
+    let cache = Numbers::with_limits(alloc, Limits::of_weight(20))?;
+    let shared = &cache;
+    let make = move || -> Made {
+        match shared.put(rt, 1, 99, 1, |_gone| {}) {
+            Ok(_) => Ok((10, 1)),
+            Err(_) => Err(1),
+        }
+    };
+    let answered = cache.get_or_put_with(rt, 1, make, |_gone| {});
+    Ok(matches!(answered, Ok(10)) && cache.get(rt, &1)? == Some(99) && cache.len(rt) == 1)
+}
+
+#[test]
+fn what_was_put_meanwhile_stays(rt: HostRuntime) -> Result<(), Fail> {
+    assert!(rt; newer_stays(&rt, rt.alloc())?);
+    Ok(())
+}
+
+// Whether of each shard the entries of even values stay, and then none.
+fn are_retained(rt: &impl Wait, alloc: Global) -> Result<bool, AllocError> {
+    let cache = Numbers::with_limits(alloc, Limits::of_weight(100))?;
+    let mut is_put = true;
+    for key in 0..20 {
+        is_put &= matches!(cache.put(rt, key, key, 1, |_gone| {}), Ok(None));
+    }
+    for shard in 0..2 {
+        cache.retain_shard(rt, shard, |_key, value, _weight| *value % 2 == 0);
+    }
+    let are_half = (
+        cache.len(rt),
+        cache.contains(rt, &4),
+        cache.contains(rt, &5),
+    ) == (10, true, false);
+    let mut cleared = 0usize;
+    for shard in 0..2 {
+        cache.clear_shard(
+            rt,
+            shard,
+            |entry| cleared = cleared.saturating_add(entry.weight),
+        );
+    }
+    Ok(is_put && are_half && cleared == 10 && cache.len(rt) == 0)
+}
+
+#[test]
+fn entries_are_retained_and_cleared(rt: HostRuntime) -> Result<(), Fail> {
+    assert!(rt; are_retained(&rt, rt.alloc())?);
     Ok(())
 }
