@@ -1,5 +1,5 @@
 -- What is answered of keys and values that end, in one shard and in many, and what is left there.
-use Rattle.std.specs.Prelude.{◌≡◌, ℕ, ◌-◌, ◌⊎◌, Bool, true, false, List, length, map, Option, Some, None, Result, Ok, Err, is_some}
+use Rattle.std.specs.Prelude.{◌≡◌, ℕ, ◌-◌, ◌⊎◌, Bool, true, false, List, ◌∷◌, length, map, Option, Some, None, Result, Ok, Err, is_some}
 use Rattle.std.specs.List.{FoldsTo}
 use Rattle.std.specs.Borrow.{Bor, MutBor}
 use Rattle.std.specs.declared.alloc.AllocError.{AllocError}
@@ -97,12 +97,12 @@ module _ {K V : Type 0} where
         × ((after.cache ≡ with_entries before.cache (without eq before.cache.entries key)) × (after.counts ≡ taken_out answer before.counts))
 
   -- ---- what a closure is shown
-  module _ {F S : Type 0} (Step : F → Ends K V → F → Type 0) where
-    -- an entry was handed to a closure, if there was one
-    abbrev pub HandsOver : Option (Ends K V) → Type 0
-    HandsOver None = Unit {0}
-    HandsOver (Some e) = (p : F) × ((q : F) × Step p e q)
+  -- an entry was handed to a closure, if there was one
+  abbrev pub HandsOver : {F : Type 0} → (F → Ends K V → F → Type 0) → Option (Ends K V) → Type 0
+  HandsOver Step None = Unit {0}
+  HandsOver {F} Step (Some e) = (p : F) × ((q : F) × Step p e q)
 
+  module _ {F S : Type 0} (Step : F → Ends K V → F → Type 0) where
     -- of so many of the last entries those go that are past their deadline, and are counted so
     abbrev pub SweepsShard : F → ℕ → ℕ → ShardOf K V S → ShardOf K V S → Type 0
     SweepsShard visit time most before after =
@@ -130,7 +130,7 @@ module _ {K V : Type 0} where
     abbrev pub PutsMissing : F → (K → K → Bool) → Moment → ShardOf K V S → K → V → ℕ → Result (Unit {0}) (Refused K V) → ShardOf K V S → Type 0
     PutsMissing visit eq m before k v w (Ok told) after =
         ((is_some (living eq m.time before.cache.entries k) ≡ true) × (after ≡ before))
-        ⊎ ((is_some (living eq m.time before.cache.entries k) ≡ false) × ((was : Option (Ends K V)) × (PutsIn visit eq m before k v w (Ok was) after × HandsOver was)))
+        ⊎ ((is_some (living eq m.time before.cache.entries k) ≡ false) × ((was : Option (Ends K V)) × (PutsIn visit eq m before k v w (Ok was) after × HandsOver Step was)))
     PutsMissing visit eq m before k v w (Err r) after = (is_some (living eq m.time before.cache.entries k) ≡ false) × PutsIn visit eq m before k v w (Err r) after
 
 -- ---- a value that is made where its key has none. `does` says what is known of all shards where that of the key is changed so
