@@ -58,6 +58,19 @@ where
     Some(show(&aged.value))
 }
 
+// Lends a value that is used at a time, with its weight, and moves its deadline.
+fn use_at<V, R, F>(until: &mut Until<Aged<V>>, weight: usize, moment: Moment, show: F) -> R
+where
+    F: FnOnce(&mut V, usize) -> R + Drop,
+    requires { F.IsAlwaysCallable show }
+    ensures value { Updates (F.post show) until.old.value.value weight result until.new.value.value }
+    ensures ends { until.new ≡ kept_until moment until.new.value.value until.old.value.ends }
+{
+    until.deadline = moment.deadline(until.value.ends);
+    let aged = &mut until.value;
+    show(&mut aged.value, weight)
+}
+
 // Uses what the query stands for, and lends its value with its weight, which stays.
 #[inline(always)]
 pub(crate) fn lend<K, V, S, Q, R, F>(
@@ -82,14 +95,7 @@ where
         moment.time,
         query,
         own,
-        |until: &mut Until<Aged<V>>, weight: usize|
-            requires { F.IsAlwaysCallable show }
-            ensures value { Updates (F.post show) until.old.value.value weight result until.new.value.value }
-            ensures ends { until.new ≡ kept_until moment until.new.value.value until.old.value.ends }
-        {
-            until.deadline = moment.deadline(until.value.ends);
-            show(&mut until.value.value, weight)
-        },
+        |until: &mut Until<Aged<V>>, weight: usize| use_at(until, weight, moment, show),
     );
     shard.counts.look(answer.is_some());
     answer

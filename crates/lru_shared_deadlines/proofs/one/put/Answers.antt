@@ -7,6 +7,9 @@ use Rattle.lru_shared_deadlines.proofs.one.put.Goals as goal
 pub make_room-requires : goal.make_room-requires
 make_room-requires g c = mut_total _ _ (λ s a. mut_total g.F.FnMut _ (λ t b. c.requires.visit t b.0))
 
+pub place-requires-clause-visit : goal.place-requires-clause-visit
+place-requires-clause-visit g c = mut_total g.F.FnMut _ (λ t b. c.requires.visit t b.0)
+
 pub returns : goal.returns
 returns g c =
     let shown = c.make_room.ensures.0.0 in (

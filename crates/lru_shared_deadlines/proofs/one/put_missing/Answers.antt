@@ -8,18 +8,12 @@ returns-in-Ok-Some g c = inr (
   sym c.contains.ensures ∙ c.if-contains.false,
   (
     Some c.in-Ok-Some.past,
-    (puts_at _ _ g.K.PartialEq.eq c.args.moment _ c.args.key c.args.value c.args.weight _ _ c.in-Ok-Some.ensures (λ p e q. goal.F-step g p e tt q) (λ s. s.0.now) (λ p e q called. let h = called.met in search rules), (_, (_, c.visit.ensures))),
+    (puts_at _ _ g.K.PartialEq.eq c.args.moment c.args.shard.now c.args.key c.args.value c.args.weight _ c.put-told.new.shard c.in-Ok-Some.ensures (λ p e q. goal.F-step g p e tt q) (λ s. s.0.now) (λ p e q called. let h = called.met in search rules), (_, (_, c.visit.ensures))),
   ),
 )
 
 pub returns-in-Ok-None : goal.returns-in-Ok-None
 returns-in-Ok-None g c = inr (
   sym c.contains.ensures ∙ c.if-contains.false,
-  (None, (puts_at _ _ g.K.PartialEq.eq c.args.moment _ c.args.key c.args.value c.args.weight _ _ c.in-Ok-None.ensures (λ p e q. goal.F-step g p e tt q) (λ s. s.0.now) (λ p e q called. let h = called.met in search rules), tt)),
-)
-
-pub returns-in-Err : goal.returns-in-Err
-returns-in-Err g c = (
-  sym c.contains.ensures ∙ c.if-contains.false,
-  puts_at _ _ g.K.PartialEq.eq c.args.moment _ c.args.key c.args.value c.args.weight _ _ c.in-Err.ensures (λ p e q. goal.F-step g p e tt q) (λ s. s.0.now) (λ p e q called. let h = called.met in search rules),
+  (None, (puts_at _ _ g.K.PartialEq.eq c.args.moment c.args.shard.now c.args.key c.args.value c.args.weight _ c.put-told.new.shard c.in-Ok-None.ensures (λ p e q. goal.F-step g p e tt q) (λ s. s.0.now) (λ p e q called. let h = called.met in search rules), tt)),
 )
