@@ -193,7 +193,7 @@ impl<K: Hash, V, S: BuildHasher> AskingCache<K, V, S> {
     {
         let hash = self.cache.hash_of(key);
         self.sketch.count(hash);
-        self.cache.update(key, update)
+        self.cache.update_hashed(key, hash, update)
     }
 }
 
