@@ -3,3 +3,5 @@ pub mod Seen
 pub mod Shown
 pub mod Kept
 pub mod Exchanged
+pub mod Beside
+pub mod Inserted
