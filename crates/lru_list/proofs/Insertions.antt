@@ -1,16 +1,16 @@
 -- An item put before another, as the list is seen.
-use Rattle.std.proofs.Common.{◌≡◌, ◌≢◌, ℕ, ◌+◌, ◌<◌, ◌≤◌, cond, List, [], ◌∷◌, ◌++◌, length, set, Some, refl, sym, ap, ◌∙◌, subst, arith, inl, inr}
+use Rattle.std.proofs.Common.{◌≡◌, ℕ, ◌+◌, ◌<◌, ◌≤◌, cond, List, [], ◌∷◌, ◌++◌, length, set, Some, refl, sym, ap, ◌∙◌, subst, arith, inl, inr}
 use Rattle.std.specs.Prelude.{◌⊎◌, slice_get}
 use Rattle.std.proofs.lemmas.List.{append-nil, length-append}
 use Rattle.std.proofs.lemmas.Bool.{cases_lt, eq-eqb, ne_eqb}
 use Rattle.lru_list.specs.declared.linked_list.Node.{Node}
-use Rattle.lru_list.specs.Linked.{linked, times, indices_of, IsLive, next_slot}
+use Rattle.lru_list.specs.Linked.{times, indices_of, IsLive}
 use Rattle.lru_list.specs.Insertions.{put_before, inserted}
 use Rattle.lru_list.specs.Representation.Nodes.{pairs, at, nexts, prevs, items, order_of, stack_of, linked_of, IsLinked, IsList}
 use Rattle.lru_list.proofs.Chains.{times-append, absent_head, absent_tail}
-use Rattle.lru_list.proofs.Splices.{Round, round, next_round, live_range, put_in_ranges}
+use Rattle.lru_list.proofs.Splices.{Round, round_tail, last_split, next_round, live_range, put_in_ranges}
 use Rattle.lru_list.proofs.NodePairs.{pairs-append, pairs_first, some_at, indices-pairs}
-use Rattle.lru_list.proofs.LinkedStates.{Shows, reshown, put_shown, length-nexts, length-items, length-order, stands, Taken, place_range}
+use Rattle.lru_list.proofs.LinkedStates.{Shows, reshown, put_shown, length-nexts, length-items, length-order, stands, Taken}
 
 module _ {K : Type 0} where
   -- where an index has the first of the pairs behind, or there are none, one more goes before these
@@ -18,19 +18,20 @@ module _ {K : Type 0} where
   Begins i [] = Unit {0}
   Begins i (p ∷ ps) = p.0 ≡ i
 
-  put_at : (as bs : List (ℕ × K)) (i : ℕ) (x : ℕ × K) → times i (indices_of as) ≡ 0 → Begins i bs → put_before (as ++ bs) i x ≡ as ++ x ∷ bs
+  put_at : (xs ys : List (ℕ × K)) (i : ℕ) (x : ℕ × K) → times i (indices_of xs) ≡ 0 → Begins i ys → put_before (xs ++ ys) i x ≡ xs ++ x ∷ ys
   put_at [] [] i x none begins = refl
   put_at [] (p ∷ ps) i x none begins = ap (λ b. cond b (x ∷ p ∷ ps) (p ∷ put_before ps i x)) (eq-eqb p.0 i begins)
-  put_at (a ∷ as) bs i x none begins =
-      ap (λ b. cond b (x ∷ a ∷ as ++ bs) (a ∷ put_before (as ++ bs) i x)) (ne_eqb a.0 i (absent_head i a.0 (indices_of as) none))
-      ∙ ap (λ zs. a ∷ zs) (put_at as bs i x (absent_tail i a.0 (indices_of as) none) begins)
+  put_at (q ∷ qs) ys i x none begins =
+      ap (λ b. cond b (x ∷ q ∷ qs ++ ys) (q ∷ put_before (qs ++ ys) i x)) (ne_eqb q.0 i (absent_head i q.0 (indices_of qs) none))
+      ∙ ap (λ zs. q ∷ zs) (put_at qs ys i x (absent_tail i q.0 (indices_of qs) none) begins)
 
 -- the places before an index, and those from it on
 record Parts (order : List ℕ) (index : ℕ) : Type 0 where
   pub us : List ℕ
   pub vs : List ℕ
   pub is : order ≡ us ++ vs
-  pub next : (round us vs).q ≡ index
+  pub round : Round us vs
+  pub next : round.q ≡ index
   pub before : times index us ≡ 0
   pub begins : (vs ≡ []) ⊎ ((rest : List ℕ) × (vs ≡ index ∷ rest))
 
@@ -47,11 +48,21 @@ module _ {K : Type 0} (ns : List (Node K)) (top len : ℕ) (h : IsList ns top le
       elim there [
         | inl live ↦
             let s = stands ns top len h index live in
-            record { us = s.front; vs = index ∷ s.back; is = s.is; next = refl; before = s.first; begins = inr (s.back, refl) }
+            let l = last_split 0 s.front in
+            record {
+              us = s.front;
+              vs = index ∷ s.back;
+              is = s.is;
+              round = record { front = l.0; p = l.1; q = index; back = s.back ++ 1 ∷ []; front_is = l.2; back_is = refl };
+              next = refl;
+              before = s.first;
+              begins = inr (s.back, refl);
+            }
         | inr e ↦ record {
           us = order_of ns len;
           vs = [];
           is = sym (append-nil (order_of ns len));
+          round = round_tail (order_of ns len);
           next = sym e;
           before = ap (λ i. times i (order_of ns len)) e ∙ no_tail;
           begins = inl refl;
@@ -63,7 +74,7 @@ module _ {K : Type 0} (ns : List (Node K)) (top len : ℕ) (h : IsList ns top le
     parts_linked = subst (IsLinked (nexts out) (prevs out) (i ∷ t.free)) parts.is t.linked_is
 
     abbrev r : Round parts.us parts.vs
-    r = round parts.us parts.vs
+    r = parts.round
 
     prev_is : at (prevs out) index ≡ r.p
     prev_is = ap (at (prevs out)) (sym parts.next) ∙ (next_round (nexts out) (prevs out) parts.us parts.vs r parts_linked.chain).1

@@ -1,4 +1,4 @@
-use Rattle.std.proofs.Common.{◌+◌, ◌<◌, Err, arith, sym, subst, ap, ◌∙◌}
+use Rattle.std.proofs.Common.{◌+◌, Err, arith, sym, subst, ap, ◌∙◌}
 use Rattle.std.specs.Prelude.{◌⊎◌, ◌≡◌}
 use Rattle.std.proofs.lemmas.List.{get_or-map}
 use Rattle.lru_list.specs.declared.linked_list.Node.{Node}
@@ -49,7 +49,10 @@ link_between-requires-clause-prev g c =
     omega (arith, behind, read, ap (λ (n : Node g.row.K.Denot). n.prev) c.index.ensures)
 
 pub link_between-requires-clause-next : goal.link_between-requires-clause-next
-link_between-requires-clause-next g c = index-requires g c
+link_between-requires-clause-next g c =
+    let t = taken c.self.inside.nodes.items c.self.inside.last_freed c.self.inside.len c.self.invariant c.args.item c.in-Ok.place c.take_slot.new.nodes.items c.take_slot.new.last_freed c.in-Ok.ensures in
+    let there = subst (λ (l : Linked g.row.K.Denot). IsLive l c.args.index ⊎ (c.args.index ≡ 1)) (sym c.self.view_is) c.requires in
+    omega (arith, index_range c.self.inside.nodes.items c.self.inside.last_freed c.self.inside.len c.self.invariant c.args.index there c.args.item c.in-Ok.place c.take_slot.new.nodes.items c.take_slot.new.last_freed t)
 
 pub overflow_add-self : goal.overflow_add-self
 overflow_add-self g c =
