@@ -2,7 +2,7 @@
 ghost use Rattle.std.specs.Prelude.{◌≡◌, ◌+◌, ◌<◌, ◌≤◌, ◌∷◌, ◌++◌, [], length, map, Some, None, IfSome, IfOk, IfErr, if◌then◌else◌};
 ghost use Rattle.std.specs.Option.{option_map};
 ghost use Rattle.lru_index.specs.Hashing.{key_hash, seeded, unseeded};
-ghost use Rattle.lru_rows.specs.Rows.{most_rows, recency, entry_of, taken, row_at, row_of, IsAt, promoted, demoted, with_weight, last_row, first_row, Finds, IsRecency, Removes, PopsLast, PopsFirst, Pushes, MakesVacancy, UpdatesAt};
+ghost use Rattle.lru_rows.specs.Rows.{most_rows, recency, entry_of, taken, row_at, row_of, IsAt, without, promoted, demoted, with_weight, last_row, first_row, Finds, IsRecency, Removes, PopsLast, PopsFirst, Pushes, MakesVacancy, UpdatesAt};
 ghost use Rattle.lru_pairs.specs.Pairs.{with_entry, SameKey};
 ghost use Rattle.lru_pairs.specs.Beside.{row_after, row_before, put_before};
 ghost use Rattle.lru_pairs.specs.Representation.Nodes.{IsKept};
@@ -444,6 +444,20 @@ impl<K: Hash + Drop, V: Drop, S: BuildHasher> Pairs<K, V, S> {
     {
         let place = self.index.remove_hashed(&self.nodes, query, hash)?;
         Some(self.nodes.take(place))
+    }
+
+    /// Takes a place's pair out. The place is free then.
+    #[inline(always)]
+    pub fn take(&mut self, place: Place) -> Taken<K, V>
+        requires { IsAt self.old.held.rows place }
+        ensures taken { option_map taken (row_at self.old.held.rows place) ≡ Some result }
+        ensures rows { self.new.held ≡ recency (without self.old.held.rows place) (self.old.held.free + 1) }
+        ensures hashes { self.new.hashes ≡ self.old.hashes }
+        ensures valid { IsRecency K.eq self.old.held.rows }
+    {
+        let taken = self.nodes.take(place);
+        self.index.remove_at(&taken.key, place);
+        taken
     }
 
     /// Takes the pair out that was used longest ago. Its place is free then.

@@ -1,0 +1,5 @@
+pub mod Segmented
+pub mod Seats
+pub mod Representation
+pub mod Scans
+pub mod Laws
