@@ -142,7 +142,7 @@ module _ {K V : Type 0} where
         × (LetsGo Step visit (old.most_weight - w) (old.most_entries - 1) old mid × (new ≡ with_more mid mid.upper (entry k v w ∷ mid.lower)))))
     Puts {F} {S} Step visit old k v w (Ok (Some was)) new =
         ((w ≤ old.most_weight) × (0 < old.most_entries)) × ((entry_of eq (entries old) k ≡ Some was) × ((mid : Segmented K V S)
-        × (LetsGo Step visit (old.most_weight - w) (old.most_entries - 1) (removed eq old k) mid × Rejoins mid (entry k v w) new))))
+        × (LetsGo Step visit (old.most_weight - w) (old.most_entries - 1) (removed eq old k) mid × Rejoins mid (entry k v w) new)))
     Puts {F} {S} Step visit old k v w (Err r) new = MayRefuse eq (plain old) k w r.cause × ((r.key ≡ k) × ((r.value ≡ v) × (new ≡ old)))
 
     -- a key is used; or, where it has no entry, one is put of a value and a weight that `Makes` allows, or none is made
