@@ -127,8 +127,8 @@ module _ {K V : Type 0} where
 
   -- ---- a row put before another
   by_test : (b : Bool) (P : Bool → Type 0) → (b ≡ true → P true) → (b ≡ false → P false) → P b
-  by_test true P yes no = yes refl
-  by_test false P yes no = no refl
+  by_test true P hit miss = hit refl
+  by_test false P hit miss = miss refl
 
   -- each place has the row that it has where the new one goes first
   pub row_put : (rows : List (Placed K V)) (named : Option ℕ) (new : Placed K V) (q : ℕ) → row_at rows new.place ≡ None → row_at (put_before rows named new) q ≡ row_at (new ∷ rows) q

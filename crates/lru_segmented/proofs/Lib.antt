@@ -1,3 +1,4 @@
 pub mod Lists
 pub mod Walked
 pub mod Plain
+pub mod Sides

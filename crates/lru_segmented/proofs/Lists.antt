@@ -9,8 +9,8 @@ use Rattle.lru_entries.specs.Entries.{weight_of}
 use Rattle.lru_cache.specs.Cache.{entry_of, without}
 
 pub by_test : (b : Bool) (P : Bool → Type 0) → (b ≡ true → P true) → (b ≡ false → P false) → P b
-by_test true P yes no = yes refl
-by_test false P yes no = no refl
+by_test true P hit miss = hit refl
+by_test false P hit miss = miss refl
 
 pub nil_cons : {A : Type 0} (a : A) (xs : List A) → [] ≡ a ∷ xs → ⊥
 nil_cons a xs e = cc

@@ -1,5 +1,5 @@
 -- What the rows of a segmented cache stand for.
-use Rattle.std.specs.Prelude.{◌≡◌, ℕ, ◌+◌, ◌≤◌, ◌==◌, Bool, true, false, not, List, [], ◌∷◌, ◌++◌, length, map, filter, Option, None, Some, if◌then◌else◌}
+use Rattle.std.specs.Prelude.{◌≡◌, ℕ, ◌+◌, ◌≤◌, ◌==◌, Bool, true, false, not, List, [], ◌∷◌, ◌++◌, length, map, filter, count_by, Option, None, Some, if◌then◌else◌}
 use Rattle.std.specs.Option.{option_map}
 use Rattle.lru_rows.specs.Rows.{Placed, placed, Recency, recency, row_at, first_row, last_row, with_value}
 use Rattle.lru_entries.specs.Entries.{entries_in, weight_in}
@@ -30,11 +30,12 @@ module _ {K V : Type 0} where
   AllSay b [] = Unit {0}
   AllSay b (r ∷ rs) = (r.value.upper ≡ b) × AllSay b rs
 
-  -- what is kept of seats: the upper segment stands first, the boundary is the place of the first row behind it, and both segments are weighed
+  -- what is kept of seats: no place stands twice, the upper segment stands first, the boundary is the place of the first row behind it, and both segments are weighed
   pub record IsSeated (r : Recency K (Seat V)) (boundary : Option ℕ) (weight upper_weight upper_len : ℕ) : Type 0 where
     pub us : List (Placed K (Seat V))
     pub ls : List (Placed K (Seat V))
     pub parts : r.rows ≡ us ++ ls
+    pub once : (p : ℕ) → count_by (λ x. x.place == p) r.rows ≤ 1
     pub uppers : AllSay true us
     pub lowers : AllSay false ls
     pub boundary_is : boundary ≡ option_map (λ x. x.place) (first_row ls)

@@ -200,10 +200,11 @@ impl<K: Hash, V, S: BuildHasher> Seats<K, V, S> {
         self.boundary = pass(&self.rows, self.boundary, place);
         self.rows.promote(place);
         let weight = self.rows.weight_at(place);
-        if !mark(&mut self.rows, place, true) {
-            self.upper_weight += weight;
-            self.upper_len += 1;
+        if mark(&mut self.rows, place, true) {
+            return;
         }
+        self.upper_weight += weight;
+        self.upper_len += 1;
     }
 
     /// Puts the last row of the upper segment first in the lower one. No row moves by it.
@@ -317,16 +318,19 @@ impl<K: Hash + Drop, V: Drop, S: BuildHasher> Seats<K, V, S> {
     {
         self.boundary = pass(&self.rows, self.boundary, place);
         let row = self.rows.take(place);
-        self.weight -= row.weight;
-        if row.value.upper {
-            self.upper_weight -= row.weight;
-            self.upper_len -= 1;
-        }
-        Taken {
+        let (weight, upper) = (row.weight, row.value.upper);
+        self.weight -= weight;
+        let taken = Taken {
             key: row.key,
             value: row.value.value,
-            weight: row.weight,
+            weight,
+        };
+        if !upper {
+            return taken;
         }
+        self.upper_weight -= weight;
+        self.upper_len -= 1;
+        taken
     }
 }
 
