@@ -2,3 +2,4 @@ pub mod Lists
 pub mod Walked
 pub mod Plain
 pub mod Sides
+pub mod Seated
