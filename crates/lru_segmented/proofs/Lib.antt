@@ -3,3 +3,5 @@ pub mod Walked
 pub mod Plain
 pub mod Sides
 pub mod Seated
+pub mod Agreed
+pub mod Caches

@@ -9,11 +9,11 @@ use Rattle.lru_segmented.specs.declared.seat.Seat.{Seat}
 use Rattle.lru_segmented.specs.Segmented.{Segmented}
 use Rattle.lru_segmented.specs.Seats.{Seated, seated, rows}
 
-module _ {K V : Type 0} where
-  -- ---- seats
-  abbrev pub seat : V → Bool → Seat V
-  seat v upper = record { value = v; upper = upper }
+-- ---- seats
+abbrev pub seat : {V : Type 0} → V → Bool → Seat V
+seat v upper = record { value = v; upper = upper }
 
+module _ {K V : Type 0} where
   -- the row of a seat
   abbrev pub row_in : Placed K (Seat V) → Placed K V
   row_in r = placed r.place r.key r.value.value r.weight

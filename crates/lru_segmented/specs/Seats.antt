@@ -55,9 +55,9 @@ module _ {K V : Type 0} where
     pub left : new ≡ seated front (row ∷ old.lower) old.free old.hashes
 
   -- what a call may answer that puts a row in. `added` says where it goes. A refusal hands the key and the value back
-  abbrev pub Seats : {S : Type 0} → (Placed K V → Seated K V S) → Seated K V S → K → V → ℕ → Result ℕ (Unpushed K V) → Seated K V S → Type 0
-  Seats added old k v w (Ok p) new = (length (rows old) < most_rows) × ((row_at (rows old) p ≡ None) × (new ≡ added (placed p k v w)))
-  Seats added old k v w (Err back) new = LacksPlace (recency (rows old) old.free) back.cause × ((back.key ≡ k) × ((back.value ≡ v) × (new ≡ old)))
+  abbrev pub Pushes : {S : Type 0} → (Placed K V → Seated K V S) → Seated K V S → K → V → ℕ → Result ℕ (Unpushed K V) → Seated K V S → Type 0
+  Pushes added old k v w (Ok p) new = (length (rows old) < most_rows) × ((row_at (rows old) p ≡ None) × (new ≡ added (placed p k v w)))
+  Pushes added old k v w (Err back) new = LacksPlace (recency (rows old) old.free) back.cause × ((back.key ≡ k) × ((back.value ≡ v) × (new ≡ old)))
 
   -- the value of the row at a place is lent to a closure, which leaves what it may leave
   abbrev pub UpdatesAt : {R S : Type 0} → (MutBor V → ℕ → R → MutBor V → Type 0) → Seated K V S → ℕ → R → Seated K V S → Type 0

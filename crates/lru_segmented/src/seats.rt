@@ -4,7 +4,7 @@ ghost use Rattle.std.specs.Option.{option_map};
 ghost use Rattle.lru_index.specs.Hashing.{key_hash};
 ghost use Rattle.lru_rows.specs.Rows.{row_at, row_of, IsAt, IsRecency, Finds, last_row, taken, without};
 ghost use Rattle.lru_entries.specs.Entries.{weight_in};
-ghost use Rattle.lru_segmented.specs.Seats.{seated, rows, lifted, Lowers, LowersLast, Seats, UpdatesAt};
+ghost use Rattle.lru_segmented.specs.Seats.{seated, rows, lifted, Lowers, LowersLast, Pushes, UpdatesAt};
 ghost use Rattle.lru_segmented.specs.Representation.{passed, upper_end, Marks};
 
 use crate::seat::Seat;
@@ -259,7 +259,7 @@ impl<K: Hash + Drop, V: Drop, S: BuildHasher> Seats<K, V, S> {
         requires absent { row_of K.eq (rows self.old) key ≡ None }
         requires hash { hash ≡ key_hash S.BuildHasher S.Hasher.Hasher K.hash_input self.old.hashes key }
         requires light { weight_in (rows self.old) + weight < 2 ^ 64 }
-        ensures { Seats (λ r. seated (r ∷ self.old.upper) self.old.lower (self.old.free - 1) self.old.hashes) self.old key value weight result self.new }
+        ensures { Pushes (λ r. seated (r ∷ self.old.upper) self.old.lower (self.old.free - 1) self.old.hashes) self.old key value weight result self.new }
     {
         let seat = Seat { value, upper: true };
         match self.rows.push_first_hashed(key, seat, weight, hash) {
@@ -289,7 +289,7 @@ impl<K: Hash + Drop, V: Drop, S: BuildHasher> Seats<K, V, S> {
         requires absent { row_of K.eq (rows self.old) key ≡ None }
         requires hash { hash ≡ key_hash S.BuildHasher S.Hasher.Hasher K.hash_input self.old.hashes key }
         requires light { weight_in (rows self.old) + weight < 2 ^ 64 }
-        ensures { Seats (λ r. seated self.old.upper (r ∷ self.old.lower) (self.old.free - 1) self.old.hashes) self.old key value weight result self.new }
+        ensures { Pushes (λ r. seated self.old.upper (r ∷ self.old.lower) (self.old.free - 1) self.old.hashes) self.old key value weight result self.new }
     {
         let seat = Seat {
             value,
