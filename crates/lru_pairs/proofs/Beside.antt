@@ -134,16 +134,14 @@ module _ {K V : Type 0} where
   pub row_put : (rows : List (Placed K V)) (named : Option ℕ) (new : Placed K V) (q : ℕ) → row_at rows new.place ≡ None → row_at (put_before rows named new) q ≡ row_at (new ∷ rows) q
   row_put [] named new q none = refl
   row_put (x ∷ xs) named new q none =
-      by_test (stands_at x named) (λ b. row_at (cond b (new ∷ x ∷ xs) (x ∷ put_before xs named new)) q ≡ row_at (new ∷ x ∷ xs) q) (λ _. refl) (λ _. behind)
+      by_test (stands_at x named) (λ b. row_at (cond b (new ∷ x ∷ xs) (x ∷ put_before xs named new)) q ≡ row_at (new ∷ x ∷ xs) q) (λ _. refl)
+      (λ _. behind (row_put xs named new q (sym (row_at_other x xs new.place off) ∙ none)))
     where
       off : x.place ≢ new.place
       off e = false≢true (sym (ap is_some none) ∙ ap is_some (row_at_here x xs new.place e))
 
-      rest : row_at (put_before xs named new) q ≡ row_at (new ∷ xs) q
-      rest = row_put xs named new q (sym (row_at_other x xs new.place off) ∙ none)
-
-      behind : row_at (x ∷ put_before xs named new) q ≡ row_at (new ∷ x ∷ xs) q
-      behind =
+      behind : row_at (put_before xs named new) q ≡ row_at (new ∷ xs) q → row_at (x ∷ put_before xs named new) q ≡ row_at (new ∷ x ∷ xs) q
+      behind rest =
           elim (cases_eq x.place q) [
             | inl here ↦
                 row_at_here x (put_before xs named new) q here

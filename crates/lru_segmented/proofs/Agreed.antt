@@ -66,11 +66,9 @@ module _ {K V : Type 0} where
     pub agreed_without : (rows : List (Placed K V)) → Agree rows → entries_in (rows_without rows p) ≡ without eq (entries_in rows) key
     agreed_without [] a = refl
     agreed_without (r ∷ rs) a =
-        ap (λ b. entries_in (cond (not b) (r ∷ rows_without rs p) (rows_without rs p))) a.0 ∙ by_key (eq r.key key)
+        ap (λ b. entries_in (cond (not b) (r ∷ rows_without rs p) (rows_without rs p))) a.0 ∙ by_key (agreed_without rs a.1) (eq r.key key)
       where
-        rest : entries_in (rows_without rs p) ≡ without eq (entries_in rs) key
-        rest = agreed_without rs a.1
-
-        by_key : (b : Bool) → entries_in (cond (not b) (r ∷ rows_without rs p) (rows_without rs p)) ≡ cond (not b) (entry_in r ∷ without eq (entries_in rs) key) (without eq (entries_in rs) key)
-        by_key true = rest
-        by_key false = ap (λ es. entry_in r ∷ es) rest
+        by_key : entries_in (rows_without rs p) ≡ without eq (entries_in rs) key → (b : Bool) →
+            entries_in (cond (not b) (r ∷ rows_without rs p) (rows_without rs p)) ≡ cond (not b) (entry_in r ∷ without eq (entries_in rs) key) (without eq (entries_in rs) key)
+        by_key rest true = rest
+        by_key rest false = ap (λ es. entry_in r ∷ es) rest

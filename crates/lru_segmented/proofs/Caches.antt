@@ -1,6 +1,6 @@
 -- What the calls of a cache make of its entries, by what they make of its rows.
 use Rattle.std.proofs.Common.{◌≡◌, ℕ, ◌+◌, ◌-◌, ◌<◌, ◌≤◌, cond, List, [], ◌∷◌, ◌++◌, length, Some, None, Ok, Err, refl, sym, ap, ◌∙◌, subst, inl, inr, arith, true, false, append_assoc}
-use Rattle.std.specs.Prelude.{Option, Bool, Result, is_some, IsTrue, count_by, nat_eq, max, ◌==◌, ◌⊎◌}
+use Rattle.std.specs.Prelude.{Option, Bool, Result, is_some, IsTrue, count_by, eqb, max, ◌==◌, ◌⊎◌}
 use Rattle.std.specs.Option.{option_map, option_map_or}
 use Rattle.std.specs.Borrow.{MutBor}
 use Rattle.std.proofs.lemmas.Bool.{false≢true}
@@ -169,10 +169,10 @@ module _ {K V S : Type 0} (s : Seated K V S) (mw me mp : ℕ) where
 
         -- and with another value
         module _ (value : V) (u : Seated K V S) (u_is : u ≡ seated (placed found.0.place found.0.key value found.0.weight ∷ rows_without s.upper p) (rows_without s.lower p) s.free s.hashes) where
-          module _ (z : Seated K V S) (l : Lowers mp (cond (nat_eq mp 0) 0 me) u z) where
+          module _ (z : Seated K V S) (l : Lowers mp (cond (eqb mp 0) 0 me) u z) where
             raised_weight : weight_in (rows z) ≡ weight_in (rows s)
             raised_weight =
-                lowered_weight mp (cond (nat_eq mp 0) 0 me) u z l
+                lowered_weight mp (cond (eqb mp 0) 0 me) u z l
                 ∙ omega (
                   arith,
                   ap (λ (y : Seated K V S). weight_in (rows y)) u_is,
@@ -183,10 +183,10 @@ module _ {K V S : Type 0} (s : Seated K V S) (mw me mp : ℕ) where
                 )
 
             raised_length : length (rows z) ≡ length (rows s)
-            raised_length = lowered_length mp (cond (nat_eq mp 0) 0 me) u z l ∙ ap (λ (y : Seated K V S). length (rows y)) u_is ∙ sym (one_fewer ∙ omega arith)
+            raised_length = lowered_length mp (cond (eqb mp 0) 0 me) u z l ∙ ap (λ (y : Seated K V S). length (rows y)) u_is ∙ sym (one_fewer ∙ omega arith)
 
             pub kept_raised : IsKept s mw me mp → IsKept z mw me mp
-            kept_raised k = record { fits = (omega (arith, raised_weight, k.fits.0), omega (arith, raised_length, k.fits.1)); protected = lowered_upper mp (cond (nat_eq mp 0) 0 me) u z l }
+            kept_raised k = record { fits = (omega (arith, raised_weight, k.fits.0), omega (arith, raised_length, k.fits.1)); protected = lowered_upper mp (cond (eqb mp 0) 0 me) u z l }
 
             pub view_raised : Raises eq cache query (entry found.0.key value found.0.weight) (segmented_in z mw me mp)
             view_raised = (
@@ -197,9 +197,9 @@ module _ {K V S : Type 0} (s : Seated K V S) (mw me mp : ℕ) where
                   record {
                     back = entries_in l.back;
                     leaves =
-                        subst (λ es. Leaves mp (cond (nat_eq mp 0) 0 me) es (entries_in l.front) (entries_in l.back))
+                        subst (λ es. Leaves mp (cond (eqb mp 0) 0 me) es (entries_in l.front) (entries_in l.back))
                         (ap (λ (y : Seated K V S). entries_in y.upper) u_is ∙ ap (λ es. entry found.0.key value found.0.weight ∷ es) upper_without)
-                        (leaves_in mp (cond (nat_eq mp 0) 0 me) u.upper l.front l.back l.parts l.fits l.needed);
+                        (leaves_in mp (cond (eqb mp 0) 0 me) u.upper l.front l.back l.parts l.fits l.needed);
                     lower_is = map-append entry_in l.back u.lower ∙ ap (λ es. entries_in l.back ++ es) (ap (λ (y : Seated K V S). entries_in y.lower) u_is ∙ lower_without);
                   },
                   ap (λ (y : Seated K V S). segmented_in y mw me mp) l.left
@@ -215,7 +215,7 @@ module _ {K V S : Type 0} (s : Seated K V S) (mw me mp : ℕ) where
         same_raised : t ≡ seated (placed found.0.place found.0.key found.0.value found.0.weight ∷ rows_without s.upper p) (rows_without s.lower p) s.free s.hashes
         same_raised = lifted_is
 
-        module _ (z : Seated K V S) (l : Lowers mp (cond (nat_eq mp 0) 0 me) t z) where
+        module _ (z : Seated K V S) (l : Lowers mp (cond (eqb mp 0) 0 me) t z) where
           pub kept_used : IsKept s mw me mp → IsKept z mw me mp
           kept_used k = kept_raised found.0.value t same_raised z l k
 
@@ -234,7 +234,7 @@ module _ {K V S : Type 0} (s : Seated K V S) (mw me mp : ℕ) where
               (with_value-first p updates.1.1.0 found.0 (rows_without s.upper p) place ∙ ap (λ us. placed found.0.place found.0.key updates.1.1.0 found.0.weight ∷ us) (with_value-without p updates.1.1.0 s.upper))
               ∙ ap (λ ls. seated (placed found.0.place found.0.key updates.1.1.0 found.0.weight ∷ rows_without s.upper p) ls s.free s.hashes) (with_value-without p updates.1.1.0 s.lower)
 
-          module _ (z : Seated K V S) (l : Lowers mp (cond (nat_eq mp 0) 0 me) u z) where
+          module _ (z : Seated K V S) (l : Lowers mp (cond (eqb mp 0) 0 me) u z) where
             pub kept_updated : IsKept s mw me mp → IsKept z mw me mp
             kept_updated k = kept_raised updates.1.1.0 u updated_is z l k
 
@@ -365,17 +365,17 @@ module _ {K V S : Type 0} (s : Seated K V S) (mw me mp : ℕ) where
 
       -- in the upper one
       module _ (p : ℕ) (t : Seated K V S) (t_is : t ≡ seated (placed p key v w ∷ s.upper) s.lower (s.free - 1) s.hashes) (placed_in : length (entries (segmented_in s mw me mp)) < length (rows s) + s.free)
-          (z : Seated K V S) (l : Lowers mp (cond (nat_eq mp 0) 0 me) t z) where
+          (z : Seated K V S) (l : Lowers mp (cond (eqb mp 0) 0 me) t z) where
         rejoined_length : length (rows z) ≡ length (rows s) + 1
-        rejoined_length = lowered_length mp (cond (nat_eq mp 0) 0 me) t z l ∙ ap (λ (y : Seated K V S). length (rows y)) t_is ∙ omega arith
+        rejoined_length = lowered_length mp (cond (eqb mp 0) 0 me) t z l ∙ ap (λ (y : Seated K V S). length (rows y)) t_is ∙ omega arith
 
         rejoined_weight : weight_in (rows z) ≡ w + weight_in (rows s)
-        rejoined_weight = lowered_weight mp (cond (nat_eq mp 0) 0 me) t z l ∙ ap (λ (y : Seated K V S). weight_in (rows y)) t_is ∙ weight-cons (placed p key v w) (rows s)
+        rejoined_weight = lowered_weight mp (cond (eqb mp 0) 0 me) t z l ∙ ap (λ (y : Seated K V S). weight_in (rows y)) t_is ∙ weight-cons (placed p key v w) (rows s)
 
         pub kept_rejoined : IsKept z mw me mp
         kept_rejoined = record {
           fits = (omega (arith, light, heavy, rejoined_weight), omega (arith, few, long, rejoined_length));
-          protected = lowered_upper mp (cond (nat_eq mp 0) 0 me) t z l;
+          protected = lowered_upper mp (cond (eqb mp 0) 0 me) t z l;
         }
 
         pub view_rejoined : Rejoins cache (entry key v w) (segmented_in z mw me mp)
@@ -387,9 +387,9 @@ module _ {K V S : Type 0} (s : Seated K V S) (mw me mp : ℕ) where
               record {
                 back = entries_in l.back;
                 leaves =
-                    subst (λ es. Leaves mp (cond (nat_eq mp 0) 0 me) es (entries_in l.front) (entries_in l.back))
+                    subst (λ es. Leaves mp (cond (eqb mp 0) 0 me) es (entries_in l.front) (entries_in l.back))
                     (ap (λ (y : Seated K V S). entries_in y.upper) t_is)
-                    (leaves_in mp (cond (nat_eq mp 0) 0 me) t.upper l.front l.back l.parts l.fits l.needed);
+                    (leaves_in mp (cond (eqb mp 0) 0 me) t.upper l.front l.back l.parts l.fits l.needed);
                 lower_is = map-append entry_in l.back t.lower ∙ ap (λ es. entries_in l.back ++ es) (ap (λ (y : Seated K V S). entries_in y.lower) t_is);
               },
               ap (λ (y : Seated K V S). segmented_in y mw me mp) l.left

@@ -4,4 +4,7 @@ pub mod Plain
 pub mod Sides
 pub mod Seated
 pub mod Agreed
+pub mod Lowered
 pub mod Caches
+pub mod Receding
+pub mod Putting

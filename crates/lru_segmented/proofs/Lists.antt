@@ -7,6 +7,7 @@ use Rattle.std.proofs.lemmas.List.Elements.{filter-append}
 use Rattle.lru_entries.specs.declared.entry.Entry.{Entry}
 use Rattle.lru_entries.specs.Entries.{weight_of}
 use Rattle.lru_cache.specs.Cache.{entry_of, without}
+use Rattle.lru_segmented.specs.Segmented.{Segmented, entries, removed, with_segments}
 
 pub by_test : (b : Bool) (P : Bool → Type 0) → (b ≡ true → P true) → (b ≡ false → P false) → P b
 by_test true P hit miss = hit refl
@@ -89,3 +90,18 @@ module _ {K V : Type 0} where
         by_test (eq x.key key) (λ b. eq x.key key ≡ b → length (without eq (x ∷ xs) key) + 1 ≤ length (x ∷ xs))
         (λ _ it. omega (arith, without_short xs, ap length (without_hit x xs it)))
         (λ _ it. omega (arith, without_fewer xs e (sym (has_not x xs it) ∙ found), ap length (without_miss x xs it))) refl
+
+    -- the key has no entry among those without its own
+    pub without_absent_key : (es : List (Entry K V)) → entry_of eq (without eq es key) key ≡ None
+    without_absent_key [] = refl
+    without_absent_key (e ∷ es) =
+        let rest = without_absent_key es in
+        by_test (eq e.key key) (λ b. eq e.key key ≡ b → entry_of eq (without eq (e ∷ es) key) key ≡ None)
+        (λ _ it. ap (λ xs. entry_of eq xs key) (without_hit e es it) ∙ rest)
+        (λ _ it. ap (λ xs. entry_of eq xs key) (without_miss e es it) ∙ has_not e (without eq es key) it ∙ rest) refl
+
+    -- a key that has no entry leaves its cache as it is
+    pub not_removed : {S : Type 0} (c : Segmented K V S) → entry_of eq (entries c) key ≡ None → removed eq c key ≡ c
+    not_removed c none =
+        ap (λ us. with_segments c us (without eq c.lower key)) (without_absent c.upper (absent_front c.upper c.lower none))
+        ∙ ap (λ ls. with_segments c c.upper ls) (without_absent c.lower (absent_back c.upper c.lower none))

@@ -7,8 +7,10 @@ use Rattle.std.proofs.lemmas.List.{length-append, length-map, map-append, append
 use Rattle.std.proofs.lemmas.List.Elements.{filter-append}
 use Rattle.std.proofs.lemmas.List.Sums.{sum_by-cons}
 use Rattle.std.proofs.lemmas.Option.{slice_get-map}
+use Rattle.lru_rows.specs.declared.rows.NoPlace.{NoPlace}
+use Rattle.lru_rows.specs.declared.rows.NoPlace.TheVariants.{Memory, Full}
 use Rattle.lru_rows.specs.declared.rows.Taken.{Taken}
-use Rattle.lru_rows.specs.Rows.{Placed, placed, Recency, recency, row_at, row_of, IsAt, IsRecency, Finds, without, promoted, with_value, first_row, last_row, taken}
+use Rattle.lru_rows.specs.Rows.{Placed, placed, Recency, recency, row_at, row_of, IsAt, IsRecency, Finds, without, promoted, with_value, first_row, last_row, taken, most_rows, LacksPlace}
 use Rattle.lru_entries.specs.Entries.{weight_in}
 use Rattle.lru_entries.proofs.Rows.{some_of, places, places_here, places-append, without_absent, row_first, row_place, by_place, weight-cons, weight-append, weight-without, length-without}
 use Rattle.lru_pairs.specs.Beside.{row_after, row_before, put_before}
@@ -216,7 +218,7 @@ module _ {K V S : Type 0} (r : Recency K (Seat V)) (hashes : S) (boundary : Opti
   pub last_is : (o : Option ℕ) → o ≡ place_of (last_row r.rows) → o ≡ option_map (λ (x : Placed K V). x.place) (last_row (rows s))
   last_is o is = is ∙ sym (place_in (last_row r.rows)) ∙ ap (option_map (λ (x : Placed K V). x.place)) (sym (in-last r.rows) ∙ ap last_row rows_are)
 
-  there : (p : ℕ) → IsAt (rows s) p → (x : Placed K (Seat V)) × (row_at r.rows p ≡ Some x)
+  pub there : (p : ℕ) → IsAt (rows s) p → (x : Placed K (Seat V)) × (row_at r.rows p ≡ Some x)
   there p at = some_there (row_at r.rows p) (ap is_some (sym (at_is p)) ∙ at)
 
   pub seat_stands : (p : ℕ) → IsAt (rows s) p → IsAt r.rows p
@@ -232,6 +234,28 @@ module _ {K V S : Type 0} (r : Recency K (Seat V)) (hashes : S) (boundary : Opti
   weight_is p at n is =
       let x = there p at in
       ap (option_map (λ (y : Placed K V). y.weight)) (at_is p ∙ ap (option_map row_in) x.1) ∙ sym (ap (option_map (λ (y : Placed K (Seat V)). y.weight)) x.1) ∙ is
+
+  pub few_rows : length r.rows < most_rows → length (rows s) < most_rows
+  few_rows few = omega (arith, few, len_is (length r.rows) refl)
+
+  -- why there is no place
+  pub lacks : (cause : NoPlace) → LacksPlace r cause → LacksPlace (recency (rows s) s.free) cause
+  lacks Memory none = (omega (arith, none.0, len_is (length r.rows) refl), omega (arith, none.1, free_is))
+  lacks Full none = omega (arith, none, len_is (length r.rows) refl)
+
+  -- nothing has changed
+  pub unchanged : (r1 : Recency K (Seat V)) → r1 ≡ r → (h : S) → h ≡ hashes → seated_in r1 h ≡ s
+  unchanged r1 same h h_is = ap (λ y. seated_in y h) same ∙ ap (seated_in r) h_is ∙ view
+
+  pub kept_same : (r1 : Recency K (Seat V)) → r1 ≡ r → IsSeated r1 boundary w uw ul
+  kept_same r1 same = subst (λ y. IsSeated y boundary w uw ul) (sym same) k
+
+  -- the counts are no wider than numbers
+  pub counted : (uw ≤ w) × (ul ≤ length r.rows)
+  counted = (
+    omega (arith, k.upper_weight_is, k.weight_is, ap weight_in k.parts, weight-append k.us k.ls),
+    omega (arith, k.upper_len_is, ap length k.parts, length-append k.us k.ls),
+  )
 
   -- the boundary stands, where there is one
   pub boundary_stands : IfSome boundary (IsAt r.rows)
@@ -328,6 +352,9 @@ module _ {K V S : Type 0} (r : Recency K (Seat V)) (hashes : S) (boundary : Opti
         once2 : Once r2.rows
         once2 q = subst (λ rs. places q rs ≤ 1) (ap (λ n. raised ∷ without r.rows n) place ∙ sym (ap (λ (y : Recency K (Seat V)). y.rows) r2_is)) (once_first r.rows raised k.once q)
 
+        long2 : length r2.rows ≡ length r.rows
+        long2 = ap (λ (y : Recency K (Seat V)). length y.rows) r2_is ∙ sym (length-without p r.rows (ap is_some found) (k.once p) ∙ omega arith)
+
         weight2 : w ≡ weight_in r2.rows
         weight2 = omega (arith, weight_with, ap (λ (y : Recency K (Seat V)). weight_in y.rows) r2_is, weight-cons raised (without r.rows p))
 
@@ -337,6 +364,7 @@ module _ {K V S : Type 0} (r : Recency K (Seat V)) (hashes : S) (boundary : Opti
           ls = without k.ls p;
           parts = parts2;
           once = once2;
+          short = omega (arith, long2, k.short);
           uppers = (refl, say_without true k.us p k.uppers);
           lowers = say_without false k.ls p k.lowers;
           boundary_is = boundary_passed b b_is;
@@ -345,8 +373,8 @@ module _ {K V S : Type 0} (r : Recency K (Seat V)) (hashes : S) (boundary : Opti
           upper_len_is = omega (arith, (upper_with (sym says ∙ true_was)).1);
         }
 
-        pub lifted_fits : (n : ℕ) → n ≡ x.weight → was ≡ false → (uw + n ≤ w) × (ul + 1 ≤ length r.rows)
-        lifted_fits n n_is false_was = let l = lower_with (sym says ∙ false_was) in (omega (arith, l.1, n_is), l.2)
+        pub lifted_fits : (n : ℕ) → n ≡ x.weight → was ≡ false → (uw + n ≤ w) × (ul + 1 ≤ most_rows)
+        lifted_fits n n_is false_was = let l = lower_with (sym says ∙ false_was) in (omega (arith, l.1, n_is), omega (arith, l.2, k.short))
 
         pub kept_raised : (b : Option ℕ) → b ≡ passed r.rows boundary p → was ≡ false → (n : ℕ) → n ≡ x.weight → IsSeated r2 b w (uw + n) (ul + 1)
         kept_raised b b_is false_was n n_is = record {
@@ -354,6 +382,7 @@ module _ {K V S : Type 0} (r : Recency K (Seat V)) (hashes : S) (boundary : Opti
           ls = without k.ls p;
           parts = parts2;
           once = once2;
+          short = omega (arith, long2, k.short);
           uppers = (refl, say_without true k.us p k.uppers);
           lowers = say_without false k.ls p k.lowers;
           boundary_is = boundary_passed b b_is;
@@ -403,6 +432,7 @@ module _ {K V S : Type 0} (r : Recency K (Seat V)) (hashes : S) (boundary : Opti
         ls = without k.ls p;
         parts = out_parts;
         once = out_once;
+        short = omega (arith, k.short, ap (λ (y : Recency K (Seat V)). length y.rows) r1_is, length-without p r.rows (ap is_some found) (k.once p));
         uppers = say_without true k.us p k.uppers;
         lowers = say_without false k.ls p k.lowers;
         boundary_is = boundary_passed b b_is;
@@ -417,6 +447,7 @@ module _ {K V S : Type 0} (r : Recency K (Seat V)) (hashes : S) (boundary : Opti
         ls = without k.ls p;
         parts = out_parts;
         once = out_once;
+        short = omega (arith, k.short, ap (λ (y : Recency K (Seat V)). length y.rows) r1_is, length-without p r.rows (ap is_some found) (k.once p));
         uppers = say_without true k.us p k.uppers;
         lowers = say_without false k.ls p k.lowers;
         boundary_is = boundary_passed b b_is;
@@ -529,6 +560,7 @@ module _ {K V S : Type 0} (r : Recency K (Seat V)) (hashes : S) (boundary : Opti
             ls = lowered ∷ k.ls;
             parts = lowered_parts;
             once = lowered_once;
+            short = omega (arith, k.short, ap length rows_with, length-append front (last ∷ k.ls), ap length lowered_parts, length-append front (lowered ∷ k.ls));
             uppers = front_say;
             lowers = (refl, k.lowers);
             boundary_is = ap (λ q. Some q) (sym at_last);
@@ -559,7 +591,7 @@ module _ {K V S : Type 0} (r : Recency K (Seat V)) (hashes : S) (boundary : Opti
           }
 
   -- ---- one more
-  module _ (key : K) (v : V) (n p : ℕ) (none : row_at r.rows p ≡ None) where
+  module _ (key : K) (v : V) (n p : ℕ) (few : length r.rows < most_rows) (none : row_at r.rows p ≡ None) where
     no_place : places p (k.us ++ k.ls) ≡ 0
     no_place = ap (places p) (sym k.parts) ∙ nowhere r.rows p none
 
@@ -583,6 +615,7 @@ module _ {K V S : Type 0} (r : Recency K (Seat V)) (hashes : S) (boundary : Opti
         ls = k.ls;
         parts = upper_parts;
         once = λ q. subst (λ rs. places q rs ≤ 1) (sym upper_parts) (once_more [] (k.us ++ k.ls) in_upper once_parts no_place q);
+        short = omega (arith, few, ap (λ (y : Recency K (Seat V)). length y.rows) r1_is);
         uppers = (refl, k.uppers);
         lowers = k.lowers;
         boundary_is = k.boundary_is;
@@ -612,6 +645,7 @@ module _ {K V S : Type 0} (r : Recency K (Seat V)) (hashes : S) (boundary : Opti
         ls = in_lower ∷ k.ls;
         parts = lower_parts;
         once = λ q. subst (λ rs. places q rs ≤ 1) (sym lower_parts) (once_more k.us k.ls in_lower once_parts no_place q);
+        short = omega (arith, few, ap length k.parts, length-append k.us k.ls, ap length lower_parts, length-append k.us (in_lower ∷ k.ls));
         uppers = k.uppers;
         lowers = (refl, k.lowers);
         boundary_is = refl;

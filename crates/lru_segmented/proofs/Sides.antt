@@ -67,7 +67,7 @@ module _ {K V : Type 0} where
       elim (cases_lt 0 (places p us)) [
         | inl some ↦
             let y = places_at us p (omega (arith, some)) in
-            inl (ap (λ z. row_at us p) refl ∙ y.1 ∙ sym (at_left us ls p y.0 y.1) ∙ found, omega (arith, some, once p, places-append p us ls))
+            inl (y.1 ∙ sym (at_left us ls p y.0 y.1) ∙ found, omega (arith, some, once p, places-append p us ls))
         | inr none ↦
             let absent : places p us ≡ 0 = omega (arith, none) in
             inr (absent, sym (at_right us ls p absent) ∙ found)
@@ -113,21 +113,18 @@ module _ {K V : Type 0} where
   -- ---- a value at a place
   pub places_value : (rows : List (Placed K V)) (p : ℕ) (d : V) (q : ℕ) → places q (with_value rows p d) ≡ places q rows
   places_value [] p d q = refl
-  places_value (r ∷ rs) p d q = from (eqb r.place p)
+  places_value (r ∷ rs) p d q = from (places_value rs p d q) (eqb r.place p)
     where
-      rest : places q (with_value rs p d) ≡ places q rs
-      rest = places_value rs p d q
-
-      both : (b : Bool) (x : Placed K V) → x.place ≡ r.place → places q (x ∷ with_value rs p d) ≡ places q (r ∷ rs)
-      both b x same =
+      both : (x : Placed K V) → x.place ≡ r.place → places q (with_value rs p d) ≡ places q rs → places q (x ∷ with_value rs p d) ≡ places q (r ∷ rs)
+      both x same rest =
           elim (cases_eq r.place q) [
             | inl e ↦ omega (arith, rest, places_here x (with_value rs p d) q (same ∙ e), places_here r rs q e)
             | inr ne ↦ omega (arith, rest, places_other x (with_value rs p d) q (λ e. ne (sym same ∙ e)), places_other r rs q ne)
           ]
 
-      from : (b : Bool) → places q (cond b (placed r.place r.key d r.weight) r ∷ with_value rs p d) ≡ places q (r ∷ rs)
-      from true = both true (placed r.place r.key d r.weight) refl
-      from false = both false r refl
+      from : places q (with_value rs p d) ≡ places q rs → (b : Bool) → places q (cond b (placed r.place r.key d r.weight) r ∷ with_value rs p d) ≡ places q (r ∷ rs)
+      from rest true = both (placed r.place r.key d r.weight) refl rest
+      from rest false = both r refl rest
 
   pub value_absent : (rows : List (Placed K V)) (p : ℕ) (d : V) → places p rows ≡ 0 → with_value rows p d ≡ rows
   value_absent [] p d none = refl

@@ -1,7 +1,7 @@
 -- What the rows of a segmented cache stand for.
 use Rattle.std.specs.Prelude.{◌≡◌, ℕ, ◌+◌, ◌≤◌, ◌==◌, Bool, true, false, not, List, [], ◌∷◌, ◌++◌, length, map, filter, count_by, Option, None, Some, if◌then◌else◌}
 use Rattle.std.specs.Option.{option_map}
-use Rattle.lru_rows.specs.Rows.{Placed, placed, Recency, recency, row_at, first_row, last_row, with_value}
+use Rattle.lru_rows.specs.Rows.{Placed, placed, Recency, recency, row_at, first_row, last_row, with_value, most_rows}
 use Rattle.lru_entries.specs.Entries.{entries_in, weight_in}
 use Rattle.lru_entries.specs.Partings.{RowsFit}
 use Rattle.lru_pairs.specs.Beside.{row_after, row_before}
@@ -36,6 +36,7 @@ module _ {K V : Type 0} where
     pub ls : List (Placed K (Seat V))
     pub parts : r.rows ≡ us ++ ls
     pub once : (p : ℕ) → count_by (λ x. x.place == p) r.rows ≤ 1
+    pub short : length r.rows ≤ most_rows
     pub uppers : AllSay true us
     pub lowers : AllSay false ls
     pub boundary_is : boundary ≡ option_map (λ x. x.place) (first_row ls)

@@ -1,5 +1,5 @@
 //! Rows in two segments, in one list with a boundary.
-ghost use Rattle.std.specs.Prelude.{◌≡◌, ◌+◌, ◌-◌, ◌^◌, ◌<◌, ◌∷◌, [], Some, None, length, IfOk, IfSome};
+ghost use Rattle.std.specs.Prelude.{◌≡◌, ◌+◌, ◌-◌, ◌^◌, ◌<◌, ◌∷◌, [], Some, None, length, nat_le, ◌&&◌, IfOk, IfSome};
 ghost use Rattle.std.specs.Option.{option_map};
 ghost use Rattle.lru_index.specs.Hashing.{key_hash};
 ghost use Rattle.lru_rows.specs.Rows.{row_at, row_of, IsAt, IsRecency, Finds, last_row, taken, without};
@@ -357,7 +357,20 @@ pub(crate) fn lower_down<K: Hash, V, S: BuildHasher>(
 )
     ensures { Lowers most_weight most_rows seats.old seats.new }
 {
-    while seats.upper_weight() > most_weight || seats.upper_len() > most_rows {
+    while !fits(
+        seats.upper_weight(),
+        seats.upper_len(),
+        most_weight,
+        most_rows,
+    ) {
         seats.lower_last();
     }
+}
+
+/// Whether so many rows of this weight are within the limits.
+#[inline(always)]
+pub(crate) fn fits(weight: usize, len: usize, most_weight: usize, most_rows: usize) -> bool
+    ensures { result ≡ (nat_le weight most_weight && nat_le len most_rows) }
+{
+    weight <= most_weight && len <= most_rows
 }

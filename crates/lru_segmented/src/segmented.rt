@@ -1,5 +1,5 @@
 //! A cache of one owner in two segments.
-ghost use Rattle.std.specs.Prelude.{◌≡◌, ◌+◌, ◌-◌, ◌<◌, ◌≤◌, ◌∷◌, ◌++◌, None, Some, length, is_some, nat_eq, nat_le, ◌&&◌, IfOk};
+ghost use Rattle.std.specs.Prelude.{◌≡◌, ◌+◌, ◌-◌, ◌<◌, ◌≤◌, ◌∷◌, ◌++◌, None, Some, length, is_some, nat_eq, ◌==◌, IfOk, if◌then◌else◌};
 ghost use Rattle.std.specs.Option.{option_map, option_copied};
 ghost use Rattle.lru_index.specs.Hashing.{key_hash, seeded, unseeded};
 ghost use Rattle.lru_rows.specs.Rows.{most_rows};
@@ -7,7 +7,7 @@ ghost use Rattle.lru_entries.specs.Entries.{weight_of, entry};
 ghost use Rattle.lru_cache.specs.Cache.{hashes_from, entry_of, cause_of, Fit};
 ghost use Rattle.lru_segmented.specs.Segmented.{empty, entries, with_segments, with_more, most_upper, removed, Balances, LetsGo, PopsLast, Uses, UpdatesEntry, Puts, UsesOrPuts, Enters, Rejoins, IsSegmented};
 
-use crate::seats::{lower_down, Seats};
+use crate::seats::{fits, lower_down, Seats};
 use lru_cache::cache::{Cause, Entry, NotPut, Refused};
 use lru_index::hashing::SeededHashes;
 use lru_index::keys::Query;
@@ -67,14 +67,6 @@ fn most_upper(most_protected: usize, most_entries: usize) -> usize
     } else {
         most_entries
     }
-}
-
-// Whether so many entries of this weight are within the limits.
-#[inline(always)]
-fn fits(weight: usize, len: usize, most_weight: usize, most_entries: usize) -> bool
-    ensures { result ≡ (nat_le weight most_weight && nat_le len most_entries) }
-{
-    weight <= most_weight && len <= most_entries
 }
 
 impl<K: Hash + Drop, V: Drop> SegmentedCache<K, V, SeededHashes> {
