@@ -1,6 +1,6 @@
 -- What the calls of a cache make of its entries, by what they make of its rows.
 use Rattle.std.proofs.Common.{◌≡◌, ℕ, ◌+◌, ◌-◌, ◌<◌, ◌≤◌, cond, List, [], ◌∷◌, ◌++◌, length, Some, None, Ok, Err, refl, sym, ap, ◌∙◌, subst, inl, inr, arith, true, false, append_assoc}
-use Rattle.std.specs.Prelude.{Option, Bool, Result, is_some, IsTrue, count_by, eqb, max, ◌==◌, ◌⊎◌}
+use Rattle.std.specs.Prelude.{Option, Bool, Result, map, is_some, IsTrue, count_by, eqb, max, ◌==◌, ◌⊎◌}
 use Rattle.std.specs.Option.{option_map, option_map_or}
 use Rattle.std.specs.Borrow.{MutBor}
 use Rattle.std.proofs.lemmas.Bool.{false≢true}
@@ -9,14 +9,14 @@ use Rattle.lru_rows.specs.declared.rows.NoPlace.{NoPlace}
 use Rattle.lru_rows.specs.declared.rows.NoPlace.TheVariants.{Memory as NoMemory, Full as NoMore}
 use Rattle.lru_rows.specs.declared.rows.Taken.{Taken}
 use Rattle.lru_rows.specs.declared.rows.Unpushed.{Unpushed}
-use Rattle.lru_rows.specs.Rows.{Placed, placed, recency, row_at, row_of, IsAt, IsRecency, Finds, without as rows_without, last_row, taken, with_value, most_rows, LacksPlace as RowsLackPlace, Updates}
+use Rattle.lru_rows.specs.Rows.{Placed, placed, recency, row_at, row_of, IsAt, IsRecency, Finds, without as rows_without, last_row, taken, with_value, most_rows, LacksPlace as RowsLackPlace, Updates, entry_of as rows_entry_of}
 use Rattle.lru_entries.specs.declared.entry.Entry.{Entry}
 use Rattle.lru_entries.specs.Entries.{entry, weight_of, entry_in, entries_in, weight_in}
 use Rattle.lru_entries.specs.Partings.{RowsFit}
 use Rattle.lru_entries.proofs.Rows.{some_of, places, places_here, places-append, without_absent, without_last, row_last, row_first, row_place, last_told, none_told, weight-entries, length-entries, weight-cons, weight-append, weight-without, length-without, with_value-first, with_value-without}
 use Rattle.lru_cache.specs.declared.cache.Cause.{Cause}
 use Rattle.lru_cache.specs.declared.cache.Refused.{Refused}
-use Rattle.lru_cache.specs.Cache.{cause_of, Leaves, Fit, entry_of, without}
+use Rattle.lru_cache.specs.Cache.{cause_of, parts_of, Leaves, Fit, entry_of, without}
 use Rattle.lru_cache.proofs.Entries.{entry-row, keyed-entries}
 use Rattle.lru_cache.proofs.Queried.{one_stands}
 use Rattle.lru_segmented.specs.Segmented.{Segmented, entries, with_segments, with_more, most_upper, removed, IsSegmented, Balances, Raises, Rejoins, Enters, LacksPlace, Uses, UpdatesEntry, PopsLast}
@@ -92,6 +92,13 @@ module _ {K V S : Type 0} (s : Seated K V S) (mw me mp : ℕ) where
 
   pub heavy : weight_of (entries (segmented_in s mw me mp)) ≡ weight_in (rows s)
   heavy = ap weight_of entries_are ∙ weight-entries (rows s)
+
+  parts_in : (rs : List (Placed K V)) → map rows_entry_of rs ≡ map parts_of (entries_in rs)
+  parts_in [] = refl
+  parts_in (r ∷ rs) = ap (λ ps. (r.key, r.value, r.weight) ∷ ps) (parts_in rs)
+
+  pub parts_are : map rows_entry_of (rows s) ≡ map parts_of (entries (segmented_in s mw me mp))
+  parts_are = parts_in (rows s) ∙ ap (map parts_of) (sym entries_are)
 
   pub valid_cache : (eq : K → K → Bool) → IsKept s mw me mp → IsRecency eq (rows s) → IsSegmented eq cache
   valid_cache eq k v = record {

@@ -11,7 +11,7 @@ use Rattle.lru_cache.specs.declared.cache.Cause.TheVariants.{TooHeavy, Full, Mem
 use Rattle.lru_cache.specs.declared.cache.Refused.{Refused}
 use Rattle.lru_cache.specs.Cache.{Fit, MayRefuse, entry_of, without}
 use Rattle.lru_segmented.specs.Segmented.{Segmented, entries, plain, removed, with_segments, with_more, IsSegmented, LetsGo, LacksPlace, Enters, Rejoins, Puts}
-use Rattle.lru_segmented.proofs.Lists.{weight-append, absent_front, absent_back, absent_both, without_absent, without_absent_key, without_fewer, without-append, not_removed}
+use Rattle.lru_segmented.proofs.Lists.{none_some, weight-append, absent_front, absent_back, absent_both, without_absent, without_absent_key, without_fewer, without-append, not_removed}
 
 none_long : {A : Type 0} (xs : List A) → length xs ≤ 0 → xs ≡ []
 none_long [] few = refl
@@ -126,3 +126,15 @@ module _ {K V S F : Type 0} (eq : K → K → Bool) (Step : F → Entry K V → 
     puts_refused r new enters =
         let why = refuse_by r.cause enters.0 in
         (why.0, (enters.1.0, (enters.1.1.0, enters.1.1.1 ∙ why.1)))
+
+-- a key that has no entry is used by nothing, and one is put of it
+module _ {K V S F : Type 0} (eq : K → K → Bool) (Step : F → Entry K V → F → Type 0) (visit : F) (old m : Segmented K V S) (k : K) (v : V) (w : ℕ) (none : entry_of eq (entries old) k ≡ None) (same : m ≡ old) (new : Segmented K V S) where
+  from_old : (o : Option (Entry K V)) → Puts eq Step visit old k v w (Ok o) new → Puts eq Step visit old k v w (Ok None) new
+  from_old None puts = puts
+  from_old (Some was) puts = absurd (none_some was (sym none ∙ puts.1.0))
+
+  pub used_new : (o : Option (Entry K V)) → Puts eq Step visit m k v w (Ok o) new → Puts eq Step visit old k v w (Ok None) new
+  used_new o puts = from_old o (subst (λ c. Puts eq Step visit c k v w (Ok o) new) same puts)
+
+  pub used_refused : (r : Refused K V) → Puts eq Step visit m k v w (Err r) new → Puts eq Step visit old k v w (Err r) new
+  used_refused r puts = subst (λ c. Puts eq Step visit c k v w (Err r) new) same puts

@@ -10,13 +10,13 @@ use Rattle.std.proofs.lemmas.Option.{slice_get-map}
 use Rattle.lru_rows.specs.declared.rows.NoPlace.{NoPlace}
 use Rattle.lru_rows.specs.declared.rows.NoPlace.TheVariants.{Memory, Full}
 use Rattle.lru_rows.specs.declared.rows.Taken.{Taken}
-use Rattle.lru_rows.specs.Rows.{Placed, placed, Recency, recency, row_at, row_of, IsAt, IsRecency, Finds, without, promoted, with_value, first_row, last_row, taken, most_rows, LacksPlace}
+use Rattle.lru_rows.specs.Rows.{Placed, placed, Recency, recency, row_at, row_of, IsAt, IsRecency, Finds, without, promoted, with_value, first_row, last_row, taken, most_rows, LacksPlace, entry_of as rows_entry_of}
 use Rattle.lru_entries.specs.Entries.{weight_in}
 use Rattle.lru_entries.proofs.Rows.{some_of, places, places_here, places-append, without_absent, row_first, row_place, by_place, weight-cons, weight-append, weight-without, length-without}
 use Rattle.lru_pairs.specs.Beside.{row_after, row_before, put_before}
 use Rattle.lru_segmented.specs.declared.seat.Seat.{Seat}
 use Rattle.lru_segmented.specs.Seats.{Seated, seated, rows, lifted, LowersLast}
-use Rattle.lru_segmented.specs.Representation.{seat, row_in, rows_in, seated_in, AllSay, IsSeated, passed, upper_end, Marks}
+use Rattle.lru_segmented.specs.Representation.{seat, bare, row_in, rows_in, seated_in, AllSay, IsSeated, passed, upper_end, Marks}
 use Rattle.lru_segmented.proofs.Lists.{by_test}
 use Rattle.lru_segmented.proofs.Sides.{at_places, nowhere, Once, Side, side, without-append, places_without, once_without, once_first, once_more, places_value, value_absent, value-append, value_first, last_pushed, has_last, after_split, before_split, put_between, at_left, at_right}
 
@@ -256,6 +256,14 @@ module _ {K V S : Type 0} (r : Recency K (Seat V)) (hashes : S) (boundary : Opti
     omega (arith, k.upper_weight_is, k.weight_is, ap weight_in k.parts, weight-append k.us k.ls),
     omega (arith, k.upper_len_is, ap length k.parts, length-append k.us k.ls),
   )
+
+  -- what an iterator shows
+  bare_rows : (xs : List (Placed K (Seat V))) → map bare (map rows_entry_of xs) ≡ map rows_entry_of (rows_in xs)
+  bare_rows [] = refl
+  bare_rows (x ∷ xs) = ap (λ zs. (x.key, x.value.value, x.weight) ∷ zs) (bare_rows xs)
+
+  pub shown_are : map bare (map rows_entry_of r.rows) ≡ map rows_entry_of (rows s)
+  shown_are = bare_rows r.rows ∙ ap (map rows_entry_of) rows_are
 
   -- the boundary stands, where there is one
   pub boundary_stands : IfSome boundary (IsAt r.rows)

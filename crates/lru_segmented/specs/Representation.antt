@@ -21,6 +21,10 @@ module _ {K V : Type 0} where
   abbrev pub rows_in : List (Placed K (Seat V)) → List (Placed K V)
   rows_in rs = map row_in rs
 
+  -- what an iterator shows of an entry, where its value has a seat
+  abbrev pub bare : K × Seat V × ℕ → K × V × ℕ
+  bare e = (e.0, e.1.value, e.2)
+
   -- the seats that say that they are of the upper segment, and the others
   abbrev pub seated_in : {S : Type 0} → Recency K (Seat V) → S → Seated K V S
   seated_in r hashes = seated (rows_in (filter (λ x. x.value.upper) r.rows)) (rows_in (filter (λ x. not x.value.upper) r.rows)) r.free hashes

@@ -3,6 +3,7 @@
 //! leaves of the upper segment, and that a cache without a share for it is a `Cache`, are laws.
 #![tactic(auto)]
 
+pub mod iter;
 pub mod laws;
 pub(crate) mod seat;
 pub(crate) mod seats;

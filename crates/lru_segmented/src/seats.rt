@@ -1,12 +1,13 @@
 //! Rows in two segments, in one list with a boundary.
-ghost use Rattle.std.specs.Prelude.{◌≡◌, ◌+◌, ◌-◌, ◌^◌, ◌<◌, ◌∷◌, [], Some, None, length, nat_le, ◌&&◌, IfOk, IfSome};
+ghost use Rattle.std.specs.Prelude.{◌≡◌, ◌+◌, ◌-◌, ◌^◌, ◌<◌, ◌∷◌, [], Some, None, length, map, nat_le, ◌&&◌, IfOk, IfSome};
 ghost use Rattle.std.specs.Option.{option_map};
 ghost use Rattle.lru_index.specs.Hashing.{key_hash};
-ghost use Rattle.lru_rows.specs.Rows.{row_at, row_of, IsAt, IsRecency, Finds, last_row, taken, without};
+ghost use Rattle.lru_rows.specs.Rows.{row_at, row_of, IsAt, IsRecency, Finds, last_row, entry_of, taken, without};
 ghost use Rattle.lru_entries.specs.Entries.{weight_in};
 ghost use Rattle.lru_segmented.specs.Seats.{seated, rows, lifted, Lowers, LowersLast, Pushes, UpdatesAt};
 ghost use Rattle.lru_segmented.specs.Representation.{passed, upper_end, Marks};
 
+use crate::iter::SegmentedEntries;
 use crate::seat::Seat;
 use lru_index::keys::Query;
 use lru_pairs::pairs::Pairs;
@@ -14,7 +15,6 @@ use lru_rows::rows::{Place, Taken, Unpushed};
 use std::alloc::{AllocError, Global};
 use std::hash::{BuildHasher, Hash};
 use std::marker::Model;
-use std::mem;
 
 /// Rows whose seats say of which segment they are. All of the upper segment stand before all of the lower one. The place
 /// where the lower one begins is known, and what the segments weigh.
@@ -89,7 +89,9 @@ fn mark<K: Hash, V, S: BuildHasher>(
     ensures hashes { rows.new.hashes ≡ rows.old.hashes }
 {
     rows.update(place, |seat: &mut Seat<V>, _weight: usize| {
-        mem::replace(&mut seat.upper, upper)
+        let was = seat.upper;
+        seat.upper = upper;
+        was
     })
 }
 
@@ -171,6 +173,15 @@ impl<K: Hash, V, S: BuildHasher> Seats<K, V, S> {
         ensures valid { IsRecency K.eq (rows self.now) }
     {
         self.rows.last()
+    }
+
+    /// The key, the value and the weight of each row, most recent first.
+    pub(crate) fn entries(&self) -> SegmentedEntries<'_, K, V>
+        ensures { result ≡ map entry_of (rows self.now) }
+    {
+        SegmentedEntries {
+            pairs: self.rows.entries(),
+        }
     }
 
     /// The value of a place's row.

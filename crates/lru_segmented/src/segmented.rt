@@ -1,12 +1,13 @@
 //! A cache of one owner in two segments.
-ghost use Rattle.std.specs.Prelude.{◌≡◌, ◌+◌, ◌-◌, ◌<◌, ◌≤◌, ◌∷◌, ◌++◌, None, Some, length, is_some, nat_eq, ◌==◌, IfOk, if◌then◌else◌};
+ghost use Rattle.std.specs.Prelude.{◌≡◌, ◌+◌, ◌-◌, ◌<◌, ◌≤◌, ◌∷◌, ◌++◌, None, Some, length, map, is_some, nat_eq, ◌==◌, IfOk, if◌then◌else◌};
 ghost use Rattle.std.specs.Option.{option_map, option_copied};
 ghost use Rattle.lru_index.specs.Hashing.{key_hash, seeded, unseeded};
 ghost use Rattle.lru_rows.specs.Rows.{most_rows};
 ghost use Rattle.lru_entries.specs.Entries.{weight_of, entry};
-ghost use Rattle.lru_cache.specs.Cache.{hashes_from, entry_of, cause_of, Fit};
+ghost use Rattle.lru_cache.specs.Cache.{hashes_from, entry_of, cause_of, parts_of};
 ghost use Rattle.lru_segmented.specs.Segmented.{empty, entries, with_segments, with_more, most_upper, removed, Balances, LetsGo, PopsLast, Uses, UpdatesEntry, Puts, UsesOrPuts, Enters, Rejoins, IsSegmented};
 
+use crate::iter::SegmentedEntries;
 use crate::seats::{fits, lower_down, Seats};
 use lru_cache::cache::{Cause, Entry, NotPut, Refused};
 use lru_index::hashing::SeededHashes;
@@ -200,6 +201,14 @@ impl<K: Hash, V, S: BuildHasher> SegmentedCache<K, V, S> {
         ensures { result ≡ self.now.most_protected }
     {
         self.most_protected
+    }
+
+    /// The key, the value and the weight of each entry: those of the upper segment, most recent first, and then those of the
+    /// lower one. None is used by that. The first `protected_len` of them are those of the upper segment.
+    pub fn iter(&self) -> SegmentedEntries<'_, K, V>
+        ensures { result ≡ map parts_of (entries self.now) }
+    {
+        self.seats.entries()
     }
 
     /// The hash of a key, or of a query for one, with which the calls by `.._hashed` can be asked, so that one hash serves

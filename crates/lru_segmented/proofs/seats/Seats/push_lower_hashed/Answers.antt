@@ -1,7 +1,7 @@
 use Rattle.std.proofs.Common.{arith, ◌∙◌, ap, subst, sym}
 use Rattle.lru_rows.specs.Rows.{LacksPlace, recency}
 use Rattle.lru_segmented.specs.Seats.{rows}
-use Rattle.lru_segmented.proofs.Seated.{unseated, boundary_stands, len_is, weighs, no_seat, few_rows, unchanged, kept_same, kept_lower_more, view_lower_more, lacks}
+use Rattle.lru_segmented.proofs.Seated.{unseated, boundary_stands, len_is, weighs, no_seat, few_rows, unchanged, kept_lower_more, view_lower_more, lacks}
 use Rattle.lru_segmented.proofs.seats.Seats.push_lower_hashed.Goals as goal
 
 pub push_before_hashed-requires-clause-absent : goal.push_before_hashed-requires-clause-absent
@@ -21,9 +21,6 @@ returns-in-Ok g c = (
   few_rows c.self.inside.rows.held c.self.inside.rows.hashes c.self.inside.boundary c.self.inside.weight c.self.inside.upper_weight c.self.inside.upper_len c.self.invariant c.args.self.now c.self.view_is c.in-Ok.ensures.pushes.0,
   (no_seat c.self.inside.rows.held c.self.inside.rows.hashes c.self.inside.boundary c.self.inside.weight c.self.inside.upper_weight c.self.inside.upper_len c.self.invariant c.args.self.now c.self.view_is c.args.key c.args.value c.args.weight c.in-Ok.place c.in-Ok.ensures.pushes.0 c.in-Ok.ensures.pushes.1, view_lower_more c.self.inside.rows.held c.self.inside.rows.hashes c.self.inside.boundary c.self.inside.weight c.self.inside.upper_weight c.self.inside.upper_len c.self.invariant c.args.self.now c.self.view_is c.args.key c.args.value c.args.weight c.in-Ok.place c.in-Ok.ensures.pushes.0 c.in-Ok.ensures.pushes.1 c.push_before_hashed.new.self.held c.in-Ok.ensures.pushes.2 c.push_before_hashed.new.self.hashes c.in-Ok.ensures.hashes),
 )
-
-pub invariant_of-self-2 : goal.invariant_of-self-2
-invariant_of-self-2 g c = kept_same c.self.inside.rows.held c.self.inside.rows.hashes c.self.inside.boundary c.self.inside.weight c.self.inside.upper_weight c.self.inside.upper_len c.self.invariant c.args.self.now c.self.view_is c.push_before_hashed.new.self.held c.in-Err.ensures.pushes.3
 
 pub returns-in-Err : goal.returns-in-Err
 returns-in-Err g c = (
