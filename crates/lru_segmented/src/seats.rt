@@ -2,10 +2,10 @@
 ghost use Rattle.std.specs.Prelude.{◌≡◌, ◌+◌, ◌-◌, ◌^◌, ◌<◌, ◌∷◌, [], Some, None, length, map, nat_le, ◌&&◌, IfOk, IfSome};
 ghost use Rattle.std.specs.Option.{option_map};
 ghost use Rattle.lru_index.specs.Hashing.{key_hash};
-ghost use Rattle.lru_rows.specs.Rows.{row_at, row_of, IsAt, IsRecency, Finds, last_row, entry_of, taken, without};
+ghost use Rattle.lru_rows.specs.Rows.{row_at, row_of, IsAt, IsRecency, Finds, last_row, entry_of, taken, without, Updates};
 ghost use Rattle.lru_entries.specs.Entries.{weight_in};
 ghost use Rattle.lru_segmented.specs.Seats.{seated, rows, lifted, Lowers, LowersLast, Pushes, UpdatesAt};
-ghost use Rattle.lru_segmented.specs.Representation.{passed, upper_end, Marks};
+ghost use Rattle.lru_segmented.specs.Representation.{seat, passed, upper_end, Marks};
 
 use crate::iter::SegmentedEntries;
 use crate::seat::Seat;
@@ -88,11 +88,28 @@ fn mark<K: Hash, V, S: BuildHasher>(
     ensures marks { Marks rows.old.held place upper result rows.new.held }
     ensures hashes { rows.new.hashes ≡ rows.old.hashes }
 {
-    rows.update(place, |seat: &mut Seat<V>, _weight: usize| {
-        let was = seat.upper;
-        seat.upper = upper;
+    rows.update(place, |held: &mut Seat<V>, _weight: usize| -> bool
+        ensures was { result ≡ held.old.upper }
+        ensures left { held.new ≡ seat held.old.value upper }
+    {
+        let was = held.upper;
+        held.upper = upper;
         was
     })
+}
+
+// Lends the value of a seat to `update`, with a weight, and answers what `update` does.
+#[inline(always)]
+fn lend<V, R, U: FnOnce(&mut V, usize) -> R + Drop>(
+    seat: &mut Seat<V>,
+    weight: usize,
+    update: U,
+) -> R
+    requires { U.IsAlwaysCallable update }
+    ensures updates { Updates (U.post update) seat.old.value weight result seat.new.value }
+    ensures upper { seat.new.upper ≡ seat.old.upper }
+{
+    update(&mut seat.value, weight)
 }
 
 impl<K: Hash + Drop, V: Drop, S: BuildHasher + Drop> Seats<K, V, S> {
@@ -245,10 +262,12 @@ impl<K: Hash, V, S: BuildHasher> Seats<K, V, S> {
         ensures { UpdatesAt (U.post update) self.old place result self.new }
     {
         self.rows
-            .update(place, |seat: &mut Seat<V>, weight: usize| -> R
+            .update(place, |held: &mut Seat<V>, weight: usize| -> R
                 requires { U.IsAlwaysCallable update }
+                ensures updates { Updates (U.post update) held.old.value weight result held.new.value }
+                ensures upper { held.new.upper ≡ held.old.upper }
             {
-                update(&mut seat.value, weight)
+                lend(held, weight, update)
             })
     }
 }

@@ -1,7 +1,7 @@
 use Rattle.std.proofs.Common.{arith, ◌∙◌, ap, subst, sym}
 use Rattle.lru_rows.specs.Rows.{LacksPlace, recency}
 use Rattle.lru_segmented.specs.Seats.{rows}
-use Rattle.lru_segmented.proofs.Seated.{unseated, len_is, weighs, no_seat, few_rows, unchanged, kept_upper_more, view_upper_more, lacks}
+use Rattle.lru_segmented.proofs.Seated.{unseated, len_is, weighs, no_seat, few_rows, counted, unchanged, kept_upper_more, view_upper_more, lacks}
 use Rattle.lru_segmented.proofs.seats.Seats.push_upper_hashed.Goals as goal
 
 pub push_first_hashed-requires-clause-absent : goal.push_first_hashed-requires-clause-absent
@@ -9,6 +9,9 @@ push_first_hashed-requires-clause-absent g c = unseated c.self.inside.rows.held 
 
 pub overflow_add-self : goal.overflow_add-self
 overflow_add-self g c = omega (arith, c.requires.light, weighs c.self.inside.rows.held c.self.inside.rows.hashes c.self.inside.boundary c.self.inside.weight c.self.inside.upper_weight c.self.inside.upper_len c.self.invariant c.args.self.now c.self.view_is)
+
+pub overflow_add-self-in-Ok : goal.overflow_add-self-in-Ok
+overflow_add-self-in-Ok g c = omega (arith, c.requires.light, weighs c.self.inside.rows.held c.self.inside.rows.hashes c.self.inside.boundary c.self.inside.weight c.self.inside.upper_weight c.self.inside.upper_len c.self.invariant c.args.self.now c.self.view_is, (counted c.self.inside.rows.held c.self.inside.rows.hashes c.self.inside.boundary c.self.inside.weight c.self.inside.upper_weight c.self.inside.upper_len c.self.invariant c.args.self.now c.self.view_is).0, (counted c.self.inside.rows.held c.self.inside.rows.hashes c.self.inside.boundary c.self.inside.weight c.self.inside.upper_weight c.self.inside.upper_len c.self.invariant c.args.self.now c.self.view_is).1, c.in-Ok.ensures.pushes.0)
 
 pub invariant_of-self : goal.invariant_of-self
 invariant_of-self g c = kept_upper_more c.self.inside.rows.held c.self.inside.rows.hashes c.self.inside.boundary c.self.inside.weight c.self.inside.upper_weight c.self.inside.upper_len c.self.invariant c.args.self.now c.self.view_is c.args.key c.args.value c.args.weight c.in-Ok.place c.in-Ok.ensures.pushes.0 c.in-Ok.ensures.pushes.1 c.push_first_hashed.new.self.held c.in-Ok.ensures.pushes.2

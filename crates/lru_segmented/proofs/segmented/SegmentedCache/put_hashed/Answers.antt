@@ -1,9 +1,11 @@
-use Rattle.std.proofs.Common.{arith, sym, ◌∙◌}
+use Rattle.std.proofs.Common.{arith, sym, ap, ◌∙◌}
+use Rattle.lru_index.specs.Hashing.{key_hash}
 use Rattle.lru_segmented.proofs.Putting.{by_names, same_hashes, mid_light, mid_few, mid_absent, mid_placed, mid_short, puts_again, puts_new, puts_refused}
 use Rattle.lru_segmented.proofs.segmented.SegmentedCache.put_hashed.Goals as goal
 
 pub rejoin-requires-clause-hash : goal.rejoin-requires-clause-hash
-rejoin-requires-clause-hash g c = ?
+rejoin-requires-clause-hash g c = c.requires.hash ∙ ap (λ h. key_hash g.S.BuildHasher g.S.Hasher.Hasher g.K.Hash.hash_input h c.args.key) (sym (same_hashes g.K.PartialEq.eq (λ p x q. goal.F-step g p x tt q) c.args.visit c.args.self.now c.remove_hashed-was.ensures.valid c.args.key c.args.value c.args.weight (omega (arith, c.if-weight-most_weight.false, c.most_weight.ensures)) (omega (arith, c.if-most_entries-eq0.false, c.most_entries.ensures)) c.let_go.new.self
+    (by_names (λ p x q. goal.F-step g p x tt q) c.args.visit c.args.self.now c.remove_hashed-was.new.self c.let_go.new.self g.K.PartialEq.eq c.args.key c.args.weight c.most_weight.result c.most_entries.result c.most_weight.ensures c.most_entries.ensures c.remove_hashed-was.ensures.left c.let_go.ensures)))
 
 pub rejoin-requires-clause-absent : goal.rejoin-requires-clause-absent
 rejoin-requires-clause-absent g c = mid_absent g.K.PartialEq.eq (λ p x q. goal.F-step g p x tt q) c.args.visit c.args.self.now c.remove_hashed-was.ensures.valid c.args.key c.args.value c.args.weight (omega (arith, c.if-weight-most_weight.false, c.most_weight.ensures)) (omega (arith, c.if-most_entries-eq0.false, c.most_entries.ensures)) c.let_go.new.self
@@ -33,7 +35,8 @@ returns-in-Some g c = puts_again g.K.PartialEq.eq (λ p x q. goal.F-step g p x t
     c.in-Some.entry (sym c.in-Some.ensures.answer) c.rejoin.new.self c.rejoin.ensures
 
 pub enter-requires-clause-hash : goal.enter-requires-clause-hash
-enter-requires-clause-hash g c = ?
+enter-requires-clause-hash g c = c.requires.hash ∙ ap (λ h. key_hash g.S.BuildHasher g.S.Hasher.Hasher g.K.Hash.hash_input h c.args.key) (sym (same_hashes g.K.PartialEq.eq (λ p x q. goal.F-step g p x tt q) c.args.visit c.args.self.now c.remove_hashed-was.ensures.valid c.args.key c.args.value c.args.weight (omega (arith, c.if-weight-most_weight.false, c.most_weight.ensures)) (omega (arith, c.if-most_entries-eq0.false, c.most_entries.ensures)) c.let_go.new.self
+    (by_names (λ p x q. goal.F-step g p x tt q) c.args.visit c.args.self.now c.remove_hashed-was.new.self c.let_go.new.self g.K.PartialEq.eq c.args.key c.args.weight c.most_weight.result c.most_entries.result c.most_weight.ensures c.most_entries.ensures c.remove_hashed-was.ensures.left c.let_go.ensures)))
 
 pub enter-requires-clause-absent : goal.enter-requires-clause-absent
 enter-requires-clause-absent g c = mid_absent g.K.PartialEq.eq (λ p x q. goal.F-step g p x tt q) c.args.visit c.args.self.now c.remove_hashed-was.ensures.valid c.args.key c.args.value c.args.weight (omega (arith, c.if-weight-most_weight.false, c.most_weight.ensures)) (omega (arith, c.if-most_entries-eq0.false, c.most_entries.ensures)) c.let_go.new.self
