@@ -317,8 +317,7 @@ impl<K: Drop, V: Drop> Nodes<K, V> {
         ensures room { self.new.room ≡ self.old.room }
         ensures valid { IsLaid self.new }
     {
-        let index = index_of(before);
-        match self.list.insert_before(Some((key, value)), index) {
+        match self.list.insert_before(Some((key, value)), index_of(before)) {
             Ok(place) => {
                 self.weights[place] = weight;
                 Ok(place as u32)

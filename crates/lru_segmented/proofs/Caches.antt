@@ -19,12 +19,16 @@ use Rattle.lru_cache.specs.declared.cache.Refused.{Refused}
 use Rattle.lru_cache.specs.Cache.{cause_of, parts_of, Leaves, Fit, entry_of, without}
 use Rattle.lru_cache.proofs.Entries.{entry-row, keyed-entries}
 use Rattle.lru_cache.proofs.Queried.{one_stands}
-use Rattle.lru_segmented.specs.Segmented.{Segmented, entries, with_segments, with_more, most_upper, removed, IsSegmented, Balances, Raises, Rejoins, Enters, LacksPlace, Uses, UpdatesEntry, PopsLast}
+use Rattle.lru_segmented.specs.Segmented.{Segmented, entries, with_segments, with_more, with_limits, most_upper, removed, IsSegmented, Balances, Raises, Rejoins, Enters, LacksPlace, Uses, UpdatesEntry, PopsLast}
 use Rattle.lru_segmented.specs.Seats.{Seated, seated, rows, lifted, Lowers, Pushes, UpdatesAt}
 use Rattle.lru_segmented.specs.Representation.{segmented_in, IsKept}
 use Rattle.lru_segmented.proofs.Lists.{nil_append, nil_cons}
 use Rattle.lru_segmented.proofs.Sides.{Once, at_right, has_last, last_pushed, at_places, without-append}
 use Rattle.lru_segmented.proofs.Agreed.{weight_less, length_less, Agree, agree_found, agree_left, agree_right, agreed_without}
+
+pub none_row : {A B : Type 0} (f : A → B) (o : Option A) → option_map f o ≡ None → o ≡ None
+none_row f None e = refl
+none_row f (Some a) e = absurd (false≢true (sym (ap is_some e)))
 
 module _ {K V : Type 0} where
   -- entries leave where rows do
@@ -46,10 +50,6 @@ module _ {K V : Type 0} where
         where
           first_of_two : {A : Type 0} (a b : A) (xs ys : List A) → a ∷ xs ≡ b ∷ ys → a ≡ b
           first_of_two a b xs ys e = cc
-
-  pub none_row : {A B : Type 0} (f : A → B) (o : Option A) → option_map f o ≡ None → o ≡ None
-  none_row f None e = refl
-  none_row f (Some a) e = absurd (false≢true (sym (ap is_some e)))
 
   -- what is lowered is weighed and counted still
   module _ {S : Type 0} (w n : ℕ) (s t : Seated K V S) (l : Lowers w n s t) where
@@ -122,7 +122,7 @@ module _ {K V S : Type 0} (s : Seated K V S) (mw me mp : ℕ) where
     found_none none = found_entry ∙ ap (option_map entry_in) none
 
     pub row_none : entry_of eq (entries cache) query ≡ None → row_of eq (rows s) query ≡ None
-    row_none none = none_row {K} {V} entry_in (row_of eq (rows s) query) (sym found_entry ∙ none)
+    row_none none = none_row entry_in (row_of eq (rows s) query) (sym found_entry ∙ none)
 
     pub found_at : (p : ℕ) → Finds eq (rows s) query (Some p) → IsAt (rows s) p
     found_at p found = ap is_some found.2
@@ -407,6 +407,32 @@ module _ {K V S : Type 0} (s : Seated K V S) (mw me mp : ℕ) where
             ),
           ),
         )
+
+  -- ---- other limits
+  module _ (w n p : ℕ) (z : Seated K V S) (l : Lowers p (cond (eqb p 0) 0 n) s z) where
+    pub kept_limited : Fit w n (entries (segmented_in s mw me mp)) → IsKept z w n p
+    kept_limited fit = record {
+      fits = (omega (arith, fit.0, heavy, lowered_weight p (cond (eqb p 0) 0 n) s z l), omega (arith, fit.1, long, lowered_length p (cond (eqb p 0) 0 n) s z l));
+      protected = lowered_upper p (cond (eqb p 0) 0 n) s z l;
+    }
+
+    pub view_limited : (us : List (Entry K V)) × ((ls : List (Entry K V)) × (Balances (with_limits cache w n p) (entries_in s.upper) (entries_in s.lower) us ls × (segmented_in z w n p ≡ with_segments (with_limits cache w n p) us ls)))
+    view_limited = (
+      entries_in l.front,
+      (
+        entries_in (l.back ++ s.lower),
+        (
+          record {
+            back = entries_in l.back;
+            leaves = leaves_in p (cond (eqb p 0) 0 n) s.upper l.front l.back l.parts l.fits l.needed;
+            lower_is = map-append entry_in l.back s.lower;
+          },
+          ap (λ (y : Seated K V S). segmented_in y w n p) l.left
+              ∙ ap (λ m. record { upper = entries_in l.front; lower = entries_in (l.back ++ s.lower); places = m; most_weight = w; most_entries = n; most_protected = p; hashes = s.hashes })
+              (omega (arith, lowered_length p (cond (eqb p 0) 0 n) s z l, ap (λ (y : Seated K V S). length (rows y)) l.left)),
+        ),
+      ),
+    )
 
   -- why there is no place
   pub lacks_place : (none : NoPlace) → RowsLackPlace (recency (rows s) s.free) none → LacksPlace cache (cause_of none)

@@ -6,10 +6,12 @@ use Rattle.std.specs.Borrow.{MutBor}
 use Rattle.std.proofs.lemmas.Bool.{eq-eqb}
 use Rattle.std.proofs.lemmas.List.{length-append, append-nil}
 use Rattle.lru_entries.specs.declared.entry.Entry.{Entry}
-use Rattle.lru_entries.specs.Entries.{entry}
+use Rattle.lru_entries.specs.Entries.{entry, IsShown}
 use Rattle.lru_cache.specs.declared.cache.Refused.{Refused}
-use Rattle.lru_cache.specs.Cache.{Cached, Leaves, MayRefuse, entry_of, without, used, with_entries, PopsLast as CachePopsLast, UpdatesEntry as CacheUpdatesEntry, Puts as CachePuts}
-use Rattle.lru_segmented.specs.Segmented.{Segmented, entries, plain, removed, most_upper, with_segments, with_more, IsSegmented, Balances, Recedes, LetsGo, Raises, Rejoins, Uses, UpdatesEntry, PopsLast, Puts}
+use Rattle.lru_cache.specs.declared.cache.NotPut.{NotPut}
+use Rattle.lru_cache.specs.declared.cache.NotPut.TheVariants.{Unmade, Refused as EntryRefused}
+use Rattle.lru_cache.specs.Cache.{Cached, Leaves, MayRefuse, entry_of, without, used, with_entries, PopsLast as CachePopsLast, UpdatesEntry as CacheUpdatesEntry, Puts as CachePuts, UsesOrPuts as CacheUsesOrPuts, Clears as CacheClears}
+use Rattle.lru_segmented.specs.Segmented.{Segmented, entries, plain, removed, most_upper, with_segments, with_more, IsSegmented, Balances, Recedes, LetsGo, Raises, Rejoins, Uses, UpdatesEntry, PopsLast, Puts, UsesOrPuts}
 use Rattle.lru_segmented.specs.Laws.{IsPlain}
 use Rattle.lru_segmented.proofs.Lists.{nil_cons, nil_append, some_is, none_some, without-append, without_absent, without_short, without_fewer}
 
@@ -188,8 +190,34 @@ module _ {K V S : Type 0} (eq : K → K → Bool) (old new : Segmented K V S) (v
     plain_puts (Ok (Some was)) puts = renewed was puts
     plain_puts (Err r) (may, (key, (value, is))) = (same_upper is, (may, (key, (value, ap plain is))))
 
-module _ {K V S F U R : Type 0} (eq : K → K → Bool) (Step : F → Entry K V → F → Type 0) (Post : U → MutBor V → ℕ → R → MutBor V → Type 0) where
-  pub is_plain : (old new : Segmented K V S) → IsSegmented eq old → old.most_protected ≡ 0 → IsPlain eq Step Post old new
+  module _ {F E : Type 0} (Makes : Result (V × ℕ) E → Type 0) (Step : F → Entry K V → F → Type 0) (visit : F) (key : K) where
+    pub plain_uses_or_puts : (answer : Result Bool (NotPut K V E)) → UsesOrPuts eq Makes Step visit old key answer new → (new.upper ≡ []) × CacheUsesOrPuts eq Makes Step visit (plain old) key answer (plain new)
+    plain_uses_or_puts (Ok true) does =
+        let p = plain_uses key true does in
+        (p.0, (sym p.1.0, p.1.1))
+    plain_uses_or_puts (Ok false) (made, (makes, puts)) =
+        let p = plain_puts Step visit key made.0 made.1 (Ok None) puts in
+        (p.0, (made, (makes, p.1)))
+    plain_uses_or_puts (Err (Unmade k e)) (none, (makes, (same, is))) = (same_upper is, (none, (makes, (same, ap plain is))))
+    plain_uses_or_puts (Err (EntryRefused r)) (none, (made, (makes, puts))) =
+        let p = plain_puts Step visit key made.0 made.1 (Err r) puts in
+        (p.0, (none, (made, (makes, p.1))))
+
+  pub plain_clears : {F : Type 0} (Step : F → Entry K V → F → Type 0) (visit : F) → LetsGo Step visit 0 0 old new → (new.upper ≡ []) × CacheClears Step visit (plain old) (plain new)
+  plain_clears Step visit lets =
+      let leaves = recedes_leaves 0 0 old.upper old.lower new.upper new.lower lets.gone lets.recedes in
+      let none = none_long (new.upper ++ new.lower) lets.recedes.fits.1 in
+      let upper = (nil_append new.upper new.lower (sym none)).0 in
+      let all : entries old ≡ lets.gone = leaves.parts ∙ ap (λ zs. zs ++ lets.gone) none in (
+        upper,
+        (
+          subst (λ es. IsShown Step visit es) (sym all) lets.shown,
+          plain_segments new.upper new.lower [] lets.same none (omega arith),
+        ),
+      )
+
+module _ {K V S F U R M E : Type 0} (eq : K → K → Bool) (Step : F → Entry K V → F → Type 0) (Post : U → MutBor V → ℕ → R → MutBor V → Type 0) (Makes : M → Result (V × ℕ) E → Type 0) where
+  pub is_plain : (old new : Segmented K V S) → IsSegmented eq old → old.most_protected ≡ 0 → IsPlain eq Step Post Makes old new
   is_plain old new valid share = record {
     none = upper_none eq old new valid share;
     uses = λ key answer does. plain_uses eq old new valid share key answer does;
@@ -197,4 +225,6 @@ module _ {K V S F U R : Type 0} (eq : K → K → Bool) (Step : F → Entry K V 
     removes = λ key does. plain_removes eq old new valid share key does;
     pops = λ answer does. plain_pops eq old new valid share answer does;
     puts = λ visit key value weight answer does. plain_puts eq old new valid share Step visit key value weight answer does;
+    uses_or_puts = λ make visit key answer does. plain_uses_or_puts eq old new valid share (Makes make) Step visit key answer does;
+    clears = λ visit does. plain_clears eq old new valid share Step visit does;
   }

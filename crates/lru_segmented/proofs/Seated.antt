@@ -59,12 +59,26 @@ module _ {K V : Type 0} where
       let rest = in-without xs p in
       by_test (eqb x.place p) (λ b. rows_in (cond (not b) (x ∷ without xs p) (without xs p)) ≡ cond (not b) (row_in x ∷ without (rows_in xs) p) (without (rows_in xs) p)) (λ _. rest) (λ _. ap (λ zs. row_in x ∷ zs) rest)
 
-  pub in-value : (xs : List (Placed K (Seat V))) (p : ℕ) (d : V) (b : Bool) → AllSay b xs → rows_in (with_value xs p (seat d b)) ≡ with_value (rows_in xs) p d
-  in-value [] p d b say = refl
-  in-value (x ∷ xs) p d b say =
-      let rest = in-value xs p d b say.1 in
-      by_test (eqb x.place p) (λ t. rows_in (cond t (placed x.place x.key (seat d b) x.weight) x ∷ with_value xs p (seat d b)) ≡ cond t (placed x.place x.key d x.weight) (row_in x) ∷ with_value (rows_in xs) p d)
-      (λ _. ap (λ zs. placed x.place x.key d x.weight ∷ zs) rest) (λ _. ap (λ zs. row_in x ∷ zs) rest)
+  in-value : (xs : List (Placed K (Seat V))) (p : ℕ) (d : Seat V) → rows_in (with_value xs p d) ≡ with_value (rows_in xs) p d.value
+  in-value [] p d = refl
+  in-value (x ∷ xs) p d =
+      let rest = in-value xs p d in
+      by_test (eqb x.place p) (λ t. rows_in (cond t (placed x.place x.key d x.weight) x ∷ with_value xs p d) ≡ cond t (placed x.place x.key d.value x.weight) (row_in x) ∷ with_value (rows_in xs) p d.value)
+      (λ _. ap (λ zs. placed x.place x.key d.value x.weight ∷ zs) rest) (λ _. ap (λ zs. row_in x ∷ zs) rest)
+
+  weight_value : (xs : List (Placed K (Seat V))) (p : ℕ) (d : Seat V) → weight_in (with_value xs p d) ≡ weight_in xs
+  weight_value [] p d = refl
+  weight_value (x ∷ xs) p d =
+      let rest = weight_value xs p d in
+      by_test (eqb x.place p) (λ t. weight_in (cond t (placed x.place x.key d x.weight) x ∷ with_value xs p d) ≡ weight_in (x ∷ xs))
+      (λ _. omega (arith, rest, weight-cons (placed x.place x.key d x.weight) (with_value xs p d), weight-cons x xs)) (λ _. omega (arith, rest, weight-cons x (with_value xs p d), weight-cons x xs))
+
+  length_value : (xs : List (Placed K (Seat V))) (p : ℕ) (d : Seat V) → length (with_value xs p d) ≡ length xs
+  length_value xs p d = length-map xs (λ x. cond (eqb x.place p) (placed x.place x.key d x.weight) x)
+
+  first_value : (xs : List (Placed K (Seat V))) (p : ℕ) (d : Seat V) → place_of (first_row (with_value xs p d)) ≡ place_of (first_row xs)
+  first_value [] p d = refl
+  first_value (x ∷ xs) p d = by_test (eqb x.place p) (λ t. place_of (Some (cond t (placed x.place x.key d x.weight) x)) ≡ Some x.place) (λ _. refl) (λ _. refl)
 
   in-places : (xs : List (Placed K (Seat V))) (p : ℕ) → places p (rows_in xs) ≡ places p xs
   in-places [] p = refl
@@ -114,11 +128,11 @@ module _ {K V : Type 0} where
         | inr ne ↦ say_at b ys p x say.1 (sym (ap (λ t. cond t (Some y) (row_at ys p)) (ne_eqb y.place p ne)) ∙ found)
       ]
 
-  say_value : (b : Bool) (xs : List (Placed K (Seat V))) (p : ℕ) (d : V) → AllSay b xs → AllSay b (with_value xs p (seat d b))
-  say_value b [] p d say = tt
-  say_value b (x ∷ xs) p d say =
-      let rest = say_value b xs p d say.1 in
-      by_test (eqb x.place p) (λ t. AllSay b (cond t (placed x.place x.key (seat d b) x.weight) x ∷ with_value xs p (seat d b))) (λ _. (refl, rest)) (λ _. (say.0, rest))
+  say_value : (b : Bool) (xs : List (Placed K (Seat V))) (p : ℕ) (d : Seat V) → d.upper ≡ b → AllSay b xs → AllSay b (with_value xs p d)
+  say_value b [] p d is say = tt
+  say_value b (x ∷ xs) p d is say =
+      let rest = say_value b xs p d is say.1 in
+      by_test (eqb x.place p) (λ t. AllSay b (cond t (placed x.place x.key d x.weight) x ∷ with_value xs p d)) (λ _. (is, rest)) (λ _. (say.0, rest))
 
   say_front : (b : Bool) (front : List (Placed K (Seat V))) (x : Placed K (Seat V)) → AllSay b (front ++ x ∷ []) → AllSay b front
   say_front b [] x say = tt
@@ -325,6 +339,54 @@ module _ {K V S : Type 0} (r : Recency K (Seat V)) (hashes : S) (boundary : Opti
 
     row_is : row_at (rows s) p ≡ Some (row_in x)
     row_is = at_is p ∙ ap (option_map row_in) found
+
+    -- ---- it has another value
+    module _ (y : Placed K (Seat V)) (y_at : row_at r.rows p ≡ Some y) (d : Seat V) (same : d.upper ≡ y.value.upper) (r1 : Recency K (Seat V)) (r1_is : r1 ≡ recency (with_value r.rows p d) r.free) where
+      as_before : d.upper ≡ (there p at).0.value.upper
+      as_before = same ∙ ap is_upper (some_of y x (sym y_at ∙ found))
+
+      value_parts : r1.rows ≡ with_value k.us p d ++ with_value k.ls p d
+      value_parts = ap (λ (z : Recency K (Seat V)). z.rows) r1_is ∙ ap (λ rs. with_value rs p d) k.parts ∙ value-append k.us k.ls p d
+
+      uppers_say : AllSay true (with_value k.us p d)
+      uppers_say =
+          elim stands [
+            | inl (here, none) ↦ say_value true k.us p d (as_before ∙ say_at true k.us p x k.uppers here) k.uppers
+            | inr (none, here) ↦ subst (AllSay true) (sym (value_absent k.us p d none)) k.uppers
+          ]
+
+      lowers_say : AllSay false (with_value k.ls p d)
+      lowers_say =
+          elim stands [
+            | inl (here, none) ↦ subst (AllSay false) (sym (value_absent k.ls p d none)) k.lowers
+            | inr (none, here) ↦ say_value false k.ls p d (as_before ∙ say_at false k.ls p x k.lowers here) k.lowers
+          ]
+
+      pub kept_value : IsSeated r1 boundary w uw ul
+      kept_value = record {
+        us = with_value k.us p d;
+        ls = with_value k.ls p d;
+        parts = value_parts;
+        once = λ q. omega (arith, k.once q, ap (λ (z : Recency K (Seat V)). places q z.rows) r1_is, places_value r.rows p d q);
+        short = omega (arith, k.short, ap (λ (z : Recency K (Seat V)). length z.rows) r1_is, length_value r.rows p d);
+        uppers = uppers_say;
+        lowers = lowers_say;
+        boundary_is = k.boundary_is ∙ sym (first_value k.ls p d);
+        weight_is = omega (arith, k.weight_is, ap (λ (z : Recency K (Seat V)). weight_in z.rows) r1_is, weight_value r.rows p d);
+        upper_weight_is = omega (arith, k.upper_weight_is, weight_value k.us p d);
+        upper_len_is = omega (arith, k.upper_len_is, length_value k.us p d);
+      }
+
+      pub view_value : (h : S) → h ≡ hashes → seated_in r1 h ≡ seated (with_value s.upper p d.value) (with_value s.lower p d.value) s.free s.hashes
+      view_value h h_is =
+          shows r1 h (with_value k.us p d) (with_value k.ls p d) value_parts uppers_say lowers_say
+          ∙ ap (λ us. seated us (rows_in (with_value k.ls p d)) r1.free h) (in-value k.us p d ∙ ap (λ us. with_value us p d.value) upper_is)
+          ∙ ap (λ ls. seated (with_value s.upper p d.value) ls r1.free h) (in-value k.ls p d ∙ ap (λ ls. with_value ls p d.value) lower_is)
+          ∙ ap (λ n. seated (with_value s.upper p d.value) (with_value s.lower p d.value) n h) (ap (λ (z : Recency K (Seat V)). z.free) r1_is ∙ free_is)
+          ∙ ap (seated (with_value s.upper p d.value) (with_value s.lower p d.value) s.free) (h_is ∙ hashes_are)
+
+      pub seen_there : row_at (rows s) p ≡ Some (row_in y)
+      seen_there = at_is p ∙ ap (option_map row_in) y_at
 
     -- ---- it goes first in the upper segment
     abbrev raised : Placed K (Seat V)

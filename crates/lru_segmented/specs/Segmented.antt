@@ -81,6 +81,16 @@ module _ {K V : Type 0} where
     pub shown : IsShown Step visit gone
     pub same : new ≡ with_segments old new.upper new.lower
 
+  -- the cache under other limits
+  abbrev pub with_limits : {S : Type 0} → Segmented K V S → ℕ → ℕ → ℕ → Segmented K V S
+  with_limits c w n p = record { upper = c.upper; lower = c.lower; places = c.places; most_weight = w; most_entries = n; most_protected = p; hashes = c.hashes }
+
+  -- the limits are others, the shortest end goes that has to, and the upper segment is brought within its share
+  abbrev pub Limits : {F S : Type 0} → (F → Entry K V → F → Type 0) → F → Segmented K V S → ℕ → ℕ → ℕ → Segmented K V S → Type 0
+  Limits {F} {S} Step visit old w n p new =
+      (mid : Segmented K V S) × (LetsGo Step visit w n old mid × ((us : List (Entry K V)) × ((ls : List (Entry K V))
+      × (Balances (with_limits mid w n p) mid.upper mid.lower us ls × (new ≡ with_segments (with_limits mid w n p) us ls)))))
+
   -- the last entry of all is taken out, if there is one
   abbrev pub PopsLast : {S : Type 0} → Segmented K V S → Option (Entry K V) → Segmented K V S → Type 0
   PopsLast old None new = (old.upper ≡ []) × ((old.lower ≡ []) × (new ≡ old))

@@ -26,10 +26,11 @@ where
 }
 
 /// With a share of nothing for the upper segment, each call does what the same call of a `Cache` does.
-pub fn plain_without_share<K: Hash, V, S, R, U, F>()
+pub fn plain_without_share<K: Hash, V, S, R, E, U, M, F>()
 where
     U: FnOnce(&mut V, usize) -> R + Drop,
+    M: FnOnce() -> Result<(V, usize), E> + Drop,
     F: FnMut(Entry<K, V>) + Drop,
-    ensures { PlainWithoutShare S K.eq (λ p x q. F.step p x tt q) (λ update. U.post update) }
+    ensures { PlainWithoutShare S K.eq (λ p x q. F.step p x tt q) (λ update. U.post update) (λ make. M.post make) }
 {
 }

@@ -1,8 +1,8 @@
 //! Rows in two segments, in one list with a boundary.
-ghost use Rattle.std.specs.Prelude.{◌≡◌, ◌+◌, ◌-◌, ◌^◌, ◌<◌, ◌∷◌, [], Some, None, length, map, nat_le, ◌&&◌, IfOk, IfSome};
+ghost use Rattle.std.specs.Prelude.{◌≡◌, ◌+◌, ◌-◌, ◌^◌, ◌<◌, ◌≤◌, ◌∷◌, [], Some, None, length, map, nat_le, ◌&&◌, IfOk, IfSome};
 ghost use Rattle.std.specs.Option.{option_map};
 ghost use Rattle.lru_index.specs.Hashing.{key_hash};
-ghost use Rattle.lru_rows.specs.Rows.{row_at, row_of, IsAt, IsRecency, Finds, last_row, entry_of, taken, without, Updates};
+ghost use Rattle.lru_rows.specs.Rows.{row_at, row_of, IsAt, IsRecency, Finds, last_row, entry_of, taken, without, most_rows, Updates};
 ghost use Rattle.lru_entries.specs.Entries.{weight_in};
 ghost use Rattle.lru_segmented.specs.Seats.{seated, rows, lifted, Lowers, LowersLast, Pushes, UpdatesAt};
 ghost use Rattle.lru_segmented.specs.Representation.{seat, passed, upper_end, Marks};
@@ -337,6 +337,14 @@ impl<K: Hash + Drop, V: Drop, S: BuildHasher> Seats<K, V, S> {
             }
             Err(back) => Err(stripped(back)),
         }
+    }
+
+    /// Makes room for `additional` more rows. Nothing else changes, also where it is refused.
+    pub(crate) fn reserve(&mut self, additional: usize) -> Result<(), AllocError>
+        ensures same { self.new ≡ self.old }
+        ensures room { IfOk result (λ _. length (rows self.new) + additional ≤ most_rows) }
+    {
+        self.rows.reserve(additional)
     }
 
     /// Takes a place's row out. The place is free then.

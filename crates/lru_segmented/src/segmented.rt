@@ -5,7 +5,7 @@ ghost use Rattle.lru_index.specs.Hashing.{key_hash, seeded, unseeded};
 ghost use Rattle.lru_rows.specs.Rows.{most_rows};
 ghost use Rattle.lru_entries.specs.Entries.{weight_of, entry};
 ghost use Rattle.lru_cache.specs.Cache.{hashes_from, entry_of, cause_of, parts_of};
-ghost use Rattle.lru_segmented.specs.Segmented.{empty, entries, with_segments, with_more, most_upper, removed, Balances, LetsGo, PopsLast, Uses, UpdatesEntry, Puts, UsesOrPuts, Enters, Rejoins, IsSegmented};
+ghost use Rattle.lru_segmented.specs.Segmented.{empty, entries, removed, LetsGo, Limits, PopsLast, Uses, UpdatesEntry, Puts, UsesOrPuts, Enters, Rejoins, IsSegmented};
 
 use crate::iter::SegmentedEntries;
 use crate::seats::{fits, lower_down, Seats};
@@ -525,6 +525,42 @@ impl<K: Hash + Drop, V: Drop, S: BuildHasher> SegmentedCache<K, V, S> {
             value: row.value,
             weight: row.weight,
         })
+    }
+
+    /// Makes room for `additional` more entries. Nothing else changes, also where it is refused.
+    ///
+    /// # Errors
+    ///
+    /// There is no memory for that many, or there can't be as many entries.
+    pub fn reserve(&mut self, additional: usize) -> Result<(), AllocError>
+        ensures same { self.new ≡ self.old }
+        ensures room { IfOk result (λ _. length (entries self.new) + additional ≤ most_rows) }
+    {
+        self.seats.reserve(additional)
+    }
+
+    /// Gives the cache other limits, and its upper segment another share. Then entries go as for a put, as many as have to,
+    /// and each is handed to `visit`; and the last entries of the upper segment become the first of the lower one, as many as
+    /// have to for the others to be within its share.
+    pub fn set_limits<F: FnMut(Entry<K, V>) + Drop>(
+        &mut self,
+        most_weight: usize,
+        most_entries: usize,
+        most_protected: usize,
+        visit: F,
+    )
+        requires { F.IsAlwaysCallable visit }
+        ensures { Limits (λ p x q. F.step p x tt q) visit self.old most_weight most_entries most_protected self.new }
+    {
+        self.let_go(most_weight, most_entries, visit);
+        self.most_weight = most_weight;
+        self.most_entries = most_entries;
+        self.most_protected = most_protected;
+        lower_down(
+            &mut self.seats,
+            most_protected,
+            most_upper(most_protected, most_entries),
+        );
     }
 
     /// Lets all entries go, the one that is the next to go first, and hands each to `visit`. The limits stay, and so do the

@@ -4,3 +4,12 @@ use Rattle.lru_pairs.proofs.nodes.Nodes.after.Goals as goal
 
 pub next_index-next-requires : goal.next_index-next-requires
 next_index-next-requires g c = is_place c.self.inside.weights.items c.self.inside.list c.self.invariant c.args.self.now c.self.view_is c.args.place c.requires
+
+pub returns-then-next-BEHIND_ALL : goal.returns-then-next-BEHIND_ALL
+returns-then-next-BEHIND_ALL g c = after_none c.self.inside.weights.items c.self.inside.list c.self.invariant c.args.self.now c.self.view_is c.args.place c.requires c.next_index-next.result c.next_index-next.ensures c.if-next-BEHIND_ALL.true
+
+pub overflow_cast-result : goal.overflow_cast-result
+overflow_cast-result g c = omega (arith, after_fits c.self.inside.weights.items c.self.inside.list c.self.invariant c.args.self.now c.self.view_is c.args.place c.requires c.next_index-next.result c.next_index-next.ensures c.if-next-BEHIND_ALL.false)
+
+pub returns : goal.returns
+returns g c = after_some c.self.inside.weights.items c.self.inside.list c.self.invariant c.args.self.now c.self.view_is c.args.place c.requires c.next_index-next.result c.next_index-next.ensures c.if-next-BEHIND_ALL.false
