@@ -165,31 +165,23 @@ module _ {K V : Type 0} where
       let rest = length-put ps i x in
       by_test (eqb p.0 i) (λ b. length (cond b (x ∷ p ∷ ps) (p ∷ list_put ps i x)) ≡ length (p ∷ ps) + 1) (λ _. omega arith) (λ _. omega (arith, rest))
 
+  -- a row stands at the place that is named exactly where its node has the index
+  same_test : (r : Placed K V) (is : List ℕ) (named : Option ℕ) → times 1 (r.place ∷ is) ≡ 0 → eqb r.place (index_of named) ≡ stands_at r named
+  same_test r is None none = ne_eqb r.place 1 (absent_head 1 r.place is none)
+  same_test r is (Some q) none = refl
+
   pub rows-put : (weights : List ℕ) (ps : List (ℕ × Option (K × V))) (named : Option ℕ) (x : ℕ) (e : K × V) → AreHeld ps → times 1 (indices_of ps) ≡ 0 →
       rows_in weights (list_put ps (index_of named) (x, Some e)) ≡ put_before (rows_in weights ps) named (placed x e.0 e.1 (get_or weights x 0))
   rows-put weights [] named x e h none = refl
   rows-put weights (p ∷ ps) named x e h none =
+      let v = some_is p.1 h.0 in
+      let r : Placed K V = placed p.0 v.0.0 v.0.1 (get_or weights p.0 0) in
+      let rs = rows_in weights ps in
+      let new : Placed K V = placed x e.0 e.1 (get_or weights x 0) in
+      let first : rows_in weights (p ∷ ps) ≡ r ∷ rs = rows-cons weights p ps v.0 v.1 in
+      let rest = rows-put weights ps named x e h.1 (absent_tail 1 p.0 (indices_of ps) none) in
       by_test (eqb p.0 (index_of named)) (λ b. rows_in weights (cond b ((x, Some e) ∷ p ∷ ps) (p ∷ list_put ps (index_of named) (x, Some e))) ≡ cond b (new ∷ r ∷ rs) (r ∷ put_before rs named new))
       (λ _. rows-cons weights (x, Some e) (p ∷ ps) e refl ∙ ap (λ zs. new ∷ zs) first)
-      (λ _. rows-cons weights p (list_put ps (index_of named) (x, Some e)) v.0 v.1 ∙ ap (λ zs. r ∷ zs) (rows-put weights ps named x e h.1 (absent_tail 1 p.0 (indices_of ps) none)))
-      ∙ ap (λ b. cond b (new ∷ r ∷ rs) (r ∷ put_before rs named new)) (same named)
+      (λ _. rows-cons weights p (list_put ps (index_of named) (x, Some e)) v.0 v.1 ∙ ap (λ zs. r ∷ zs) rest)
+      ∙ ap (λ b. cond b (new ∷ r ∷ rs) (r ∷ put_before rs named new)) (same_test r (indices_of ps) named none)
       ∙ ap (λ zs. put_before zs named new) (sym first)
-    where
-      v : (a : K × V) × (p.1 ≡ Some a)
-      v = some_is p.1 h.0
-
-      abbrev r : Placed K V
-      r = placed p.0 v.0.0 v.0.1 (get_or weights p.0 0)
-
-      abbrev rs : List (Placed K V)
-      rs = rows_in weights ps
-
-      abbrev new : Placed K V
-      new = placed x e.0 e.1 (get_or weights x 0)
-
-      first : rows_in weights (p ∷ ps) ≡ r ∷ rs
-      first = rows-cons weights p ps v.0 v.1
-
-      same : (o : Option ℕ) → eqb p.0 (index_of o) ≡ stands_at r o
-      same None = ne_eqb p.0 1 (absent_head 1 p.0 (indices_of ps) none)
-      same (Some q) = refl

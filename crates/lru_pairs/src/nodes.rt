@@ -317,10 +317,11 @@ impl<K: Drop, V: Drop> Nodes<K, V> {
         ensures room { self.new.room ≡ self.old.room }
         ensures valid { IsLaid self.new }
     {
-        match self.list.insert_before(Some((key, value)), index_of(before)) {
-            Ok(place) => {
-                self.weights[place] = weight;
-                Ok(place as u32)
+        let (node, next) = (Some((key, value)), index_of(before));
+        match self.list.insert_before(node, next) {
+            Ok(at) => {
+                self.weights[at] = weight;
+                Ok(at as u32)
             }
             Err(PushError::Memory(node)) => Err(unpushed(NoPlace::Memory, node)),
             Err(PushError::Full(node)) => Err(unpushed(NoPlace::Full, node)),

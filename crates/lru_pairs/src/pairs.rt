@@ -384,10 +384,9 @@ impl<K: Hash + Drop, V: Drop, S: BuildHasher> Pairs<K, V, S> {
                 value,
             });
         }
-        let place = self.nodes.push_before(before, key, value, weight)?;
-        self.index
-            .insert_hashed(self.nodes.key_at(place), hash, place);
-        Ok(place)
+        let at = self.nodes.push_before(before, key, value, weight)?;
+        self.index.insert_hashed(self.nodes.key_at(at), hash, at);
+        Ok(at)
     }
 
     /// Makes sure of a free place, so that the next push takes no memory and is not refused.

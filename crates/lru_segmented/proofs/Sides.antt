@@ -86,7 +86,7 @@ module _ {K V : Type 0} where
   fewer_places (r ∷ rs) p q =
       let rest = fewer_places rs p q in
       by_place p r rs (λ ys. places q ys ≤ places q (r ∷ rs))
-      (λ _. elim (cases_eq r.place q) [ | inl e ↦ omega (arith, rest, places_here r rs q e) | inr ne ↦ omega (arith, rest, places_other r rs q ne) ])
+      (λ _. elim (cases_eq r.place q) [ inl e ↦ omega (arith, rest, places_here r rs q e) | inr ne ↦ omega (arith, rest, places_other r rs q ne) ])
       (λ _. elim (cases_eq r.place q) [
         | inl e ↦ omega (arith, rest, places_here r rs q e, places_here r (without rs p) q e)
         | inr ne ↦ omega (arith, rest, places_other r rs q ne, places_other r (without rs p) q ne)

@@ -12,8 +12,7 @@ use std::hash::Hash;
 pub fn no_scan_evicts<K: Hash, V, S, F: FnMut(Entry<K, V>) + Drop>()
     ensures fitting { NoScanEvicts S K.eq (λ p x q. F.step p x tt q) }
     ensures heavier { ScansTakeTheEnd S K.eq (λ p x q. F.step p x tt q) }
-{
-}
+{}
 
 /// After any number of requests by `use_or_put` of distinct keys that had no entry, the upper segment is the same, where what
 /// is made fits beside it.
@@ -22,8 +21,7 @@ where
     M: FnOnce() -> Result<(V, usize), E> + Drop,
     F: FnMut(Entry<K, V>) + Drop,
     ensures { NoRequestEvicts S K.eq (λ p x q. F.step p x tt q) (λ make. M.post make) }
-{
-}
+{}
 
 /// With a share of nothing for the upper segment, each call does what the same call of a `Cache` does.
 pub fn plain_without_share<K: Hash, V, S, R, E, U, M, F>()
@@ -32,5 +30,4 @@ where
     M: FnOnce() -> Result<(V, usize), E> + Drop,
     F: FnMut(Entry<K, V>) + Drop,
     ensures { PlainWithoutShare S K.eq (λ p x q. F.step p x tt q) (λ update. U.post update) (λ make. M.post make) }
-{
-}
+{}

@@ -88,14 +88,17 @@ fn mark<K: Hash, V, S: BuildHasher>(
     ensures marks { Marks rows.old.held place upper result rows.new.held }
     ensures hashes { rows.new.hashes ≡ rows.old.hashes }
 {
-    rows.update(place, |held: &mut Seat<V>, _weight: usize| -> bool
-        ensures was { result ≡ held.old.upper }
-        ensures left { held.new ≡ seat held.old.value upper }
-    {
-        let was = held.upper;
-        held.upper = upper;
-        was
-    })
+    rows.update(
+        place,
+        |held: &mut Seat<V>, _weight: usize| -> bool
+            ensures was { result ≡ held.old.upper }
+            ensures left { held.new ≡ seat held.old.value upper }
+        {
+            let was = held.upper;
+            held.upper = upper;
+            was
+        },
+    )
 }
 
 // Lends the value of a seat to `update`, with a weight, and answers what `update` does.
@@ -261,14 +264,14 @@ impl<K: Hash, V, S: BuildHasher> Seats<K, V, S> {
         requires callable { U.IsAlwaysCallable update }
         ensures { UpdatesAt (U.post update) self.old place result self.new }
     {
-        self.rows
-            .update(place, |held: &mut Seat<V>, weight: usize| -> R
+        self.rows.update(
+            place,
+            |held: &mut Seat<V>, weight: usize| -> R
                 requires { U.IsAlwaysCallable update }
                 ensures updates { Updates (U.post update) held.old.value weight result held.new.value }
                 ensures upper { held.new.upper ≡ held.old.upper }
-            {
-                lend(held, weight, update)
-            })
+            { lend(held, weight, update) },
+        )
     }
 }
 

@@ -8,7 +8,7 @@ ghost use Rattle.lru_cache.specs.Cache.{hashes_from, entry_of, cause_of, parts_o
 ghost use Rattle.lru_segmented.specs.Segmented.{empty, entries, removed, LetsGo, Limits, PopsLast, Uses, UpdatesEntry, Puts, UsesOrPuts, Enters, Rejoins, IsSegmented};
 
 use crate::iter::SegmentedEntries;
-use crate::seats::{fits, lower_down, Seats};
+use crate::seats::{Seats, fits, lower_down};
 use lru_cache::cache::{Cause, Entry, NotPut, Refused};
 use lru_index::hashing::SeededHashes;
 use lru_index::keys::Query;
@@ -63,11 +63,7 @@ fn cause_of(none: NoPlace) -> Cause
 fn most_upper(most_protected: usize, most_entries: usize) -> usize
     ensures { result ≡ (if most_protected == 0 then 0 else most_entries) }
 {
-    if most_protected == 0 {
-        0
-    } else {
-        most_entries
-    }
+    if most_protected == 0 { 0 } else { most_entries }
 }
 
 impl<K: Hash + Drop, V: Drop> SegmentedCache<K, V, SeededHashes> {

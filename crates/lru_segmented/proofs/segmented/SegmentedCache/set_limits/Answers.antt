@@ -18,6 +18,6 @@ returns g c = (
   (
     c.let_go.ensures,
     subst (λ (x : Segmented g.row.K.Denot g.row.V.Denot g.row.S.Denot). (us : List (Entry g.row.K.Denot g.row.V.Denot)) × ((ls : List (Entry g.row.K.Denot g.row.V.Denot)) × (Balances (with_limits x c.args.most_weight c.args.most_entries c.args.most_protected) x.upper x.lower us ls
-    × (segmented_in c.lower_down.new.seats c.args.most_weight c.args.most_entries c.args.most_protected ≡ with_segments (with_limits x c.args.most_weight c.args.most_entries c.args.most_protected) us ls)))) c.self.view_is (view_limited c.self.inside.seats c.self.inside.most_weight c.self.inside.most_entries c.self.inside.most_protected c.args.most_weight c.args.most_entries c.args.most_protected c.lower_down.new.seats (subst (λ n. Lowers c.args.most_protected n c.self.inside.seats c.lower_down.new.seats) c.most_upper.ensures c.lower_down.ensures)),
+        × (segmented_in c.lower_down.new.seats c.args.most_weight c.args.most_entries c.args.most_protected ≡ with_segments (with_limits x c.args.most_weight c.args.most_entries c.args.most_protected) us ls)))) c.self.view_is (view_limited c.self.inside.seats c.self.inside.most_weight c.self.inside.most_entries c.self.inside.most_protected c.args.most_weight c.args.most_entries c.args.most_protected c.lower_down.new.seats (subst (λ n. Lowers c.args.most_protected n c.self.inside.seats c.lower_down.new.seats) c.most_upper.ensures c.lower_down.ensures)),
   ),
 )
