@@ -408,6 +408,17 @@ module _ {K V S : Type 0} (s : Seated K V S) (mw me mp : ℕ) where
           ),
         )
 
+  -- a segment that is as heavy as it was gives nothing down
+  pub unlowered : IsKept s mw me mp → (t : Seated K V S) → (weight_in t.upper ≡ weight_in s.upper) × (length t.upper ≡ length s.upper) → Lowers mp (cond (eqb mp 0) 0 me) t t
+  unlowered k t same = record {
+    front = t.upper;
+    back = [];
+    parts = sym (append-nil t.upper);
+    fits = (omega (arith, k.protected.0, same.0), omega (arith, k.protected.1, same.1));
+    needed = λ r rest is fit. nil_cons r rest is;
+    left = refl;
+  }
+
   -- ---- other limits
   module _ (w n p : ℕ) (z : Seated K V S) (l : Lowers p (cond (eqb p 0) 0 n) s z) where
     pub kept_limited : Fit w n (entries (segmented_in s mw me mp)) → IsKept z w n p

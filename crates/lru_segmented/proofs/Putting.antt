@@ -103,10 +103,12 @@ module _ {K V S F : Type 0} (eq : K → K → Bool) (Step : F → Entry K V → 
 
     unchanged : length lets.gone ≤ 0 → mid ≡ old
     unchanged few =
-        let upper = none_long lets_old.recedes.upper_gone (omega (arith, few, ap length lets_old.recedes.gone_is, length-append lets_old.recedes.upper_gone lets_old.recedes.lower_gone)) in
-        let lower = none_long lets_old.recedes.lower_gone (omega (arith, few, ap length lets_old.recedes.gone_is, length-append lets_old.recedes.upper_gone lets_old.recedes.lower_gone)) in
-        let us : mid.upper ≡ old.upper = sym (lets_old.recedes.upper_parts ∙ ap (λ zs. mid.upper ++ zs) upper ∙ append-nil mid.upper) in
-        let ls : mid.lower ≡ old.lower = sym (lets_old.recedes.lower_parts ∙ ap (λ zs. mid.lower ++ zs) lower ∙ append-nil mid.lower) in
+        let upper = none_long lets.recedes.upper_gone (omega (arith, few, ap length lets.recedes.gone_is, length-append lets.recedes.upper_gone lets.recedes.lower_gone)) in
+        let lower = none_long lets.recedes.lower_gone (omega (arith, few, ap length lets.recedes.gone_is, length-append lets.recedes.upper_gone lets.recedes.lower_gone)) in
+        let us : mid.upper ≡ old.upper =
+        sym (sym (without_absent eq k old.upper (absent_front eq k old.upper old.lower none)) ∙ lets.recedes.upper_parts ∙ ap (λ zs. mid.upper ++ zs) upper ∙ append-nil mid.upper) in
+        let ls : mid.lower ≡ old.lower =
+        sym (sym (without_absent eq k old.lower (absent_back eq k old.upper old.lower none)) ∙ lets.recedes.lower_parts ∙ ap (λ zs. mid.lower ++ zs) lower ∙ append-nil mid.lower) in
         lets.same ∙ ap (λ zs. with_segments old zs mid.lower) us ∙ ap (with_segments old old.upper) ls
 
     refuse_by : (cause : Cause) → LacksPlace mid cause → MayRefuse eq (plain old) k w cause × (mid ≡ old)

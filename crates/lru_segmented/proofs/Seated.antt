@@ -392,6 +392,10 @@ module _ {K V S : Type 0} (r : Recency K (Seat V)) (hashes : S) (boundary : Opti
     abbrev raised : Placed K (Seat V)
     raised = placed x.place x.key (seat x.value.value true) x.weight
 
+    -- what its seat says
+    pub seat_says : (v : Seat V) → option_map (λ (y : Placed K (Seat V)). y.value) (row_at r.rows p) ≡ Some v → v.upper ≡ (there p at).0.value.upper
+    seat_says v read = ap (λ (y : Seat V). y.upper) (some_of v x.value (sym read ∙ ap (option_map (λ (y : Placed K (Seat V)). y.value)) found))
+
     module _ (r1 : Recency K (Seat V)) (r1_is : r1 ≡ recency (promoted r.rows p) r.free) where
       rows1 : r1.rows ≡ x ∷ without r.rows p
       rows1 = ap (λ (y : Recency K (Seat V)). y.rows) r1_is ∙ ap (λ o. option_map_or (λ y. y ∷ without r.rows p) o r.rows) found
@@ -405,8 +409,53 @@ module _ {K V S : Type 0} (r : Recency K (Seat V)) (hashes : S) (boundary : Opti
       pub first_weight : (n : ℕ) → option_map (λ (y : Placed K (Seat V)). y.weight) (row_at r1.rows p) ≡ Some n → n ≡ x.weight
       first_weight n is = some_of n x.weight (sym is ∙ ap (option_map (λ (y : Placed K (Seat V)). y.weight)) first_at)
 
+      -- it stood there
+      module _ (says_upper : (there p at).0.value.upper ≡ true) where
+        not_behind_it : without k.ls p ≡ k.ls
+        not_behind_it =
+            elim stands [
+              | inl (here, none) ↦ without_absent p k.ls none
+              | inr (none, here) ↦ absurd (false≢true (sym (say_at false k.ls p x k.lowers here) ∙ says_upper))
+            ]
+
+        moved_parts : r1.rows ≡ (x ∷ without k.us p) ++ k.ls
+        moved_parts = rows1 ∙ ap (λ zs. x ∷ zs) (parts_without ∙ ap (λ zs. without k.us p ++ zs) not_behind_it)
+
+        pub kept_moved : IsSeated r1 boundary w uw ul
+        kept_moved = record {
+          us = x ∷ without k.us p;
+          ls = k.ls;
+          parts = moved_parts;
+          once = λ q. subst (λ rs. places q rs ≤ 1) (ap (λ n. x ∷ without r.rows n) place ∙ sym rows1) (once_first r.rows x k.once q);
+          short = omega (arith, k.short, ap length rows1, length-without p r.rows (ap is_some found) (k.once p));
+          uppers = (says_upper, say_without true k.us p k.uppers);
+          lowers = k.lowers;
+          boundary_is = k.boundary_is;
+          weight_is = omega (arith, weight_with, ap weight_in rows1, weight-cons x (without r.rows p));
+          upper_weight_is = omega (arith, (upper_with says_upper).0, weight-cons x (without k.us p));
+          upper_len_is = omega (arith, (upper_with says_upper).1);
+        }
+
+        pub view_moved : (h : S) → h ≡ hashes → seated_in r1 h ≡ lifted s p
+        view_moved h h_is =
+            shows r1 h (x ∷ without k.us p) k.ls moved_parts (says_upper, say_without true k.us p k.uppers) k.lowers
+            ∙ ap (λ us. seated (row_in x ∷ us) (rows_in k.ls) r1.free h) (in-without k.us p ∙ ap (λ us. without us p) upper_is)
+            ∙ ap (λ ls. seated (row_in x ∷ without s.upper p) ls r1.free h) (ap rows_in (sym not_behind_it) ∙ in-without k.ls p ∙ ap (λ ls. without ls p) lower_is)
+            ∙ ap (λ n. seated (row_in x ∷ without s.upper p) (without s.lower p) n h) (ap (λ (y : Recency K (Seat V)). y.free) r1_is ∙ free_is)
+            ∙ ap (seated (row_in x ∷ without s.upper p) (without s.lower p) s.free) (h_is ∙ hashes_are)
+            ∙ sym (ap (λ o. option_map_or (λ y. seated (y ∷ without s.upper p) (without s.lower p) s.free s.hashes) o s) row_is)
+
+        -- the segment is as heavy as it was
+        pub moved_weight : (h : S) → h ≡ hashes → (weight_in (seated_in r1 h).upper ≡ weight_in s.upper) × (length (seated_in r1 h).upper ≡ length s.upper)
+        moved_weight h h_is =
+            let us : (seated_in r1 h).upper ≡ rows_in (x ∷ without k.us p) =
+            ap (λ (y : Seated K V S). y.upper) (shows r1 h (x ∷ without k.us p) k.ls moved_parts (says_upper, say_without true k.us p k.uppers) k.lowers) in (
+              omega (arith, ap weight_in us, in-weight (x ∷ without k.us p), weight-cons x (without k.us p), (upper_with says_upper).0, upper_weighs),
+              omega (arith, ap length us, in-length (x ∷ without k.us p), (upper_with says_upper).1, upper_long),
+            )
+
       module _ (was : Bool) (r2 : Recency K (Seat V)) (marks : Marks r1 p true was r2) where
-        says : was ≡ x.value.upper
+        pub says : was ≡ (there p at).0.value.upper
         says = marks.1.1.0 ∙ ap is_upper (some_of marks.0 x (sym marks.1.0 ∙ first_at))
 
         r2_is : r2 ≡ recency (raised ∷ without r.rows p) r.free
@@ -427,21 +476,6 @@ module _ {K V S : Type 0} (r : Recency K (Seat V)) (hashes : S) (boundary : Opti
 
         weight2 : w ≡ weight_in r2.rows
         weight2 = omega (arith, weight_with, ap (λ (y : Recency K (Seat V)). weight_in y.rows) r2_is, weight-cons raised (without r.rows p))
-
-        pub kept_lifted : (b : Option ℕ) → b ≡ passed r.rows boundary p → was ≡ true → IsSeated r2 b w uw ul
-        kept_lifted b b_is true_was = record {
-          us = raised ∷ without k.us p;
-          ls = without k.ls p;
-          parts = parts2;
-          once = once2;
-          short = omega (arith, long2, k.short);
-          uppers = (refl, say_without true k.us p k.uppers);
-          lowers = say_without false k.ls p k.lowers;
-          boundary_is = boundary_passed b b_is;
-          weight_is = weight2;
-          upper_weight_is = omega (arith, (upper_with (sym says ∙ true_was)).0, weight-cons raised (without k.us p));
-          upper_len_is = omega (arith, (upper_with (sym says ∙ true_was)).1);
-        }
 
         pub lifted_fits : (n : ℕ) → n ≡ x.weight → was ≡ false → (uw + n ≤ w) × (ul + 1 ≤ most_rows)
         lifted_fits n n_is false_was = let l = lower_with (sym says ∙ false_was) in (omega (arith, l.1, n_is), omega (arith, l.2, k.short))

@@ -1,5 +1,5 @@
 //! Rows in two segments, in one list with a boundary.
-ghost use Rattle.std.specs.Prelude.{◌≡◌, ◌+◌, ◌-◌, ◌^◌, ◌<◌, ◌≤◌, ◌∷◌, [], Some, None, length, map, nat_le, ◌&&◌, IfOk, IfSome};
+ghost use Rattle.std.specs.Prelude.{◌≡◌, ◌+◌, ◌-◌, ◌^◌, ◌<◌, ◌≤◌, ◌∷◌, [], Some, None, false, length, map, nat_le, ◌&&◌, IfOk, IfSome};
 ghost use Rattle.std.specs.Option.{option_map};
 ghost use Rattle.lru_index.specs.Hashing.{key_hash};
 ghost use Rattle.lru_rows.specs.Rows.{row_at, row_of, IsAt, IsRecency, Finds, last_row, entry_of, taken, without, most_rows, Updates};
@@ -222,20 +222,27 @@ impl<K: Hash, V, S: BuildHasher> Seats<K, V, S> {
         self.rows.weight_at(place)
     }
 
-    /// Puts a place's row first in the upper segment.
+    /// Puts a place's row first in the upper segment, and answers whether it stood in the lower one: else the upper one is as
+    /// heavy as it was.
     #[inline(always)]
-    pub(crate) fn lift(&mut self, place: Place)
+    pub(crate) fn lift(&mut self, place: Place) -> bool
         requires { IsAt (rows self.old) place }
-        ensures { self.new ≡ lifted self.old place }
+        ensures lifted { self.new ≡ lifted self.old place }
+        ensures kept { result ≡ false → (weight_in self.new.upper ≡ weight_in self.old.upper) × (length self.new.upper ≡ length self.old.upper) }
     {
+        // (a row of the upper segment is not where the lower one begins)
+        let upper = self.rows.value_at(place).upper;
+        if upper {
+            self.rows.promote(place);
+            return false;
+        }
         self.boundary = pass(&self.rows, self.boundary, place);
         self.rows.promote(place);
         let weight = self.rows.weight_at(place);
-        if mark(&mut self.rows, place, true) {
-            return;
-        }
+        mark(&mut self.rows, place, true);
         self.upper_weight += weight;
         self.upper_len += 1;
+        true
     }
 
     /// Puts the last row of the upper segment first in the lower one. No row moves by it.

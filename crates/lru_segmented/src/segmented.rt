@@ -277,7 +277,11 @@ impl<K: Hash, V, S: BuildHasher> SegmentedCache<K, V, S> {
         let Some(place) = self.seats.find_hashed(query, hash) else {
             return false;
         };
-        self.seats.lift(place);
+        // (most often it stood in the upper segment, and then nothing leaves that)
+        let grown = self.seats.lift(place);
+        if !grown {
+            return true;
+        }
         lower_down(
             &mut self.seats,
             self.most_protected,

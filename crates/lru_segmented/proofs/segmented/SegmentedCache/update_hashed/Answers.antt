@@ -15,15 +15,15 @@ pub lift-requires : goal.lift-requires
 lift-requires g c = found_at c.self.inside.seats c.self.inside.most_weight c.self.inside.most_entries c.self.inside.most_protected g.Q.Query.stands_for c.args.query c.in_ok-place.place c.in_ok-place.ensures.finds
 
 pub update-answer-requires-clause-held : goal.update-answer-requires-clause-held
-update-answer-requires-clause-held g c = lifted_stands c.self.inside.seats c.self.inside.most_weight c.self.inside.most_entries c.self.inside.most_protected g.Q.Query.stands_for c.args.query g.K.PartialEq.eq g.met.K.Eq.laws.refl (g.met.Q.Query.respects_eq c.args.query) c.find_hashed.ensures.valid c.in_ok-place.place c.in_ok-place.ensures.finds c.lift.new.self c.lift.ensures
+update-answer-requires-clause-held g c = lifted_stands c.self.inside.seats c.self.inside.most_weight c.self.inside.most_entries c.self.inside.most_protected g.Q.Query.stands_for c.args.query g.K.PartialEq.eq g.met.K.Eq.laws.refl (g.met.Q.Query.respects_eq c.args.query) c.find_hashed.ensures.valid c.in_ok-place.place c.in_ok-place.ensures.finds c.lift.new.self c.lift.ensures.lifted
 
 pub invariant_of-self : goal.invariant_of-self
 invariant_of-self g c =
-    kept_updated c.self.inside.seats c.self.inside.most_weight c.self.inside.most_entries c.self.inside.most_protected g.Q.Query.stands_for c.args.query g.K.PartialEq.eq g.met.K.Eq.laws.refl (g.met.Q.Query.respects_eq c.args.query) c.find_hashed.ensures.valid c.in_ok-place.place c.in_ok-place.ensures.finds c.lift.new.self c.lift.ensures (λ lent w answer left. (g.U.FnOnce).post c.args.update (lent, (w, tt)) (answer, (left, tt))) c.update-answer.result c.update-answer.new.self c.update-answer.ensures c.lower_down.new.seats
+    kept_updated c.self.inside.seats c.self.inside.most_weight c.self.inside.most_entries c.self.inside.most_protected g.Q.Query.stands_for c.args.query g.K.PartialEq.eq g.met.K.Eq.laws.refl (g.met.Q.Query.respects_eq c.args.query) c.find_hashed.ensures.valid c.in_ok-place.place c.in_ok-place.ensures.finds c.lift.new.self c.lift.ensures.lifted (λ lent w answer left. (g.U.FnOnce).post c.args.update (lent, (w, tt)) (answer, (left, tt))) c.update-answer.result c.update-answer.new.self c.update-answer.ensures c.lower_down.new.seats
     (subst (λ n. Lowers c.self.inside.most_protected n c.update-answer.new.self c.lower_down.new.seats) c.most_upper.ensures c.lower_down.ensures) c.self.invariant
 
 pub returns : goal.returns
 returns g c =
     subst (λ (x : Segmented g.row.K.Denot g.row.V.Denot g.row.S.Denot). UpdatesEntry g.Q.Query.stands_for (λ lent w answer left. (g.U.FnOnce).post c.args.update (lent, (w, tt)) (answer, (left, tt))) x c.args.query (Some c.update-answer.result) (segmented_in c.lower_down.new.seats c.self.inside.most_weight c.self.inside.most_entries c.self.inside.most_protected)) c.self.view_is
-    (view_updated c.self.inside.seats c.self.inside.most_weight c.self.inside.most_entries c.self.inside.most_protected g.Q.Query.stands_for c.args.query g.K.PartialEq.eq g.met.K.Eq.laws.refl (g.met.Q.Query.respects_eq c.args.query) c.find_hashed.ensures.valid c.in_ok-place.place c.in_ok-place.ensures.finds c.lift.new.self c.lift.ensures (λ lent w answer left. (g.U.FnOnce).post c.args.update (lent, (w, tt)) (answer, (left, tt))) c.update-answer.result c.update-answer.new.self c.update-answer.ensures c.lower_down.new.seats
+    (view_updated c.self.inside.seats c.self.inside.most_weight c.self.inside.most_entries c.self.inside.most_protected g.Q.Query.stands_for c.args.query g.K.PartialEq.eq g.met.K.Eq.laws.refl (g.met.Q.Query.respects_eq c.args.query) c.find_hashed.ensures.valid c.in_ok-place.place c.in_ok-place.ensures.finds c.lift.new.self c.lift.ensures.lifted (λ lent w answer left. (g.U.FnOnce).post c.args.update (lent, (w, tt)) (answer, (left, tt))) c.update-answer.result c.update-answer.new.self c.update-answer.ensures c.lower_down.new.seats
     (subst (λ n. Lowers c.self.inside.most_protected n c.update-answer.new.self c.lower_down.new.seats) c.most_upper.ensures c.lower_down.ensures))
