@@ -14,6 +14,16 @@ use Rattle.lru_pairs.specs.Representation.Nodes.{rows_in, AreHeld}
 use Rattle.lru_pairs.specs.Representation.Insertions.{index_of}
 use Rattle.lru_pairs.proofs.Laid.{some_is, rows-cons}
 
+follower_here : (x : ℕ) (xs : List ℕ) (p : ℕ) → x ≡ p → follower (x ∷ xs) p ≡ get_or xs 0 4294967295
+follower_here x xs p e = ap (λ b. cond b (get_or xs 0 4294967295) (follower xs p)) (eq-eqb x p e)
+
+follower_other : (x : ℕ) (xs : List ℕ) (p : ℕ) → x ≢ p → follower (x ∷ xs) p ≡ follower xs p
+follower_other x xs p ne = ap (λ b. cond b (get_or xs 0 4294967295) (follower xs p)) (ne_eqb x p ne)
+
+by_test : (b : Bool) (P : Bool → Type 0) → (b ≡ true → P true) → (b ≡ false → P false) → P b
+by_test true P hit miss = hit refl
+by_test false P hit miss = miss refl
+
 module _ {K V : Type 0} where
   abbrev pub places_of : List (Placed K V) → List ℕ
   places_of rows = map (λ (r : Placed K V). r.place) rows
@@ -41,12 +51,6 @@ module _ {K V : Type 0} where
 
   after_other : (r : Placed K V) (rs : List (Placed K V)) (p : ℕ) → r.place ≢ p → row_after (r ∷ rs) p ≡ row_after rs p
   after_other r rs p ne = ap (λ b. cond b (first_row rs) (row_after rs p)) (ne_eqb r.place p ne)
-
-  follower_here : (x : ℕ) (xs : List ℕ) (p : ℕ) → x ≡ p → follower (x ∷ xs) p ≡ get_or xs 0 4294967295
-  follower_here x xs p e = ap (λ b. cond b (get_or xs 0 4294967295) (follower xs p)) (eq-eqb x p e)
-
-  follower_other : (x : ℕ) (xs : List ℕ) (p : ℕ) → x ≢ p → follower (x ∷ xs) p ≡ follower xs p
-  follower_other x xs p ne = ap (λ b. cond b (get_or xs 0 4294967295) (follower xs p)) (ne_eqb x p ne)
 
   abbrev place_or : ℕ → Option (Placed K V) → ℕ
   place_or z o = option_map_or (λ (r : Placed K V). r.place) o z
@@ -126,10 +130,6 @@ module _ {K V : Type 0} where
   at_reversed rows p at = stands_here (reverse rows) p (omega (arith, at_stands rows p at, times_reversed rows p))
 
   -- ---- a row put before another
-  by_test : (b : Bool) (P : Bool → Type 0) → (b ≡ true → P true) → (b ≡ false → P false) → P b
-  by_test true P hit miss = hit refl
-  by_test false P hit miss = miss refl
-
   -- each place has the row that it has where the new one goes first
   pub row_put : (rows : List (Placed K V)) (named : Option ℕ) (new : Placed K V) (q : ℕ) → row_at rows new.place ≡ None → row_at (put_before rows named new) q ≡ row_at (new ∷ rows) q
   row_put [] named new q none = refl

@@ -442,9 +442,10 @@ impl<K: Hash + Drop, V: Drop, S: BuildHasher> SegmentedCache<K, V, S> {
         requires short { length (entries self.old) < most_rows }
         ensures { Rejoins self.old (entry key value weight) self.new }
     {
-        let Ok(_) = self.seats.push_upper_hashed(key, value, weight, hash) else {
-            unreachable!()
-        };
+        match self.seats.push_upper_hashed(key, value, weight, hash) {
+            Ok(_) => {}
+            Err(_) => unreachable!(),
+        }
         lower_down(
             &mut self.seats,
             self.most_protected,
