@@ -421,14 +421,15 @@ impl<K: Hash + Drop, V: Drop, S: BuildHasher> SegmentedCache<K, V, S> {
         requires few { length (entries self.old) < self.old.most_entries }
         ensures { Enters self.old key value weight result self.new }
     {
-        match self.seats.push_lower_hashed(key, value, weight, hash) {
-            Ok(_) => Ok(()),
-            Err(back) => Err(Refused {
-                cause: cause_of(back.cause),
-                key: back.key,
-                value: back.value,
-            }),
-        }
+        let back = match self.seats.push_lower_hashed(key, value, weight, hash) {
+            Ok(_) => return Ok(()),
+            Err(back) => back,
+        };
+        Err(Refused {
+            cause: cause_of(back.cause),
+            key: back.key,
+            value: back.value,
+        })
     }
 
     // Puts an entry, for which there are room and a place, first in the upper segment.

@@ -29,8 +29,8 @@ returns-in-Ok g c =
 pub invariant_of-self-2 : goal.invariant_of-self-2
 invariant_of-self-2 g c = subst (λ s. IsKept s c.self.inside.most_weight c.self.inside.most_entries c.self.inside.most_protected) (sym c.in-Err.ensures.1.1.1) c.self.invariant
 
-pub returns-in-Err : goal.returns-in-Err
-returns-in-Err g c = (
+pub returns : goal.returns
+returns g c = (
   subst (λ (x : Segmented g.row.K.Denot g.row.V.Denot g.row.S.Denot). LacksPlace x c.cause_of.result) c.self.view_is
       (subst (LacksPlace (segmented_in c.self.inside.seats c.self.inside.most_weight c.self.inside.most_entries c.self.inside.most_protected)) (sym c.cause_of.ensures) (lacks_place c.self.inside.seats c.self.inside.most_weight c.self.inside.most_entries c.self.inside.most_protected c.in-Err.back.cause c.in-Err.ensures.0)),
   (
