@@ -223,7 +223,14 @@ impl<K: Hash, V, S: BuildHasher> SegmentedCache<K, V, S> {
         self.contains_hashed(key, self.hash_of(key))
     }
 
-    /// `contains`, by what stands for the key, whose hash is known.
+    /// As `contains`, by what stands for the key.
+    pub fn contains_by<Q: Query<K>>(&self, query: Q) -> bool
+        ensures { result ≡ is_some (entry_of Q.stands_for (entries self.now) query) }
+    {
+        self.contains_hashed(query, self.hash_of(&query))
+    }
+
+    /// `contains_by`, where the query's hash is known.
     #[inline(always)]
     pub fn contains_hashed<Q: Query<K>>(&self, query: Q, hash: u64) -> bool
         requires { hash ≡ key_hash S.BuildHasher S.Hasher.Hasher Q.hash_input self.now.hashes query }
@@ -239,7 +246,14 @@ impl<K: Hash, V, S: BuildHasher> SegmentedCache<K, V, S> {
         self.peek_hashed(key, self.hash_of(key))
     }
 
-    /// `peek`, by what stands for the key, whose hash is known.
+    /// As `peek`, by what stands for the key.
+    pub fn peek_by<Q: Query<K>>(&self, query: Q) -> Option<&V>
+        ensures { option_copied result ≡ option_map (λ e. e.value) (entry_of Q.stands_for (entries self.now) query) }
+    {
+        self.peek_hashed(query, self.hash_of(&query))
+    }
+
+    /// `peek_by`, where the query's hash is known.
     #[inline(always)]
     pub fn peek_hashed<Q: Query<K>>(&self, query: Q, hash: u64) -> Option<&V>
         requires { hash ≡ key_hash S.BuildHasher S.Hasher.Hasher Q.hash_input self.now.hashes query }
@@ -267,7 +281,16 @@ impl<K: Hash, V, S: BuildHasher> SegmentedCache<K, V, S> {
         self.promote_hashed(key, hash)
     }
 
-    /// `promote`, by what stands for the key, whose hash is known.
+    /// As `promote`, by what stands for the key.
+    pub fn promote_by<Q: Query<K>>(&mut self, query: Q) -> bool
+        ensures uses { Uses Q.stands_for self.old query result self.new }
+        ensures valid { IsSegmented K.eq self.old }
+    {
+        let hash = self.hash_of(&query);
+        self.promote_hashed(query, hash)
+    }
+
+    /// `promote_by`, where the query's hash is known.
     #[inline(always)]
     pub fn promote_hashed<Q: Query<K>>(&mut self, query: Q, hash: u64) -> bool
         requires { hash ≡ key_hash S.BuildHasher S.Hasher.Hasher Q.hash_input self.old.hashes query }
@@ -304,7 +327,20 @@ impl<K: Hash, V, S: BuildHasher> SegmentedCache<K, V, S> {
         self.update_hashed(key, hash, update)
     }
 
-    /// `update`, by what stands for the key, whose hash is known.
+    /// As `update`, by what stands for the key.
+    pub fn update_by<Q: Query<K>, R, U: FnOnce(&mut V, usize) -> R + Drop>(
+        &mut self,
+        query: Q,
+        update: U,
+    ) -> Option<R>
+        requires { U.IsAlwaysCallable update }
+        ensures { UpdatesEntry Q.stands_for (U.post update) self.old query result self.new }
+    {
+        let hash = self.hash_of(&query);
+        self.update_hashed(query, hash, update)
+    }
+
+    /// `update_by`, where the query's hash is known.
     #[inline(always)]
     pub fn update_hashed<Q: Query<K>, R, U: FnOnce(&mut V, usize) -> R + Drop>(
         &mut self,
@@ -497,7 +533,17 @@ impl<K: Hash + Drop, V: Drop, S: BuildHasher> SegmentedCache<K, V, S> {
         self.remove_hashed(key, hash)
     }
 
-    /// `remove`, by what stands for the key, whose hash is known.
+    /// As `remove`, by what stands for the key.
+    pub fn remove_by<Q: Query<K>>(&mut self, query: Q) -> Option<Entry<K, V>>
+        ensures answer { result ≡ entry_of Q.stands_for (entries self.old) query }
+        ensures left { self.new ≡ removed Q.stands_for self.old query }
+        ensures valid { IsSegmented K.eq self.old }
+    {
+        let hash = self.hash_of(&query);
+        self.remove_hashed(query, hash)
+    }
+
+    /// `remove_by`, where the query's hash is known.
     #[inline(always)]
     pub fn remove_hashed<Q: Query<K>>(&mut self, query: Q, hash: u64) -> Option<Entry<K, V>>
         requires { hash ≡ key_hash S.BuildHasher S.Hasher.Hasher Q.hash_input self.old.hashes query }
