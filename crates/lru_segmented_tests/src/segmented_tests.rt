@@ -135,3 +135,101 @@ fn steps_are_as_told_by_hand(rt: HostRuntime) -> Result<(), Fail> {
     }
     Ok(())
 }
+
+// Whether two caches hold the same entries in the same order.
+fn are_alike(plain: &Cache<u32, u32>, segmented: &SegmentedCache<u32, u32>) -> bool {
+    if plain.len() != segmented.len() || plain.weight() != segmented.weight() {
+        return false;
+    }
+    for (one, other) in plain.iter().zip(segmented.iter()) {
+        if one.0 != other.0 || one.1 != other.1 || one.2 != other.2 {
+            return false;
+        }
+    }
+    true
+}
+
+// Makes the same call of both, told by a drawn word, and answers whether both answer the same. Entries may weigh nothing.
+fn answer_alike(
+    plain: &mut Cache<u32, u32>,
+    segmented: &mut SegmentedCache<u32, u32>,
+    word: u32,
+) -> bool {
+    let (key, weight) = ((word >> 16) % 12, ((word >> 8) % 5) as usize);
+    match (word >> 24) % 6 {
+        0 | 1 => {
+            let one = plain.put(key, word, weight, |_gone| {});
+            let other = segmented.put(key, word, weight, |_gone| {});
+            one.is_ok_and(|was| was.is_some()) == other.is_ok_and(|was| was.is_some())
+        }
+        2 => plain.promote(&key) == segmented.promote(&key),
+        3 => {
+            let one = plain.update(&key, |_value, weight| weight);
+            one == segmented.update(&key, |_value, weight| weight)
+        }
+        4 => plain.remove(&key).is_some() == segmented.remove(&key).is_some(),
+        _ => plain.pop_last().is_some() == segmented.pop_last().is_some(),
+    }
+}
+
+#[test]
+fn without_a_share_it_is_a_cache(rt: HostRuntime) -> Result<(), Fail> {
+    let alloc = rt.alloc();
+    let mut plain = Cache::with_seed(alloc, 16, 8, 7)?;
+    let mut segmented = SegmentedCache::with_protected_and_seed(alloc, 16, 8, 0, 7)?;
+    let (mut word, mut wrong) = (1u32, 0u32);
+    for _ in 0..3000 {
+        word = word.wrapping_mul(1_664_525).wrapping_add(1_013_904_223);
+        let answers = answer_alike(&mut plain, &mut segmented, word);
+        if !answers || !are_alike(&plain, &segmented) || segmented.protected_len() != 0 {
+            wrong = wrong.wrapping_add(1);
+        }
+    }
+    assert_eq!(rt; wrong, 0);
+    Ok(())
+}
+
+// What is wrong with a cache of texts that is asked by what they lend, empty where nothing is.
+fn wrong_by_texts(alloc: Global) -> Result<String, AllocError> {
+    let mut cache = SegmentedCache::with_protected(alloc, 4, 4, 2)?;
+    for word in ["a", "b", "c"] {
+        let key = String::from_str(alloc, word)?;
+        if cache.put(key, 1u32, 1, |_gone| {}).is_err() {
+            return format!(in alloc; "a put");
+        }
+    }
+    if !cache.promote_by("a") || cache.update_by("b", |value, _| *value) != Some(1) {
+        return format!(in alloc; "a use");
+    }
+    if cache.protected_weight() != 2 || cache.protected_len() != 2 || cache.weight() != 3 {
+        return format!(in alloc; "a weight");
+    }
+    if cache.peek_by("c") != Some(&1) || cache.contains_by("d") || cache.remove_by("c").is_none() {
+        return format!(in alloc; "a look");
+    }
+    if cache.reserve(10).is_err() || cache.reserve(usize::MAX).is_ok() {
+        return format!(in alloc; "room");
+    }
+    // the upper segment gets half of its share, and its last entry becomes the first of the lower one
+    let mut gone = 0u32;
+    cache.set_limits(3, 3, 1, |_entry| gone = gone.wrapping_add(1));
+    if gone != 0 || cache.protected_len() != 1 || cache.most_protected() != 1 {
+        return format!(in alloc; "a share");
+    }
+    cache.set_limits(3, 1, 1, |_entry| gone = gone.wrapping_add(1));
+    if gone != 1 || cache.most_weight() != 3 || cache.most_entries() != 1 {
+        return format!(in alloc; "limits");
+    }
+    cache.clear(|_entry| gone = gone.wrapping_add(1));
+    if gone != 2 || !cache.is_empty() {
+        return format!(in alloc; "all go");
+    }
+    Ok(String::new(alloc))
+}
+
+#[test]
+fn texts_are_found_by_what_they_lend(rt: HostRuntime) -> Result<(), Fail> {
+    let wrong = wrong_by_texts(rt.alloc())?;
+    assert_eq!(rt; wrong.as_str(), "");
+    Ok(())
+}
