@@ -20,11 +20,12 @@ enum Step {
 // The keys of the upper segment, and those of the lower one.
 fn shown(alloc: Global, cache: &SegmentedCache<char, u32>) -> Result<String, AllocError> {
     let mut text = String::new(alloc);
-    let protected = cache.protected_len();
-    for (place, (key, _, _)) in cache.iter().enumerate() {
-        if place == protected {
+    let mut protected = cache.protected_len();
+    for (key, _, _) in cache.iter() {
+        if protected == 0 {
             text.push('|')?;
         }
+        protected = protected.wrapping_sub(1);
         text.push(*key)?;
     }
     Ok(text)
