@@ -7,6 +7,8 @@ use lru_cache_checkpoints::shared::{load_shared, save_shared, save_shared_after}
 use lru_cores::lru_core::LruCore;
 use lru_deadlines::deadlines::DeadlineCache;
 use lru_folder::folder::Folder;
+use lru_frames::row::Row;
+use lru_generations::generations::Saved;
 use lru_locks::lru::Lru;
 use lru_memory_folder::memory_folder::MemoryFolder;
 use lru_order_captures::{cores, locks};
@@ -28,27 +30,55 @@ fn folder(alloc: Global) -> Result<MemoryFolder, Fail> {
     Ok(folder)
 }
 
-fn cache_comes_back(alloc: Global) -> Result<bool, Fail> {
-    let mut folder = folder(alloc)?;
+// Each test goes in steps, which are functions of their own: one fills, one saves, and one loads and looks.
+
+// The generation of a save, if it kept the one before it.
+fn kept_by(saved: &Saved, before: u64) -> Option<u64> {
+    (saved.kept == Some(before)).then_some(saved.generation)
+}
+
+// Whether these are the rows that were put, the last one first.
+fn are_as_put(rows: &[Row<u64, u64>]) -> bool {
+    (rows.len() == 3)
+        && rows.iter().zip(ROWS.iter().rev()).all(|(row, (key, weight))| (row.key == *key)
+            & (row.data == (*key ^ 100))
+            & (row.weight == *weight))
+}
+
+fn filled_cache(alloc: Global) -> Result<Cache<u64, u64>, Fail> {
     let mut cache: Cache<u64, u64> = Cache::new(alloc, LIMIT, 9)?;
     for (key, weight) in &ROWS {
         cache.put(*key, *key ^ 100, *weight, |_gone| {})?;
     }
-    let first = save_cache(alloc, &mut folder, "d", "c", &cache)?;
+    Ok(cache)
+}
+
+fn save_cache_twice(
+    alloc: Global,
+    folder: &mut MemoryFolder,
+    cache: &Cache<u64, u64>,
+) -> Result<Option<u64>, Fail> {
+    let first = save_cache(alloc, folder, "d", "c", cache)?;
     let known = Some(&first.known);
-    let saved = save_cache_after(alloc, &mut folder, "d", "c", &cache, known)?;
+    let saved = save_cache_after(alloc, folder, "d", "c", cache, known)?;
+    Ok(kept_by(&saved, first.generation))
+}
+
+fn is_cache_there(alloc: Global, folder: &mut MemoryFolder, generation: u64) -> Result<bool, Fail> {
     let mut again: Cache<u64, u64> = Cache::new(alloc, LIMIT, 9)?;
-    let restored = load_cache(alloc, &mut folder, "d", "c", &mut again)?;
-    let rows = caches::capture_cache(alloc, &again)?;
-    let mut is_told = (restored.generation == Some(saved.generation)) & (restored.left_out == 0);
-    is_told &= (saved.kept == Some(first.generation)) & restored.known.is_some();
-    Ok(
-        is_told
-            && (rows.len() == 3)
-            && rows.iter().zip(ROWS.iter().rev()).all(|(row, (key, weight))| (row.key == *key)
-                & (row.data == (*key ^ 100))
-                & (row.weight == *weight)),
-    )
+    let restored = load_cache(alloc, folder, "d", "c", &mut again)?;
+    let is_told = (restored.generation == Some(generation)) & (restored.left_out == 0);
+    let is_known = restored.known.is_some();
+    Ok(is_told & is_known & are_as_put(&caches::capture_cache(alloc, &again)?))
+}
+
+fn cache_comes_back(alloc: Global) -> Result<bool, Fail> {
+    let mut folder = folder(alloc)?;
+    let cache = filled_cache(alloc)?;
+    match save_cache_twice(alloc, &mut folder, &cache)? {
+        Some(generation) => is_cache_there(alloc, &mut folder, generation),
+        None => Ok(false),
+    }
 }
 
 // The same under a limit that the heavy one is above: it is left out, and told.
@@ -79,30 +109,56 @@ fn a_cache_by_one_call(rt: HostRuntime) -> Result<(), Fail> {
     Ok(())
 }
 
-// Entries that live on, that are past their deadlines and that have none come back with these.
-fn deadlines_come_back(alloc: Global) -> Result<bool, Fail> {
-    let mut folder = folder(alloc)?;
+// One that lives on, one that is past its deadline, and one that has none.
+static DEADLINES: [u64; 3] = [40, 0, u64::MAX];
+
+fn filled_deadlines(alloc: Global) -> Result<DeadlineCache<u64, u64>, Fail> {
     let mut cache: DeadlineCache<u64, u64> = DeadlineCache::new(alloc, LIMIT, 9)?;
-    let times = [40u64, 0, u64::MAX];
-    for ((key, weight), deadline) in ROWS.iter().zip(times.iter()) {
+    for ((key, weight), deadline) in ROWS.iter().zip(DEADLINES.iter()) {
         cache.put_until(*key, *key ^ 100, *weight, *deadline, |_gone| {})?;
     }
-    let first = save_deadlines(alloc, &mut folder, "d", "c", &cache)?;
+    Ok(cache)
+}
+
+fn save_deadlines_twice(
+    alloc: Global,
+    folder: &mut MemoryFolder,
+    cache: &DeadlineCache<u64, u64>,
+) -> Result<Option<u64>, Fail> {
+    let first = save_deadlines(alloc, folder, "d", "c", cache)?;
     let known = Some(&first.known);
-    let saved = save_deadlines_after(alloc, &mut folder, "d", "c", &cache, known)?;
-    let mut again: DeadlineCache<u64, u64> = DeadlineCache::new(alloc, LIMIT, 9)?;
-    let restored = load_deadlines(alloc, &mut folder, "d", "c", &mut again)?;
-    let rows = deadlines::capture_deadlines(alloc, &again)?;
-    let mut is_told = (restored.generation == Some(saved.generation)) & (restored.left_out == 0);
-    is_told &= (saved.kept == Some(first.generation)) & restored.known.is_some();
+    let saved = save_deadlines_after(alloc, folder, "d", "c", cache, known)?;
+    Ok(kept_by(&saved, first.generation))
+}
+
+fn are_deadlines_as_put(rows: &[Row<u64, (u64, u64)>]) -> bool {
     let wanted = [(5u64, u64::MAX, 3usize), (1, 0, 0), (3, 40, 70_000)];
-    Ok(
-        is_told
-            && (rows.len() == 3)
-            && rows.iter().zip(wanted.iter()).all(|(row, (key, deadline, weight))| (row.key == *key)
-                & (row.data == (*key ^ 100, *deadline))
-                & (row.weight == *weight)),
-    )
+    (rows.len() == 3)
+        && rows.iter().zip(wanted.iter()).all(|(row, (key, deadline, weight))| (row.key == *key)
+            & (row.data == (*key ^ 100, *deadline))
+            & (row.weight == *weight))
+}
+
+fn are_deadlines_there(
+    alloc: Global,
+    folder: &mut MemoryFolder,
+    generation: u64,
+) -> Result<bool, Fail> {
+    let mut again: DeadlineCache<u64, u64> = DeadlineCache::new(alloc, LIMIT, 9)?;
+    let restored = load_deadlines(alloc, folder, "d", "c", &mut again)?;
+    let is_told = (restored.generation == Some(generation)) & (restored.left_out == 0);
+    let is_known = restored.known.is_some();
+    let rows = deadlines::capture_deadlines(alloc, &again)?;
+    Ok(is_told & is_known & are_deadlines_as_put(&rows))
+}
+
+fn deadlines_come_back(alloc: Global) -> Result<bool, Fail> {
+    let mut folder = folder(alloc)?;
+    let cache = filled_deadlines(alloc)?;
+    match save_deadlines_twice(alloc, &mut folder, &cache)? {
+        Some(generation) => are_deadlines_there(alloc, &mut folder, generation),
+        None => Ok(false),
+    }
 }
 
 // Those of two checkpoints in turn: what is loaded second stands in front.
@@ -150,24 +206,49 @@ fn shards_are_their_own<R: Wait>(
     Ok(cache.len(rt) == 3)
 }
 
-fn shared_comes_back<R: Wait>(rt: &R, alloc: Global) -> Result<bool, Fail> {
-    let mut folder = folder(alloc)?;
+fn filled_shared<R: Wait>(rt: &R, alloc: Global) -> Result<SharedCache<u64, u64, 2>, Fail> {
     let cache: SharedCache<u64, u64, 2> = SharedCache::new(alloc, LIMIT, 18)?;
     for (key, weight) in &ROWS {
         cache.put(rt, *key, *key ^ 100, *weight, |_gone| {})?;
     }
-    let first = save_shared(rt, alloc, &mut folder, "d", "c", &cache)?;
+    Ok(cache)
+}
+
+fn save_shared_twice<R: Wait>(
+    rt: &R,
+    alloc: Global,
+    folder: &mut MemoryFolder,
+    cache: &SharedCache<u64, u64, 2>,
+) -> Result<Option<u64>, Fail> {
+    let first = save_shared(rt, alloc, folder, "d", "c", cache)?;
     let known = Some(&first.known);
-    let saved = save_shared_after(rt, alloc, &mut folder, "d", "c", &cache, known)?;
+    let saved = save_shared_after(rt, alloc, folder, "d", "c", cache, known)?;
+    Ok(kept_by(&saved, first.generation))
+}
+
+fn is_shared_there<R: Wait>(
+    rt: &R,
+    alloc: Global,
+    folder: &mut MemoryFolder,
+    generation: u64,
+) -> Result<bool, Fail> {
     let again: SharedCache<u64, u64, 2> = SharedCache::new(alloc, LIMIT, 18)?;
-    let restored = load_shared(rt, alloc, &mut folder, "d", "c", &again)?;
-    let mut is_told = (restored.generation == Some(saved.generation)) & (restored.left_out == 0);
-    is_told &= (saved.kept == Some(first.generation)) & restored.known.is_some();
-    Ok(
-        is_told
-            & shards_are_their_own(rt, alloc, &cache)?
-            & shards_are_their_own(rt, alloc, &again)?,
-    )
+    let restored = load_shared(rt, alloc, folder, "d", "c", &again)?;
+    let is_told = (restored.generation == Some(generation)) & (restored.left_out == 0);
+    let is_known = restored.known.is_some();
+    Ok(is_told & is_known & shards_are_their_own(rt, alloc, &again)?)
+}
+
+fn shared_comes_back<R: Wait>(rt: &R, alloc: Global) -> Result<bool, Fail> {
+    let mut folder = folder(alloc)?;
+    let cache = filled_shared(rt, alloc)?;
+    if !shards_are_their_own(rt, alloc, &cache)? {
+        return Ok(false);
+    }
+    match save_shared_twice(rt, alloc, &mut folder, &cache)? {
+        Some(generation) => is_shared_there(rt, alloc, &mut folder, generation),
+        None => Ok(false),
+    }
 }
 
 #[test]
@@ -176,28 +257,49 @@ fn a_cache_that_threads_share_by_one_call(rt: HostRuntime) -> Result<(), Fail> {
     Ok(())
 }
 
+// Rows of one shard of two, which an order has: none weighs nothing.
+static HEAVIER: [(u64, usize); 3] = [(3, 70_000), (1, 1), (5, 3)];
+
+fn are_as_admitted(rows: &[Row<u64, u64>]) -> bool {
+    (rows.len() == 3)
+        && rows.iter().zip(HEAVIER.iter().rev()).all(|(row, (key, weight))| (row.key == *key)
+            & (row.data == (*key ^ 100))
+            & (row.weight == *weight))
+}
+
+fn filled_core(alloc: Global) -> Result<LruCore<(u64, u64), 2>, Fail> {
+    let mut core: LruCore<(u64, u64), 2> = LruCore::with_capacity(alloc, LIMIT, 4)?;
+    for (key, weight) in &HEAVIER {
+        core.admit(*key, (*key, *key ^ 100), *weight)?;
+    }
+    Ok(core)
+}
+
+fn save_core_twice(
+    alloc: Global,
+    folder: &mut MemoryFolder,
+    core: &LruCore<(u64, u64), 2>,
+) -> Result<Option<u64>, Fail> {
+    let first = save_core(alloc, folder, "d", "c", core)?;
+    let known = Some(&first.known);
+    let saved = save_core_after(alloc, folder, "d", "c", core, known)?;
+    Ok(kept_by(&saved, first.generation))
+}
+
+fn is_core_there(alloc: Global, folder: &mut MemoryFolder, generation: u64) -> Result<bool, Fail> {
+    let mut again: LruCore<(u64, u64), 2> = LruCore::with_capacity(alloc, LIMIT, 4)?;
+    let restored = load_core(alloc, folder, "d", "c", &mut again)?;
+    let is_told = (restored.generation == Some(generation)) & restored.known.is_some();
+    Ok(is_told & are_as_admitted(&cores::capture_shard(alloc, &again, 1)?))
+}
+
 fn core_comes_back(alloc: Global) -> Result<bool, Fail> {
     let mut folder = folder(alloc)?;
-    let mut core: LruCore<(u64, u64), 2> = LruCore::with_capacity(alloc, LIMIT, 4)?;
-    for (key, weight) in [(3u64, 70_000usize), (1, 1), (5, 3)] {
-        core.admit(key, (key, key ^ 100), weight)?;
+    let core = filled_core(alloc)?;
+    match save_core_twice(alloc, &mut folder, &core)? {
+        Some(generation) => is_core_there(alloc, &mut folder, generation),
+        None => Ok(false),
     }
-    let first = save_core(alloc, &mut folder, "d", "c", &core)?;
-    let known = Some(&first.known);
-    let saved = save_core_after(alloc, &mut folder, "d", "c", &core, known)?;
-    let mut again: LruCore<(u64, u64), 2> = LruCore::with_capacity(alloc, LIMIT, 4)?;
-    let restored = load_core(alloc, &mut folder, "d", "c", &mut again)?;
-    let rows = cores::capture_shard(alloc, &again, 1)?;
-    let wanted = [(5u64, 3usize), (1, 1), (3, 70_000)];
-    Ok(
-        (restored.generation == Some(saved.generation))
-            && (saved.kept == Some(first.generation))
-            && restored.known.is_some()
-            && (rows.len() == 3)
-            && rows.iter().zip(wanted.iter()).all(|(row, (key, weight))| (row.key == *key)
-                & (row.data == (*key ^ 100))
-                & (row.weight == *weight)),
-    )
 }
 
 #[test]
@@ -206,28 +308,45 @@ fn a_core_by_one_call(rt: HostRuntime) -> Result<(), Fail> {
     Ok(())
 }
 
+fn filled_lru<R: Wait>(rt: &R, alloc: Global) -> Result<Lru<(u64, u64), 2>, Fail> {
+    let lru: Lru<(u64, u64), 2> = Lru::with_capacity(alloc, LIMIT, 4)?;
+    for (key, weight) in &HEAVIER {
+        lru.admit(rt, *key, (*key, *key ^ 100), *weight)?;
+    }
+    Ok(lru)
+}
+
+fn save_lru_twice<R: Wait>(
+    rt: &R,
+    alloc: Global,
+    folder: &mut MemoryFolder,
+    lru: &Lru<(u64, u64), 2>,
+) -> Result<Option<u64>, Fail> {
+    let first = save_lru(rt, alloc, folder, "d", "c", lru)?;
+    let known = Some(&first.known);
+    let saved = save_lru_after(rt, alloc, folder, "d", "c", lru, known)?;
+    Ok(kept_by(&saved, first.generation))
+}
+
+fn is_lru_there<R: Wait>(
+    rt: &R,
+    alloc: Global,
+    folder: &mut MemoryFolder,
+    generation: u64,
+) -> Result<bool, Fail> {
+    let again: Lru<(u64, u64), 2> = Lru::with_capacity(alloc, LIMIT, 4)?;
+    let restored = load_lru(rt, alloc, folder, "d", "c", &again)?;
+    let is_told = (restored.generation == Some(generation)) & restored.known.is_some();
+    Ok(is_told & are_as_admitted(&locks::capture_shard(rt, alloc, &again, 1)?))
+}
+
 fn lru_comes_back<R: Wait>(rt: &R, alloc: Global) -> Result<bool, Fail> {
     let mut folder = folder(alloc)?;
-    let lru: Lru<(u64, u64), 2> = Lru::with_capacity(alloc, LIMIT, 4)?;
-    for (key, weight) in [(3u64, 70_000usize), (1, 1), (5, 3)] {
-        lru.admit(rt, key, (key, key ^ 100), weight)?;
+    let lru = filled_lru(rt, alloc)?;
+    match save_lru_twice(rt, alloc, &mut folder, &lru)? {
+        Some(generation) => is_lru_there(rt, alloc, &mut folder, generation),
+        None => Ok(false),
     }
-    let first = save_lru(rt, alloc, &mut folder, "d", "c", &lru)?;
-    let known = Some(&first.known);
-    let saved = save_lru_after(rt, alloc, &mut folder, "d", "c", &lru, known)?;
-    let again: Lru<(u64, u64), 2> = Lru::with_capacity(alloc, LIMIT, 4)?;
-    let restored = load_lru(rt, alloc, &mut folder, "d", "c", &again)?;
-    let rows = locks::capture_shard(rt, alloc, &again, 1)?;
-    let wanted = [(5u64, 3usize), (1, 1), (3, 70_000)];
-    Ok(
-        (restored.generation == Some(saved.generation))
-            && (saved.kept == Some(first.generation))
-            && restored.known.is_some()
-            && (rows.len() == 3)
-            && rows.iter().zip(wanted.iter()).all(|(row, (key, weight))| (row.key == *key)
-                & (row.data == (*key ^ 100))
-                & (row.weight == *weight)),
-    )
 }
 
 #[test]

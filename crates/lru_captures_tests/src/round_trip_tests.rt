@@ -1,5 +1,5 @@
 //! Rows captured, saved, loaded and put back.
-ghost use Rattle.std.specs.Prelude.{◌≤◌};
+ghost use Rattle.std.specs.Prelude.{◌<◌, ◌≤◌};
 ghost use Rattle.lru_checkpoints.specs.Checkpoints.{most_shards};
 
 use lru_cache::cache::Cache;
@@ -56,20 +56,31 @@ fn is_as_it_stood(rows: &[Row<u64, String>]) -> bool {
             & (row.weight == *weight))
 }
 
-fn core_comes_back(alloc: Global) -> Result<bool, Fail> {
+// Keys and weights of orders; 3, 1 and 5 are of shard 1 of two.
+static ADMITTED: [(u64, usize); 4] = [(3, 2), (1, 1), (5, 3), (2, 1)];
+
+fn filled_core(alloc: Global) -> Result<LruCore<(u64, String), 2>, Fail> {
     let mut core: LruCore<(u64, String), 2> = LruCore::with_capacity(alloc, 100, 4)?;
-    for (key, weight) in [(3u64, 2usize), (1, 1), (5, 3), (2, 1)] {
-        if core.admit(key, (key, text(alloc, key)?), weight).is_err() {
-            return Ok(false);
-        }
+    for (key, weight) in &ADMITTED {
+        let data = text(alloc, *key)?;
+        core.admit(*key, (*key, data), *weight)?;
     }
-    let shards = saved_and_loaded(alloc, &cores::CoreSource { core: &core })?;
+    Ok(core)
+}
+
+fn is_core_back(alloc: Global, shards: Vec<Vec<Row<u64, String>>>) -> Result<bool, Fail> {
     let mut again: LruCore<(u64, String), 2> = LruCore::with_capacity(alloc, 100, 4)?;
     if cores::restore_shards(&mut again, shards).is_err() {
         return Ok(false);
     }
-    let rows = cores::capture_shard(alloc, &again, 1)?;
-    Ok(is_as_it_stood(&rows) & (again.len() == 4) & (again.weight() == 7))
+    let is_whole = (again.len() == 4) & (again.weight() == 7);
+    Ok(is_whole & is_as_it_stood(&cores::capture_shard(alloc, &again, 1)?))
+}
+
+fn core_comes_back(alloc: Global) -> Result<bool, Fail> {
+    let core = filled_core(alloc)?;
+    let shards = saved_and_loaded(alloc, &cores::CoreSource { core: &core })?;
+    is_core_back(alloc, shards)
 }
 
 #[test]
@@ -78,23 +89,32 @@ fn a_core_comes_back(rt: HostRuntime) -> Result<(), Fail> {
     Ok(())
 }
 
-fn lru_comes_back<R: Wait>(rt: &R, alloc: Global) -> Result<bool, Fail> {
+fn filled_lru<R: Wait>(rt: &R, alloc: Global) -> Result<Lru<(u64, String), 2>, Fail> {
     let lru: Lru<(u64, String), 2> = Lru::with_capacity(alloc, 100, 4)?;
-    for (key, weight) in [(3u64, 2usize), (1, 1), (5, 3), (2, 1)] {
-        if lru
-            .admit(rt, key, (key, text(alloc, key)?), weight)
-            .is_err()
-        {
-            return Ok(false);
-        }
+    for (key, weight) in &ADMITTED {
+        let data = text(alloc, *key)?;
+        lru.admit(rt, *key, (*key, data), *weight)?;
     }
-    let shards = saved_and_loaded(alloc, &locks::LruSource { rt, lru: &lru })?;
+    Ok(lru)
+}
+
+fn is_lru_back<R: Wait>(
+    rt: &R,
+    alloc: Global,
+    shards: Vec<Vec<Row<u64, String>>>,
+) -> Result<bool, Fail> {
     let again: Lru<(u64, String), 2> = Lru::with_capacity(alloc, 100, 4)?;
     if locks::restore_shards(rt, &again, shards).is_err() {
         return Ok(false);
     }
-    let rows = locks::capture_shard(rt, alloc, &again, 1)?;
-    Ok(is_as_it_stood(&rows) & (again.len() == 4) & (again.weight() == 7))
+    let is_whole = (again.len() == 4) & (again.weight() == 7);
+    Ok(is_whole & is_as_it_stood(&locks::capture_shard(rt, alloc, &again, 1)?))
+}
+
+fn lru_comes_back<R: Wait>(rt: &R, alloc: Global) -> Result<bool, Fail> {
+    let lru = filled_lru(rt, alloc)?;
+    let shards = saved_and_loaded(alloc, &locks::LruSource { rt, lru: &lru })?;
+    is_lru_back(rt, alloc, shards)
 }
 
 #[test]
@@ -103,28 +123,44 @@ fn an_order_that_threads_share_comes_back(rt: HostRuntime) -> Result<(), Fail> {
     Ok(())
 }
 
-fn cache_comes_back(alloc: Global) -> Result<bool, Fail> {
+fn filled_cache(alloc: Global) -> Result<Cache<u64, String>, Fail> {
     let mut cache: Cache<u64, String> = Cache::new(alloc, 100, 100)?;
     for (key, weight) in [(3u64, 2usize), (1, 1), (5, 3)] {
-        if cache
-            .put(key, text(alloc, key)?, weight, |_gone| {})
-            .is_err()
-        {
-            return Ok(false);
-        }
+        cache.put(key, text(alloc, key)?, weight, |_gone| {})?;
     }
-    let source = caches::CacheSource { cache: &cache };
-    // under a limit of 4 the last of the three goes
-    let mut again: Cache<u64, String> = Cache::new(alloc, 100, 100)?;
-    let mut small: Cache<u64, String> = Cache::new(alloc, 4, 100)?;
-    if caches::restore_shards(&mut again, saved_and_loaded(alloc, &source)?).is_err() {
-        return Ok(false);
+    Ok(cache)
+}
+
+// Puts what was saved of a cache into an empty one of this limit, if all of it is taken.
+fn put_back(
+    alloc: Global,
+    cache: &Cache<u64, String>,
+    most_weight: usize,
+) -> Result<Option<Cache<u64, String>>, Fail> {
+    let shards = saved_and_loaded(alloc, &caches::CacheSource { cache })?;
+    let mut again: Cache<u64, String> = Cache::new(alloc, most_weight, 100)?;
+    Ok(
+        caches::restore_shards(&mut again, shards)
+            .is_ok()
+            .then_some(again),
+    )
+}
+
+fn cache_comes_back(alloc: Global) -> Result<bool, Fail> {
+    let cache = filled_cache(alloc)?;
+    match put_back(alloc, &cache, 100)? {
+        Some(again) => Ok(is_as_it_stood(&caches::capture_cache(alloc, &again)?)),
+        None => Ok(false),
     }
-    if caches::restore_shards(&mut small, saved_and_loaded(alloc, &source)?).is_err() {
-        return Ok(false);
+}
+
+// Under a limit of 4 the last of the three goes.
+fn last_goes(alloc: Global) -> Result<bool, Fail> {
+    let cache = filled_cache(alloc)?;
+    match put_back(alloc, &cache, 4)? {
+        Some(small) => Ok((small.len() == 2) & (small.weight() == 4) & !small.contains(&3)),
+        None => Ok(false),
     }
-    let rows = caches::capture_cache(alloc, &again)?;
-    Ok(is_as_it_stood(&rows) & (small.len() == 2) & (small.weight() == 4) & !small.contains(&3))
 }
 
 // One entry weighs 3, the others less.
@@ -164,7 +200,7 @@ fn an_entry_that_is_too_heavy_is_left_out(rt: HostRuntime) -> Result<(), Fail> {
 
 #[test]
 fn a_cache_comes_back(rt: HostRuntime) -> Result<(), Fail> {
-    assert!(rt; cache_comes_back(rt.alloc())?);
+    assert!(rt; cache_comes_back(rt.alloc())? & last_goes(rt.alloc())?);
     Ok(())
 }
 
@@ -176,29 +212,46 @@ fn are_alike(one: &[Row<u64, String>], other: &[Row<u64, String>]) -> bool {
             & (row.weight == back.weight))
 }
 
-fn shared_comes_back<R: Wait>(rt: &R, alloc: Global) -> Result<bool, Fail> {
+fn filled_shared<R: Wait>(rt: &R, alloc: Global) -> Result<SharedCache<u64, String, 2>, Fail> {
     let cache: SharedCache<u64, String, 2> = SharedCache::new(alloc, 200, 200)?;
-    for (key, weight) in [(3u64, 2usize), (1, 1), (5, 3), (2, 1)] {
-        if cache
-            .put(rt, key, text(alloc, key)?, weight, |_gone| {})
-            .is_err()
-        {
-            return Ok(false);
-        }
+    for (key, weight) in &ADMITTED {
+        let data = text(alloc, *key)?;
+        cache.put(rt, *key, data, *weight, |_gone| {})?;
     }
-    let shards = saved_and_loaded(alloc, &shared::SharedSource { rt, cache: &cache })?;
-    let (one, other) = (
-        shared::capture_shard(rt, alloc, &cache, 0)?,
-        shared::capture_shard(rt, alloc, &cache, 1)?,
-    );
+    Ok(cache)
+}
+
+// Whether a shard of one cache holds what the same shard of the other does.
+fn is_shard_alike<R: Wait>(
+    rt: &R,
+    alloc: Global,
+    one: &SharedCache<u64, String, 2>,
+    other: &SharedCache<u64, String, 2>,
+    shard: usize,
+) -> Result<bool, Fail>
+    requires { shard < 2 }
+{
+    let rows = shared::capture_shard(rt, alloc, one, shard)?;
+    Ok(are_alike(&rows, &shared::capture_shard(rt, alloc, other, shard)?))
+}
+
+fn is_shared_back<R: Wait>(
+    rt: &R,
+    alloc: Global,
+    cache: &SharedCache<u64, String, 2>,
+    shards: Vec<Vec<Row<u64, String>>>,
+) -> Result<bool, Fail> {
     let again: SharedCache<u64, String, 2> = SharedCache::new(alloc, 200, 200)?;
     let is_whole = shared::restore_shards(rt, &again, shards).is_ok();
-    let (first, second) = (
-        shared::capture_shard(rt, alloc, &again, 0)?,
-        shared::capture_shard(rt, alloc, &again, 1)?,
-    );
-    let is_same = are_alike(&one, &first) & are_alike(&other, &second);
-    Ok(is_whole & is_same & (again.len(rt) == 4) & (again.weight(rt) == 7))
+    let is_told = is_whole & (again.len(rt) == 4) & (again.weight(rt) == 7);
+    let is_first = is_shard_alike(rt, alloc, cache, &again, 0)?;
+    Ok(is_told & is_first & is_shard_alike(rt, alloc, cache, &again, 1)?)
+}
+
+fn shared_comes_back<R: Wait>(rt: &R, alloc: Global) -> Result<bool, Fail> {
+    let cache = filled_shared(rt, alloc)?;
+    let shards = saved_and_loaded(alloc, &shared::SharedSource { rt, cache: &cache })?;
+    is_shared_back(rt, alloc, &cache, shards)
 }
 
 #[test]
