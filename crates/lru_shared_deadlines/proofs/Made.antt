@@ -1,0 +1,69 @@
+-- What follows where a value was made, whichever shard it was for, and however the shards are seen.
+use Rattle.std.proofs.Common.{◌≡◌, ℕ, Some, None, Ok, Err, inl, inr, refl, sym, ap, subst}
+use Rattle.std.specs.Prelude.{Option, Bool, Result, IfErr}
+use Rattle.lru_cache.specs.declared.cache.Refused.{Refused}
+use Rattle.lru_shared.specs.declared.calls.NotGot.{NotGot}
+use Rattle.lru_shared.specs.declared.calls.NotGot.TheVariants.{Memory, Unmade, Refused as Unput}
+use Rattle.lru_shared.specs.Shards.{MayDo}
+use Rattle.lru_shared.specs.Answers.{HandsBack}
+use Rattle.lru_deadlines.specs.declared.deadlines.Until.{Until}
+use Rattle.lru_shared_deadlines.specs.declared.ages.Aged.{Aged}
+use Rattle.lru_shared_deadlines.specs.declared.ages.Moment.{Moment}
+use Rattle.lru_shared_deadlines.specs.Calls.{ShardOf, Ends, RefusesMade, EndsMaking, Answers, GetsOrPuts}
+
+-- what is handed back of a value that was made is so, whichever shard it was
+module _ {K V E F : Type 0} (S T : Type 0) (eq : K → K → Bool) (clones : V → V → Type 0) (Makes : Result (V × ℕ) E → Type 0) (Step : F → Ends K V → F → Type 0) (visit : F) (m : Moment) (key : K) where
+  abbrev may_do : T → (ShardOf K V S → ShardOf K V S → Type 0) → T → Type 0
+  may_do old P new = MayDo P
+
+  unput : (made : V × ℕ) → Makes (Ok made) → (r : Refused K V) (before after : ShardOf K V S) → RefusesMade eq clones Makes Step visit may_do m key made r before after → HandsBack Makes key (Unput r)
+  unput made may r before after (inl (none, (mid, (room, (seen, (puts, counted)))))) = (puts.1.0, (made.1, subst (λ v. Makes (Ok (v, made.1))) (sym (ap (λ (u : Until (Aged V)). u.value.value) puts.1.1.0)) may))
+  unput made may r before after (inr lost) = (lost.1.0, (made.1, subst (λ v. Makes (Ok (v, made.1))) (sym lost.1.1.0) may))
+
+  ended : (mid new : T) (made : Result (V × ℕ) E) → Makes made → (n : NotGot K V E) → EndsMaking eq clones Makes Step visit may_do m key mid made (Err n) new → HandsBack Makes key n
+  ended mid new (Ok made) may (Memory k) ends = absurd ends
+  ended mid new (Ok made) may (Unmade k e) ends = absurd ends
+  ended mid new (Ok made) may (Unput r) ends = unput made may r ends.0 ends.1.0 ends.1.1
+  ended mid new (Err error) may (Memory k) ends = absurd ends
+  ended mid new (Err error) may (Unmade k e) ends = (ends.0, subst (λ x. Makes (Err x)) (sym ends.1.0) may)
+  ended mid new (Err error) may (Unput r) ends = absurd ends
+
+  answered : (n : NotGot K V E) (before after : ShardOf K V S) → Answers eq clones Makes Step visit may_do m key (Err n) before after → HandsBack Makes key n
+  answered (Memory k) before after a = a.0
+  answered (Unmade k e) before after a = absurd a
+  answered (Unput r) before after a = absurd a
+
+  refused_back : (old new : T) (n : NotGot K V E) → GetsOrPuts eq clones Makes Step visit may_do m key old (Err n) new → HandsBack Makes key n
+  refused_back old new n (inl here) = answered n here.0 here.1.0 here.1.1
+  refused_back old new n (inr (mid, (none, (made, (may, ends))))) = ended mid new made may n ends
+
+  pub hands_back : (old new : T) (result : Result V (NotGot K V E)) → GetsOrPuts eq clones Makes Step visit may_do m key old result new → IfErr result (HandsBack Makes key)
+  hands_back old new (Ok v) gets = tt
+  hands_back old new (Err n) gets = refused_back old new n gets
+
+-- what is known of all shards is known of what they are seen as
+module _ {K V S E F T U : Type 0} (eq : K → K → Bool) (clones : V → V → Type 0) (Makes : Result (V × ℕ) E → Type 0) (Step : F → Ends K V → F → Type 0) (visit : F) (m : Moment) (key : K)
+    (seen : T → U) (does : U → (ShardOf K V S → ShardOf K V S → Type 0) → U → Type 0) where
+  abbrev seen_does : T → (ShardOf K V S → ShardOf K V S → Type 0) → T → Type 0
+  seen_does old P new = does (seen old) P (seen new)
+
+  ends_seen : (mid new : T) (made : Result (V × ℕ) E) (answer : Result V (NotGot K V E)) → EndsMaking eq clones Makes Step visit seen_does m key mid made answer new → EndsMaking eq clones Makes Step visit does m key (seen mid) made answer (seen new)
+  ends_seen mid new (Ok made) (Ok v) ends = ends
+  ends_seen mid new (Ok made) (Err (Unput r)) ends = ends
+  ends_seen mid new (Ok made) (Err (Unmade k e)) ends = ends
+  ends_seen mid new (Ok made) (Err (Memory k)) ends = ends
+  ends_seen mid new (Err error) (Ok v) ends = ends
+  ends_seen mid new (Err error) (Err (Unput r)) ends = ends
+  ends_seen mid new (Err error) (Err (Unmade k e)) ends = ends
+  ends_seen mid new (Err error) (Err (Memory k)) ends = ends
+
+  here_seen : (answer : Result V (NotGot K V E)) (before after : ShardOf K V S) → Answers eq clones Makes Step visit seen_does m key answer before after → Answers eq clones Makes Step visit does m key answer before after
+  here_seen (Ok v) before after a = a
+  here_seen (Err (Memory k)) before after a = a
+  here_seen (Err (Unmade k e)) before after a = a
+  here_seen (Err (Unput r)) before after a = a
+
+  pub gets_seen : ((P Q : ShardOf K V S → ShardOf K V S → Type 0) → ((a b : ShardOf K V S) → P a b → Q a b) → (s t : U) → does s P t → does s Q t)
+      → (old new : T) (answer : Result V (NotGot K V E)) → GetsOrPuts eq clones Makes Step visit seen_does m key old answer new → GetsOrPuts eq clones Makes Step visit does m key (seen old) answer (seen new)
+  gets_seen more old new answer (inl here) = inl (more _ _ (here_seen answer) (seen old) (seen new) here)
+  gets_seen more old new answer (inr (mid, (none, (made, (may, ends))))) = inr (seen mid, (none, (made, (may, ends_seen mid new made answer ends))))
