@@ -16,6 +16,8 @@ use lru_index::alike::SameHashes;
 use lru_index::hashing::SeededHashes;
 use lru_index::keys::Query;
 use std::alloc::{AllocError, Global};
+use std::fmt;
+use std::fmt::{Debug, Formatter};
 use std::hash::{BuildHasher, Hash};
 use std::marker::Model;
 
@@ -40,6 +42,15 @@ impl<K: Hash, V, const N: usize, S: BuildHasher> Model for ShardedCache<K, V, N,
     ghost view = { λ c. sharded c.shards.shards.items c.hash_builder };
 
     ghost invariant = { λ c. AreSome N c.shards.shards.items };
+}
+
+/// Tells how many shards there are.
+impl<K: Hash, V, const N: usize, S: BuildHasher> Debug for ShardedCache<K, V, N, S> {
+    fn fmt<W: fmt::Write>(&self, f: &mut Formatter<W>) -> fmt::Result {
+        f.debug_struct("ShardedCache")
+            .field("shards", &N)
+            .finish_non_exhaustive()
+    }
 }
 
 // Caches without entries, one for each shard, each under its part of the limits.

@@ -13,6 +13,8 @@ use lru_index::alike::SameHashes;
 use lru_index::hashing::SeededHashes;
 use lru_index::keys::Query;
 use std::alloc::{AllocError, Global};
+use std::fmt;
+use std::fmt::{Debug, Formatter};
 use std::hash::{BuildHasher, Hash};
 use std::sync::Wait;
 
@@ -48,6 +50,15 @@ pub struct SharedCache<K: Hash, V, const N: usize, S: BuildHasher = SeededHashes
     hash_builder: S,
     ghost some: { 0 < N },
     ghost has_shards: { vec_len shards ≡ N },
+}
+
+/// Tells how many shards there are. What they have is read under their locks, so it is not told here.
+impl<K: Hash, V, const N: usize, S: BuildHasher> Debug for SharedCache<K, V, N, S> {
+    fn fmt<W: fmt::Write>(&self, f: &mut Formatter<W>) -> fmt::Result {
+        f.debug_struct("SharedCache")
+            .field("shards", &N)
+            .finish_non_exhaustive()
+    }
 }
 
 impl<K: Hash + Drop, V: Drop, const N: usize> SharedCache<K, V, N, SeededHashes> {

@@ -23,6 +23,8 @@ pub use lru_shared::limits::Limits;
 use lru_shared::shards::Owned;
 use lru_shared::shared::NotGot;
 use std::alloc::{AllocError, Global};
+use std::fmt;
+use std::fmt::{Debug, Formatter};
 use std::hash::{BuildHasher, Hash};
 use std::marker::Model;
 
@@ -51,6 +53,16 @@ impl<K: Hash, V, const N: usize, S: BuildHasher> Model for ShardedDeadlineCache<
     ghost view = { λ c. sharded c.shards.shards.items c.hash_builder c.ages c.turn };
 
     ghost invariant = { λ c. AreInTurn N c.shards.shards.items c.turn };
+}
+
+/// Tells how many shards there are, and how long entries are answered.
+impl<K: Hash, V, const N: usize, S: BuildHasher> Debug for ShardedDeadlineCache<K, V, N, S> {
+    fn fmt<W: fmt::Write>(&self, f: &mut Formatter<W>) -> fmt::Result {
+        f.debug_struct("ShardedDeadlineCache")
+            .field("shards", &N)
+            .field("ages", &self.ages)
+            .finish_non_exhaustive()
+    }
 }
 
 // Shards without entries, each under its part of the limits.

@@ -1,8 +1,9 @@
 //! A cache that threads share, whose entries end.
 ghost use Rattle.std.specs.Prelude.{◌≡◌, ◌<◌, length, vec_len, IfErr, IfSome};
 ghost use Rattle.lru_shared.specs.Answers.{HandsBack, MayShow};
+ghost use Rattle.lru_shared_deadlines.specs.Ages.{moment};
 ghost use Rattle.lru_shared_deadlines.specs.Calls.{Lends, Gets, Takes, SweepsShard, ClearsShard, PutsIn};
-ghost use Rattle.lru_shared_deadlines.specs.Answers.{MayAct, MayChange};
+ghost use Rattle.lru_shared_deadlines.specs.Answers.{MayAct, MayChange, MayGetOrPut};
 
 use crate::ages::Moment;
 pub use crate::ages::{Aged, Ages, Gone};
@@ -20,6 +21,8 @@ pub use lru_shared::limits::Limits;
 use lru_shared::locked::{Locked, behind_locks};
 pub use lru_shared::shared::NotGot;
 use std::alloc::{AllocError, Global};
+use std::fmt;
+use std::fmt::{Debug, Formatter};
 use std::hash::{BuildHasher, Hash};
 use std::sync::Wait;
 use std::sync::atomic::{AtomicUsize, Ordering};
@@ -45,6 +48,17 @@ pub struct SharedDeadlineCache<K: Hash, V, const N: usize, S: BuildHasher = Seed
     turn: AtomicUsize,
     ghost some: { 0 < N },
     ghost has_shards: { vec_len shards ≡ N },
+}
+
+/// Tells how many shards there are, and how long entries are answered. What the shards have is read under their locks, so it is
+/// not told here.
+impl<K: Hash, V, const N: usize, S: BuildHasher> Debug for SharedDeadlineCache<K, V, N, S> {
+    fn fmt<W: fmt::Write>(&self, f: &mut Formatter<W>) -> fmt::Result {
+        f.debug_struct("SharedDeadlineCache")
+            .field("shards", &N)
+            .field("ages", &self.ages)
+            .finish_non_exhaustive()
+    }
 }
 
 impl<K: Hash + Drop, V: Drop, const N: usize> SharedDeadlineCache<K, V, N, SeededHashes> {
@@ -120,6 +134,14 @@ impl<K: Hash, V, const N: usize, S: BuildHasher> SharedDeadlineCache<K, V, N, S>
     /// How long entries are answered.
     pub fn ages(&self) -> Ages {
         self.ages
+    }
+
+    // A time, under these ages.
+    fn at(&self, time: u64) -> Moment
+        ensures { result ≡ moment time self.now.ages }
+    {
+        let ages = self.ages;
+        Moment { time, ages }
     }
 
     // The shards behind their locks, for which a call waits.
@@ -223,8 +245,7 @@ impl<K: Hash, V, const N: usize, S: BuildHasher + SameHashes> SharedDeadlineCach
         V: Clone,
         ensures { MayAct K V S time (λ m before after. Gets Q.stands_for V.is_clone m before query result after) }
     {
-        let ages = self.ages;
-        let moment = Moment { time, ages };
+        let moment = self.at(time);
         calls::get(&mut self.locked(rt), &self.hash_builder, moment, query)
     }
 
@@ -240,8 +261,7 @@ impl<K: Hash, V, const N: usize, S: BuildHasher + SameHashes> SharedDeadlineCach
         requires { F.IsAlwaysCallable show }
         ensures { MayAct K V S time (λ m before after. Lends Q.stands_for (F.post show) m before query result after) }
     {
-        let ages = self.ages;
-        let moment = Moment { time, ages };
+        let moment = self.at(time);
         calls::lend(
             &mut self.locked(rt),
             &self.hash_builder,
@@ -278,8 +298,7 @@ impl<K: Hash + Drop, V: Drop, const N: usize, S: BuildHasher + SameHashes> Share
         requires visit { (f : _) (x : _) → F.pre f x }
         ensures { MayAct K V S time (λ m before after. PutsIn (λ p x q. F.step p x tt q) visit K.eq m before key value weight result after) }
     {
-        let ages = self.ages;
-        let moment = Moment { time, ages };
+        let moment = self.at(time);
         calls::put(
             &mut self.locked(rt),
             &self.hash_builder,
@@ -325,10 +344,10 @@ impl<K: Hash + Drop, V: Drop, const N: usize, S: BuildHasher + SameHashes> Share
         F: FnMut(Gone<K, V>) + Drop,
         requires make { M.IsAlwaysCallable make }
         requires visit { (f : _) (x : _) → F.pre f x }
-        ensures { IfErr result (HandsBack (M.post make) key) }
+        ensures gets { MayGetOrPut S K.eq V.is_clone (M.post make) (λ p x q. F.step p x tt q) visit time key result }
+        ensures refused { IfErr result (HandsBack (M.post make) key) }
     {
-        let ages = self.ages;
-        let moment = Moment { time, ages };
+        let moment = self.at(time);
         calls::get_or_put_with(
             &mut self.locked(rt),
             &self.hash_builder,
