@@ -1,15 +1,26 @@
 -- What follows where a value was made, whichever shard it was for, and however the shards are seen.
 use Rattle.std.proofs.Common.{◌≡◌, ℕ, Some, None, Ok, Err, inl, inr, refl, sym, ap, subst}
-use Rattle.std.specs.Prelude.{Option, Bool, Result, IfErr}
+use Rattle.std.specs.Prelude.{◌⊎◌, Option, Bool, Result, IfErr}
+use Rattle.std.specs.Borrow.{MutBor}
 use Rattle.lru_cache.specs.declared.cache.Refused.{Refused}
 use Rattle.lru_shared.specs.declared.calls.NotGot.{NotGot}
 use Rattle.lru_shared.specs.declared.calls.NotGot.TheVariants.{Memory, Unmade, Refused as Unput}
-use Rattle.lru_shared.specs.Shards.{MayDo}
+use Rattle.lru_shared.specs.Shards.{MayDo, Acts, Begins}
 use Rattle.lru_shared.specs.Answers.{HandsBack}
 use Rattle.lru_deadlines.specs.declared.deadlines.Until.{Until}
 use Rattle.lru_shared_deadlines.specs.declared.ages.Aged.{Aged}
 use Rattle.lru_shared_deadlines.specs.declared.ages.Moment.{Moment}
 use Rattle.lru_shared_deadlines.specs.Calls.{ShardOf, Ends, RefusesMade, EndsMaking, Answers, GetsOrPuts}
+
+-- what a closure that was lent a shard does is done to that
+acted : {S R : Type 0} (post : MutBor S → R → MutBor S → Type 0) (P : R → S → S → Type 0) → ((lent : MutBor S) (r : R) (left : MutBor S) → post lent r left → P r lent.now left.now) → (r : R) (a b : S) → Acts post r a b → P r a b
+acted post P each r a b acts = subst (λ y. P r a y) acts.leaves (subst (λ x. P r x acts.left.now) acts.shows (each acts.lent r acts.left acts.called))
+
+-- where a look-up tells an error, that is what it did; or it found none, and there was no memory for the note
+pub begun_err : {S V E : Type 0} (post : MutBor S → Result (Option V) E → MutBor S → Type 0) (P : Result (Option V) E → S → S → Type 0) → ((lent : MutBor S) (r : Result (Option V) E) (left : MutBor S) → post lent r left → P r lent.now left.now)
+    → (result : Result (Option V) E) (does : (S → S → Type 0) → Type 0) → ((A B : S → S → Type 0) → ((a b : S) → A a b → B a b) → does A → does B) → does (Begins post result) → IfErr result (λ e. does (λ a b. P (Err e) a b ⊎ P (Ok None) a b))
+begun_err post P each (Ok found) does more h = tt
+begun_err post P each (Err e) does more h = more (Begins post (Err e)) (λ a b. P (Err e) a b ⊎ P (Ok None) a b) (λ a b begins. elim begins [ inl acts ↦ inl (acted post P each (Err e) a b acts) | inr acts ↦ inr (acted post P each (Ok None) a b acts) ]) h
 
 -- what is handed back of a value that was made is so, whichever shard it was
 module _ {K V E F : Type 0} (S T : Type 0) (eq : K → K → Bool) (clones : V → V → Type 0) (Makes : Result (V × ℕ) E → Type 0) (Step : F → Ends K V → F → Type 0) (visit : F) (m : Moment) (key : K) where

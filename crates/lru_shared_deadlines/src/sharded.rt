@@ -292,10 +292,13 @@ impl<K: Hash + Drop, V: Drop, const N: usize, S: BuildHasher + SameHashes> Shard
     N,
     S,
 > {
-    /// Puts an entry first in the shard of its key, in place of its key's, and answers that one, also where it was past. Where
-    /// the shard has no room for it beside all that are there, those of its 4 entries that were used longest ago that are past
-    /// go first; then those that were used longest ago, as many as have to for the others to be within the shard's part of the
-    /// limits. Each is handed to `visit`.
+    /// Puts an entry first in the shard of its key, in place of its key's, and answers that one, also where it was past. Each
+    /// that goes for it is handed to `visit`.
+    ///
+    /// Where the shard has no room for it beside all that are there, the 4 entries that were used longest ago are looked at, in
+    /// a time that doesn't grow with the entries, and those of them that are past go first, the key's own among them, which
+    /// is not answered then. Then those go that were used longest ago, as many as have to for the others to be within the
+    /// shard's part of the limits. So what is past goes before what lives, as far as it is looked for.
     ///
     /// # Errors
     ///
