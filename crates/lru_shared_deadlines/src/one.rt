@@ -97,8 +97,7 @@ where
         own,
         |until: &mut Until<Aged<V>>, weight: usize|
             requires { F.IsAlwaysCallable show }
-            ensures value { Updates (F.post show) until.old.value.value weight result until.new.value.value }
-            ensures ends { until.new ≡ kept_until moment until.new.value.value until.old.value.ends }
+            ensures { Updates (F.post show) until.old.value.value weight result until.new.value.value × (until.new ≡ kept_until moment until.new.value.value until.old.value.ends) }
         { use_at(until, weight, moment, show) },
     );
     shard.counts.look(answer.is_some());

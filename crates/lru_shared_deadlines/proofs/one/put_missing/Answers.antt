@@ -1,4 +1,4 @@
-use Rattle.std.proofs.Common.{rules, sym, subst, ◌∙◌, inr, Ok, None, Some}
+use Rattle.std.proofs.Common.{rules, sym, subst, ◌∙◌, inr, Ok, Err, None, Some}
 use denote.Param.Always.{mut_total}
 use Rattle.lru_shared_deadlines.specs.Calls.{PutsIn}
 use Rattle.lru_shared_deadlines.proofs.Shown.{puts_at}
@@ -28,4 +28,10 @@ returns-in-Ok-None g c = inr (
       tt,
     ),
   ),
+)
+
+pub returns : goal.returns
+returns g c = (
+  sym c.contains.ensures ∙ c.if-contains.false,
+  puts_at _ _ g.K.PartialEq.eq c.args.moment c.args.shard.now c.args.key c.args.value c.args.weight (Err c.in-Err.refused) c.put-told.new.shard c.in-Err.ensures (λ p e q. goal.F-step g p e tt q) (λ s. s.0.now) (λ p e q called. let h = called.met in search rules),
 )
