@@ -17,4 +17,4 @@ MayChange K V S P = MayDo P
 
 -- a value was got of some shard, at a time, under some ages; or one was made, and put into one
 abbrev pub MayGetOrPut : {K V E F : Type 0} (S : Type 0) → (K → K → Bool) → (V → V → Type 0) → (Result (V × ℕ) E → Type 0) → (F → Ends K V → F → Type 0) → F → ℕ → K → Result V (NotGot K V E) → Type 0
-MayGetOrPut {K} {V} {E} {F} S eq clones Makes Step visit time key answer = (ages : Ages) × GetsOrPuts {K} {V} {S} {E} {F} {Unit {0}} eq clones Makes Step visit (λ old P new. MayDo P) (moment time ages) key tt answer tt
+MayGetOrPut {K} {V} {E} {F} S eq clones Makes Step visit time key answer = (ages : Ages) × GetsOrPuts {S = S} {T = Unit {0}} eq clones Makes Step visit (λ old P new. MayDo P) (moment time ages) key tt answer tt
