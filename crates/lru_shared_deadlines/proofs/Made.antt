@@ -1,5 +1,5 @@
 -- What follows where a value was made, whichever shard it was for, and however the shards are seen.
-use Rattle.std.proofs.Common.{◌≡◌, ℕ, Some, None, Ok, Err, inl, inr, refl, sym, ap, subst}
+use Rattle.std.proofs.Common.{ℕ, None, Ok, Err, inl, inr, sym, ap, subst}
 use Rattle.std.specs.Prelude.{◌⊎◌, Option, Bool, Result, IfErr}
 use Rattle.std.specs.Borrow.{MutBor}
 use Rattle.lru_cache.specs.declared.cache.Refused.{Refused}

@@ -1,25 +1,23 @@
 -- What a shard's answers follow from.
-use Rattle.std.proofs.Common.{◌≡◌, ℕ, List, [], ◌∷◌, Some, None, Ok, Err, inl, inr, refl, sym, ap, ◌∙◌, subst, true, false}
-use Rattle.std.specs.Prelude.{Bool, Option, Result, IfOk, IfSome, is_some, reverse}
+use Rattle.std.proofs.Common.{◌≡◌, ℕ, List, ◌∷◌, Some, None, Ok, Err, refl, sym, ap, ◌∙◌, subst}
+use Rattle.std.specs.Prelude.{Bool, Option, Result, IfOk, IfSome, is_some}
 use Rattle.std.specs.Option.{option_map, option_map_or}
 use Rattle.std.specs.Borrow.{Bor, MutBor}
-use Rattle.std.specs.List.{FoldsTo}
 use Rattle.std.specs.declared.alloc.AllocError.{AllocError}
 use Rattle.std.proofs.lemmas.Bool.{false≢true}
 use Rattle.lru_rows.specs.Rows.{Updates}
-use Rattle.lru_entries.specs.declared.entry.Entry.{Entry}
 use Rattle.lru_entries.specs.Entries.{entry}
 use Rattle.lru_cache.specs.declared.cache.Refused.{Refused}
 use Rattle.lru_cache.specs.Cache.{Cached, without, with_entries, Puts}
 use Rattle.lru_deadlines.specs.declared.deadlines.Until.{Until}
-use Rattle.lru_deadlines.specs.Deadlines.{living, UpdatesIfLiving}
+use Rattle.lru_deadlines.specs.Deadlines.{UpdatesIfLiving}
 use Rattle.lru_deadlines.proofs.Living.{folds_from}
 use Rattle.lru_shared.specs.Counts.{looked}
 use Rattle.lru_shared.specs.Answers.{MayShow}
 use Rattle.lru_shared_deadlines.specs.declared.ages.Aged.{Aged}
 use Rattle.lru_shared_deadlines.specs.declared.ages.Moment.{Moment}
 use Rattle.lru_shared_deadlines.specs.Ages.{kept_until, begun}
-use Rattle.lru_shared_deadlines.specs.Calls.{ShardOf, Ends, ShowsLiving, Hits, Lends, Gets, as_begun, MakesShardRoom, Places, PutsIn}
+use Rattle.lru_shared_deadlines.specs.Calls.{ShardOf, Ends, ShowsLiving, Hits, Lends, as_begun, MakesShardRoom, Places, PutsIn}
 
 module _ {K V : Type 0} where
   -- the entry whose value was lent

@@ -1,8 +1,6 @@
 -- How a value that ends, and counts, are told apart from others.
 use Rattle.std.specs.Prelude.{ℕ, refl}
 use Rattle.std.specs.Coded.{Coded, code_by, coded×, coded_ℕ}
-use Rattle.lru_shared.specs.declared.counts.Left.{Left}
-use Rattle.lru_shared.specs.declared.counts.Counts.{Counts}
 use Rattle.lru_shared_deadlines.specs.declared.ages.Aged.{Aged}
 use Rattle.lru_shared_deadlines.specs.declared.ages.Ages.{Ages}
 

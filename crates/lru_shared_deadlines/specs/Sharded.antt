@@ -1,15 +1,12 @@
 -- Caches whose entries end, of one owner, each a shard of one.
-use Rattle.std.specs.Prelude.{◌≡◌, ℕ, ◌+◌, ◌<◌, ◌%◌, List, length, replicate, refl}
+use Rattle.std.specs.Prelude.{◌≡◌, ℕ, ◌<◌, List, length, replicate, refl}
 use Rattle.std.specs.List.{fold}
 use Rattle.std.specs.Coded.{Coded, code_by, coded×, coded_ℕ, coded_list}
-use Rattle.lru_cache.specs.Cache.{Cached, cached_code, empty}
-use Rattle.lru_deadlines.specs.declared.deadlines.Until.{Until}
+use Rattle.lru_cache.specs.Cache.{cached_code, empty}
 use Rattle.lru_deadlines.specs.Codes.{until_code}
 use Rattle.lru_shared.specs.declared.counts.Counts.{Counts}
-use Rattle.lru_shared.specs.declared.counts.Counted.{Counted}
 use Rattle.lru_shared.specs.Counts.{no_counts, both_counts}
 use Rattle.lru_shared.specs.CountCodes.{counted_code}
-use Rattle.lru_shared_deadlines.specs.declared.ages.Aged.{Aged}
 use Rattle.lru_shared_deadlines.specs.declared.ages.Ages.{Ages}
 use Rattle.lru_shared_deadlines.specs.Codes.{aged_code, ages_code}
 use Rattle.lru_shared_deadlines.specs.Calls.{ShardOf}

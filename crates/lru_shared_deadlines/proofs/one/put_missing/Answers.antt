@@ -1,5 +1,4 @@
 use Rattle.std.proofs.Common.{rules, sym, subst, ◌∙◌, inr, Ok, Err, None, Some}
-use denote.Param.Always.{mut_total}
 use Rattle.lru_shared_deadlines.specs.Calls.{PutsIn}
 use Rattle.lru_shared_deadlines.proofs.Shown.{puts_at}
 use Rattle.lru_shared_deadlines.proofs.one.put_missing.Goals as goal

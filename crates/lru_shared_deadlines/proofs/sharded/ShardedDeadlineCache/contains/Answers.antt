@@ -1,4 +1,4 @@
-use Rattle.std.proofs.Common.{◌≡◌, length, is_some, subst}
+use Rattle.std.proofs.Common.{◌≡◌, is_some, subst}
 use Rattle.lru_index.specs.Hashing.{key_hash}
 use Rattle.lru_shared.specs.Shards.{home, Sees}
 use Rattle.lru_deadlines.specs.Deadlines.{living}

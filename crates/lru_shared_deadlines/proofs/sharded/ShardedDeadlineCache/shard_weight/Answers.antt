@@ -1,4 +1,4 @@
-use Rattle.std.proofs.Common.{◌≡◌, length, is_some, subst}
+use Rattle.std.proofs.Common.{◌≡◌, subst}
 use Rattle.lru_shared.specs.Shards.{Sees}
 use Rattle.lru_entries.specs.Entries.{weight_of}
 use Rattle.lru_shared_deadlines.proofs.sharded.ShardedDeadlineCache.shard_weight.Goals as goal
