@@ -17,13 +17,13 @@ fn are_shown(alloc: Global) -> Result<bool, AllocError> {
     )?;
     let plain: SharedCache<u64, u64, 4> = SharedCache::with_limits(alloc, limits)?;
     let owned: ShardedCache<u64, u64, 5> = ShardedCache::new(alloc, 8, 8)?;
-    let shows = format!(in alloc; "{shared:?}")?
+    let shows = format!(in alloc; "{shared:?}")?.as_str()
         == "SharedDeadlineCache { shards: 2, ages: Ages { live: 60, idle: 5 }, .. }"
-        && format!(in alloc; "{sharded:?}")?
+        && format!(in alloc; "{sharded:?}")?.as_str()
             == "ShardedDeadlineCache { shards: 3, ages: Ages { live: 60, idle: 5 }, .. }";
     Ok(shows
-        && format!(in alloc; "{plain:?}")? == "SharedCache { shards: 4, .. }"
-        && format!(in alloc; "{owned:?}")? == "ShardedCache { shards: 5, .. }")
+        && format!(in alloc; "{plain:?}")?.as_str() == "SharedCache { shards: 4, .. }"
+        && format!(in alloc; "{owned:?}")?.as_str() == "ShardedCache { shards: 5, .. }")
 }
 
 #[test]
