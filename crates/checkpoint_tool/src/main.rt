@@ -1,4 +1,7 @@
 //! `checkpoint_tool`: saves, shows and checks checkpoints of rows.
+//!
+//! What it does is told by `checkpoint_tool --help` and in `docs/PROGRAM.md`. It hands its words and streams, and the host's
+//! folder, to `lru_operations`, where the clauses stand.
 #![tactic(auto)]
 
 use lru_host_folder::host_folder::HostFolder;

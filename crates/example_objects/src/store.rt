@@ -1,4 +1,4 @@
-// The store: objects by their id, and what leaves where one comes.
+//! The store: objects by their id, and what leaves where one comes.
 ghost use Rattle.std.specs.Prelude.{◌≡◌, IfNone, IsFalse};
 ghost use Rattle.lru_cores.specs.Eviction.{is_over};
 

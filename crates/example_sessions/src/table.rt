@@ -1,4 +1,4 @@
-// The table, and which session leaves it.
+//! The table, and which session leaves it.
 ghost use Rattle.std.specs.Prelude.{◌≡◌, ◌⊎◌, ◌≤◌, ◌<◌, length, IfSome, IfNone};
 ghost use Rattle.lru_shard.specs.Row.{weight_of};
 ghost use Rattle.example_sessions.specs.Sessions.{newest};

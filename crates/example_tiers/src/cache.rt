@@ -1,4 +1,4 @@
-// The cache, and what asking it for an object does.
+//! The cache, and what asking it for an object does.
 ghost use Rattle.std.specs.Prelude.{IfNone};
 ghost use Rattle.example_tiers.specs.Budgets.{IsWithin};
 

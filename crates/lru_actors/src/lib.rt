@@ -1,5 +1,9 @@
 //! The actors of a least-recently-used order, as functions over values: what each message does to a shard, to
 //! the map of weights beside it, and to the pairs that are evicted.
+//!
+//! Each message's answer and all that it leaves are exact, and equal keys have equal hashes. No thread stands here:
+//! `lru_world` runs these functions on threads. It stands on one shard (`lru_shard`) and on what takes evicted pairs
+//! (`lru_dispatch`).
 #![tactic(auto)]
 
 pub mod effect;

@@ -1,4 +1,4 @@
-// A sketch and a cache that asks it, small enough to be told by hand.
+//! A sketch and a cache that asks it, small enough to be told by hand.
 use lru_admission::admission::{AskingCache, NotAdmitted};
 use lru_sketch::sketch::Sketch;
 use std::alloc::{AllocError, Global};

@@ -6,7 +6,7 @@ use Rattle.lru_rows.specs.declared.rows.Taken.{Taken}
 use Rattle.std.specs.Borrow.{MutBor}
 use Rattle.lru_rows.specs.Rows.{placed, with_value, Updates, UpdatesAt, Placed, Recency, recency, row_at, row_of, IsAt, Finds, IsRecency, promoted, Removes as RowsRemoves, without as rows_without}
 use Rattle.lru_entries.specs.declared.entry.Entry.{Entry}
-use Rattle.lru_cache.specs.Cache.{UpdatesEntry, Cached, entry_of, without, used, with_entries}
+use Rattle.lru_cache.specs.Cache.{UpdatesEntry, Cached, entry_of, without, used, used_with, with_entries}
 use Rattle.lru_entries.specs.Entries.{entry, entry_in, entries_in, weight_in}
 use Rattle.lru_cache.specs.Representation.{cached_in, IsKept}
 use Rattle.lru_entries.proofs.Rows.{some_of, with_value-without, with_value-first, row_first, by_bool, row_place, weight-cons, weight-without, length-without, length-entries}
@@ -114,44 +114,66 @@ module _ {K Q V S : Type 0} (same_key : K → K → Bool) (r : Recency K V) (has
       pub query_at_first : (r' : Recency K V) → r' ≡ recency (promoted r.rows p) r.free → IsAt r'.rows p
       query_at_first r' is = ap is_some (ap (λ rs. row_at rs p) (ap (λ (x : Recency K V). x.rows) is ∙ first) ∙ row_first finds.0 (rows_without r.rows p) p place_is)
 
-      -- its value is lent
-      module _ {R : Type 0} (post : MutBor V → ℕ → R → MutBor V → Type 0) (answer : R) (r' r'' : Recency K V) (is : r' ≡ recency (promoted r.rows p) r.free) (updates : UpdatesAt post r' p answer r'') where
+      -- its value is lent, and may be another then
+      module _ (r' : Recency K V) (is : r' ≡ recency (promoted r.rows p) r.free) where
         first_is : r'.rows ≡ finds.0 ∷ rows_without r.rows p
         first_is = ap (λ (x : Recency K V). x.rows) is ∙ first
 
-        row_is : updates.0 ≡ finds.0
-        row_is = some_of updates.0 finds.0 (sym updates.1 ∙ ap (λ rs. row_at rs p) first_is ∙ row_first finds.0 (rows_without r.rows p) p place_is)
+        row_first_is : row_at r'.rows p ≡ Some finds.0
+        row_first_is = ap (λ rs. row_at rs p) first_is ∙ row_first finds.0 (rows_without r.rows p) p place_is
 
-        rows_now : r'' ≡ recency (placed finds.0.place finds.0.key updates.2 finds.0.weight ∷ rows_without r.rows p) r.free
-        rows_now =
-            updates.4 ∙ ap (λ n. recency (with_value r'.rows p updates.2) n) (ap (λ (x : Recency K V). x.free) is)
-            ∙ ap (λ rs. recency rs r.free)
-            (ap (λ rs. with_value rs p updates.2) first_is ∙ with_value-first p updates.2 finds.0 (rows_without r.rows p) place_is
-            ∙ ap (λ rs. placed finds.0.place finds.0.key updates.2 finds.0.weight ∷ rs) (with_value-without p updates.2 r.rows))
+        pub query_value_lent : (v : V) → option_map (λ (x : Placed K V). x.value) (row_at r'.rows p) ≡ Some v → Some v ≡ option_map (λ (e : Entry K V). e.value) (entry_of stands c.entries query)
+        query_value_lent v at =
+            sym at ∙ ap (option_map (λ (y : Placed K V). y.value)) row_first_is ∙ sym (ap (option_map (λ (e : Entry K V). e.value)) (found_entry ∙ ap (option_map entry_in) finds.1))
 
-        pub query_kept_updated : IsKept r'' used_is most_weight most_entries
-        query_kept_updated = subst (λ x. IsKept x used_is most_weight most_entries) (sym rows_now) (record {
-          used_is = kept.used_is ∙ weight-without p r.rows finds.0 finds.2 (valid.places p) ∙ sym (weight-cons (placed finds.0.place finds.0.key updates.2 finds.0.weight) (rows_without r.rows p));
-          light = kept.light;
-          few = omega (arith, kept.few, as_long);
-        })
+        module _ (v : V) where
+          rows_lent : recency (with_value r'.rows p v) r'.free ≡ recency (placed finds.0.place finds.0.key v finds.0.weight ∷ rows_without r.rows p) r.free
+          rows_lent =
+              ap (λ n. recency (with_value r'.rows p v) n) (ap (λ (x : Recency K V). x.free) is)
+              ∙ ap (λ rs. recency rs r.free)
+              (ap (λ rs. with_value rs p v) first_is ∙ with_value-first p v finds.0 (rows_without r.rows p) place_is
+              ∙ ap (λ rs. placed finds.0.place finds.0.key v finds.0.weight ∷ rs) (with_value-without p v r.rows))
 
-        pub query_view_updated : UpdatesEntry stands post c query (Some answer) (cached_in r'' hashes most_weight most_entries)
-        query_view_updated = (
-          entry_in finds.0,
-          (
-            found_entry ∙ ap (option_map entry_in) finds.1,
+          pub query_kept_lent : IsKept (recency (with_value r'.rows p v) r'.free) used_is most_weight most_entries
+          query_kept_lent = subst (λ x. IsKept x used_is most_weight most_entries) (sym rows_lent) (record {
+            used_is = kept.used_is ∙ weight-without p r.rows finds.0 finds.2 (valid.places p) ∙ sym (weight-cons (placed finds.0.place finds.0.key v finds.0.weight) (rows_without r.rows p));
+            light = kept.light;
+            few = omega (arith, kept.few, as_long);
+          })
+
+          view_lent : cached_in (recency (with_value r'.rows p v) r'.free) hashes most_weight most_entries ≡ with_entries c (entry finds.0.key v finds.0.weight ∷ without stands c.entries query)
+          view_lent =
+              ap (λ x. cached_in x hashes most_weight most_entries) rows_lent
+              ∙ with_rows same_key r hashes used_is most_weight most_entries kept c view (placed finds.0.place finds.0.key v finds.0.weight ∷ rows_without r.rows p) r.free (omega (arith, as_long))
+              ∙ ap (λ es. with_entries c (entry finds.0.key v finds.0.weight ∷ es)) others
+
+          pub query_view_lent : cached_in (recency (with_value r'.rows p v) r'.free) hashes most_weight most_entries ≡ with_entries c (used_with stands c.entries query v)
+          query_view_lent =
+              view_lent
+              ∙ ap (with_entries c) (sym (ap (λ o. option_map_or (λ e. entry e.key v e.weight ∷ without stands c.entries query) o c.entries) (found_entry ∙ ap (option_map entry_in) finds.1)))
+
+        -- by a closure
+        module _ {R : Type 0} (post : MutBor V → ℕ → R → MutBor V → Type 0) (answer : R) (r'' : Recency K V) (updates : UpdatesAt post r' p answer r'') where
+          row_is : updates.0 ≡ finds.0
+          row_is = some_of updates.0 finds.0 (sym updates.1 ∙ row_first_is)
+
+          pub query_kept_updated : IsKept r'' used_is most_weight most_entries
+          query_kept_updated = subst (λ x. IsKept x used_is most_weight most_entries) (sym updates.4) (query_kept_lent updates.2)
+
+          pub query_view_updated : UpdatesEntry stands post c query (Some answer) (cached_in r'' hashes most_weight most_entries)
+          query_view_updated = (
+            entry_in finds.0,
             (
-              updates.2,
+              found_entry ∙ ap (option_map entry_in) finds.1,
               (
-                subst (λ x. Updates post x.value x.weight answer updates.2) row_is updates.3,
-                ap (λ x. cached_in x hashes most_weight most_entries) rows_now
-                    ∙ with_rows same_key r hashes used_is most_weight most_entries kept c view (placed finds.0.place finds.0.key updates.2 finds.0.weight ∷ rows_without r.rows p) r.free (omega (arith, as_long))
-                    ∙ ap (λ es. with_entries c (entry finds.0.key updates.2 finds.0.weight ∷ es)) others,
+                updates.2,
+                (
+                  subst (λ x. Updates post x.value x.weight answer updates.2) row_is updates.3,
+                  ap (λ x. cached_in x hashes most_weight most_entries) updates.4 ∙ view_lent updates.2,
+                ),
               ),
             ),
-          ),
-        )
+          )
 
     -- or is taken out
     module _ (t : Taken K V) (r' : Recency K V) (removes : RowsRemoves stands r query (Some t) r') where

@@ -139,6 +139,10 @@ module _ {K V : Type 0} where
     abbrev pub used : List (Entry K V) → Q → List (Entry K V)
     used es key = option_map_or (λ e. e ∷ without es key) (entry_of es key) es
 
+    -- a key's entry goes first with this value, if it has one
+    abbrev pub used_with : List (Entry K V) → Q → V → List (Entry K V)
+    used_with es key v = option_map_or (λ e. entry e.key v e.weight ∷ without es key) (entry_of es key) es
+
     -- a key's entry goes last, if it has one
     abbrev pub demoted : List (Entry K V) → Q → List (Entry K V)
     demoted es key = option_map_or (λ e. without es key ++ e ∷ []) (entry_of es key) es

@@ -1,3 +1,4 @@
 pub mod Cache
 pub mod Representation
 pub mod Causes
+pub mod Lends

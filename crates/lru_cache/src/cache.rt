@@ -406,6 +406,42 @@ impl<K: Hash, V, S: BuildHasher> Cache<K, V, S> {
     }
 }
 
+impl<K: Hash, V, S: BuildHasher> Cache<K, V, S> {
+    ghost use Rattle.std.specs.Borrow.{sem};
+    ghost use Rattle.std.specs.Option.{option_copied_mut};
+    ghost use Rattle.lru_cache.specs.Lends.{lends_value};
+
+    /// Uses a key, and lends its value, to be written to; its weight stays. A key without an entry is answered by `None`.
+    pub fn get_mut(&mut self, key: &K) -> Option<&mut V>
+        ensures* writes_back { sem 𝓛 (lends_value K.row V.row S.row S.Hasher.row K.Hash S.BuildHasher S.Hasher.Hasher K.eq self.entry key.now result) }
+        ensures value { option_copied_mut result ≡ option_map (λ e. e.value) (entry_of K.eq self.old.entries key.now) }
+    {
+        let hash = self.hash_of(key);
+        self.get_mut_hashed(key, hash)
+    }
+
+    /// As `get_mut`, by what stands for the key.
+    pub fn get_mut_by<Q: Query<K>>(&mut self, query: Q) -> Option<&mut V>
+        ensures* writes_back { sem 𝓛 (lends_value K.row V.row S.row S.Hasher.row K.Hash S.BuildHasher S.Hasher.Hasher Q.stands_for self.entry query result) }
+        ensures value { option_copied_mut result ≡ option_map (λ e. e.value) (entry_of Q.stands_for self.old.entries query) }
+    {
+        let hash = self.hash_of(&query);
+        self.get_mut_hashed(query, hash)
+    }
+
+    /// `get_mut_by`, where the query's hash is known.
+    #[inline(always)]
+    pub fn get_mut_hashed<Q: Query<K>>(&mut self, query: Q, hash: u64) -> Option<&mut V>
+        requires { hash ≡ key_hash S.BuildHasher S.Hasher.Hasher Q.hash_input self.old.hashes query }
+        ensures* writes_back { sem 𝓛 (lends_value K.row V.row S.row S.Hasher.row K.Hash S.BuildHasher S.Hasher.Hasher Q.stands_for self.entry query result) }
+        ensures value { option_copied_mut result ≡ option_map (λ e. e.value) (entry_of Q.stands_for self.old.entries query) }
+    {
+        let found = self.rows.find_hashed(query, hash)?;
+        self.rows.promote(found);
+        Some(self.rows.value_mut(found))
+    }
+}
+
 impl<K: Hash + Drop, V: Drop, S: BuildHasher> Cache<K, V, S> {
     /// Puts an entry first, in place of its key's, and answers that one. Then the entries that were used longest ago go,
     /// as many as have to for the others to be within the limits, and each is handed to `visit`.

@@ -8,7 +8,7 @@ use Rattle.lru_frames.specs.declared.row.Row.{Row}
 use Rattle.lru_entries.specs.declared.entry.Entry.{Entry}
 use Rattle.lru_cache.specs.declared.cache.Refused.{Refused}
 use Rattle.lru_cache.specs.Cache.{Cached, parts_of}
-use Rattle.lru_shared.specs.Answers.{MayPut}
+use Rattle.lru_shared.specs.Related.{MayPutRelated}
 use Rattle.lru_cache_captures.specs.Captures.{MayCopy, PutsEntries, PutsOrLeaves, MayPutOrLeave, MayPutEntries}
 
 module _ {K V S : Type 0} (eq : K → K → Bool) (old mid : Cached K V S) (row : Row K V) (rows : List (Row K V)) (left : ℕ) (answer : Result ℕ (Refused K V)) (new : Cached K V S) where
@@ -21,9 +21,9 @@ module _ {K V S : Type 0} (eq : K → K → Bool) (old mid : Cached K V S) (row 
   put_more false is put rest = inl (false, (mid, (put, rest)))
 
 -- what was put is put so
-pub may_put : {K V F : Type 0} (eq : K → K → Bool) (row : Row K V) (Step : F → Entry K V → F → Type 0) (visit : F) (was : Option (Entry K V))
-    → MayPut eq Step visit row.key row.data row.weight (Ok was) → MayPutOrLeave eq row (Ok false)
-may_put eq row Step visit was p = (p.0, (p.1.0, (p.1.1.1.1.0, (p.1.1.1.1.1.0, (p.1.1.1.1.1.1.0, p.1.1.1.1.1.1.1.1)))))
+pub may_put : {K V F : Type 0} (holds : K → V → Type 0) (eq : K → K → Bool) (row : Row K V) (Step : F → Entry K V → F → Type 0) (visit : F) (was : Option (Entry K V))
+    → MayPutRelated holds eq Step visit row.key row.data row.weight (Ok was) → MayPutOrLeave eq row (Ok false)
+may_put holds eq row Step visit was (old, (new, (old_own, (new_own, (fits, (had, (front, (gone, (leaves, (shown, is)))))))))) = (old, (new, (front, (gone, (leaves, is)))))
 
 -- what follows from three facts on what was made
 pub if_all_ok : {X E : Type 0} (r : Result X E) (A B C D : X → Type 0) → ((x : X) → A x → B x → C x → D x) → IfOk r A → IfOk r B → IfOk r C → IfOk r D

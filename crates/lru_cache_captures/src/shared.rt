@@ -11,7 +11,7 @@ use lru_frames::row::Row;
 use lru_frames::source::Source;
 use lru_frames::stored::Stored;
 use lru_index::alike::SameHashes;
-use lru_shared::shared::SharedCache;
+use lru_shared::shared::{Anything, Relation, SharedCache};
 use std::alloc::{AllocError, Global};
 use std::hash::{BuildHasher, Hash};
 use std::sync::Wait;
@@ -34,7 +34,10 @@ pub fn capture_shard<K: Hash + Clone + Drop, V: Clone + Drop, const N: usize, S:
 /// A shared cache of which a checkpoint is saved: its shards, from shard 0 on. Each is copied when it is asked for, at a moment
 /// of its own, and its lock is free again before the copies are encoded and saved.
 #[derive(Drop)]
-pub struct SharedSource<'a, R, K: Hash, V, const N: usize> {
+pub struct SharedSource<'a, R, K: Hash, V, const N: usize>
+where
+    Anything: Relation<K, V>,
+{
     /// What waits for the locks.
     pub rt: &'a R,
     /// The cache.

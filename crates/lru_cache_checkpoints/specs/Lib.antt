@@ -1,2 +1,3 @@
 pub mod Restores
 pub mod Deadlines
+pub mod Ages

@@ -237,6 +237,47 @@ fn entries_are_shown_from_both_ends(rt: HostRuntime) -> Result<(), Fail> {
     Ok(())
 }
 
+// Writes to the value of a key that is lent; whether one was.
+fn is_written(lent: Option<&mut u64>, value: u64) -> bool {
+    match lent {
+        Some(place) => {
+            *place = value;
+            true
+        }
+        None => false,
+    }
+}
+
+// By a key, by what stands for one, and by its hash: who has an entry, and who has none.
+fn written(cache: &mut Cache<u64, u64>) -> [bool; 4] {
+    let first = is_written(cache.get_mut(&1), 11);
+    let absent = is_written(cache.get_mut(&9), 91);
+    let by = is_written(cache.get_mut_by(&2), 21);
+    let hash = cache.hash_of(&3u64);
+    [
+        first,
+        absent,
+        by,
+        is_written(cache.get_mut_hashed(&3, hash), 31),
+    ]
+}
+
+// What is written to stands first with its weight, and nothing else has changed.
+#[test]
+fn a_lent_value_is_written_to(rt: HostRuntime) -> Result<(), Fail> {
+    let mut cache = Cache::new(rt.alloc(), 10, 5)?;
+    for (key, value, weight) in [(3u64, 30u64, 1usize), (2, 20, 3), (1, 10, 2)] {
+        let _put = cache.put(key, value, weight, |_gone| {});
+    }
+    let lent = written(&mut cache);
+    let shown = [Some((3, 31, 1)), Some((1, 11, 2)), Some((2, 21, 3)), None];
+    assert_eq!(rt;
+        (lent, both_ends(&cache)),
+        ([true, false, true, true], (shown, 1))
+    );
+    Ok(())
+}
+
 // Where there may be no entry.
 #[rattlefmt::skip]
 static NO_ENTRIES: [Step<u64, u64>; 2] = [

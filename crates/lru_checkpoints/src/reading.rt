@@ -1,4 +1,4 @@
-// The manifest of a generation, read.
+//! The manifest of a generation, read.
 ghost use Rattle.std.specs.Prelude.{◌≡◌, ◌≢◌, ◌↔◌, ◌<◌, ◌≤◌, ◌^◌, ℕ, List, length, IfErr, IfOk, OnOk, MatchResult, Some};
 ghost use Rattle.std.specs.FinMap.{get};
 ghost use Rattle.lru_frames.specs.declared.mark.Mark.{Mark};

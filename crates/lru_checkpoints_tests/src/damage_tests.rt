@@ -40,28 +40,66 @@ fn is_damaged(error: Option<CheckpointError>, wanted: CheckpointFile) -> bool {
     }
 }
 
+static CHANGES: [u8; 3] = [0x01, 0x80, 0xff];
+
+// Whether each change of the byte at a place is told as damage of the file.
+fn are_changes_seen(
+    alloc: Global,
+    folder: &MemoryFolder,
+    (path, file): (&str, CheckpointFile),
+    held: &[u8],
+    place: usize,
+) -> Result<bool, CheckpointError> {
+    let mut bytes = Vec::from_slice(alloc, held)?;
+    let mut are_seen = true;
+    for change in &CHANGES {
+        if let Some(byte) = bytes.get_mut(place) {
+            *byte ^= *change;
+        }
+        are_seen &= is_damaged(why_passed(alloc, folder, path, Some(&bytes))?, file);
+        if let Some(byte) = bytes.get_mut(place) {
+            *byte ^= *change;
+        }
+    }
+    Ok(are_seen)
+}
+
+// Whether a file that is cut short to this is told by its length.
+fn is_cut_seen(
+    alloc: Global,
+    folder: &MemoryFolder,
+    (path, file): (&str, CheckpointFile),
+    beginning: &[u8],
+) -> Result<bool, CheckpointError> {
+    let part = Part::Length;
+    let error = why_passed(alloc, folder, path, Some(beginning))?;
+    Ok(error == Some(CheckpointError::Damaged { file, part }))
+}
+
 // The first place of a file at which a change is not told as its damage, or at which a cut is not told by the length.
 fn first_unseen(
     alloc: Global,
     folder: &MemoryFolder,
-    path: &str,
-    file: CheckpointFile,
+    file: (&str, CheckpointFile),
 ) -> Result<Option<usize>, CheckpointError> {
-    let Some(held) = folder.get(path) else {
+    let Some(held) = folder.get(file.0) else {
         return Ok(Some(0));
     };
-    let part = Part::Length;
     for place in 0..held.len() {
-        for change in [0x01, 0x80, 0xffu8] {
-            let mut bytes = Vec::from_slice(alloc, held)?;
-            bytes[place] ^= change;
-            if !is_damaged(why_passed(alloc, folder, path, Some(&bytes))?, file) {
-                return Ok(Some(place));
-            }
-        }
-        let cut = why_passed(alloc, folder, path, Some(&held[..place]))?;
-        if cut != Some(CheckpointError::Damaged { file, part }) {
+        let are_seen = are_changes_seen(alloc, folder, file, held, place)?;
+        if !are_seen || !is_cut_seen(alloc, folder, file, &held[..place])? {
             return Ok(Some(place));
+        }
+    }
+    Ok(None)
+}
+
+// The first file, and the place in it, where something is not seen.
+fn first_file_unseen(alloc: Global) -> Result<Option<(&'static str, usize)>, CheckpointError> {
+    let folder = two(alloc)?;
+    for file in &FILES {
+        if let Some(place) = first_unseen(alloc, &folder, *file)? {
+            return Ok(Some((file.0, place)));
         }
     }
     Ok(None)
@@ -69,11 +107,7 @@ fn first_unseen(
 
 #[test]
 fn each_byte_and_each_cut(rt: HostRuntime) -> Result<(), Fail> {
-    let folder = two(rt.alloc())?;
-    for (path, file) in FILES.iter() {
-        let unseen = first_unseen(rt.alloc(), &folder, path, *file)?;
-        assert_eq!(rt; unseen, None, "{path}");
-    }
+    assert_eq!(rt; first_file_unseen(rt.alloc())?, None);
     Ok(())
 }
 
@@ -87,12 +121,15 @@ fn a_frame_that_is_missing(rt: HostRuntime) -> Result<(), Fail> {
 }
 
 // Without its manifest a checkpoint is none, and none is passed over.
+fn loads_the_first(alloc: Global) -> Result<bool, CheckpointError> {
+    let mut folder = with_other(alloc, &two(alloc)?, "d/c.1.manifest", None)?;
+    let loaded = load_newest(alloc, &mut folder)?;
+    Ok((found_in(&loaded) == Some((0, 10))) & loaded.passed.is_empty())
+}
+
 #[test]
 fn a_manifest_that_is_missing(rt: HostRuntime) -> Result<(), Fail> {
-    let mut folder = with_other(rt.alloc(), &two(rt.alloc())?, "d/c.1.manifest", None)?;
-    let loaded = load_newest(rt.alloc(), &mut folder)?;
-    let found = (found_in(&loaded), loaded.passed.len());
-    assert_eq!(rt; found, (Some((0, 10)), 0));
+    assert!(rt; loads_the_first(rt.alloc())?);
     Ok(())
 }
 
@@ -140,19 +177,20 @@ fn files_of_other_checkpoints(rt: HostRuntime) -> Result<(), Fail> {
 }
 
 // The manifest and one frame of another name's checkpoint make no mixture with a frame of this one.
+fn why_mixed(alloc: Global) -> Result<Option<CheckpointError>, CheckpointError> {
+    let folder = two_of_each(alloc)?;
+    let manifest = folder.get("d/e.1.manifest");
+    let mixed = with_other(alloc, &folder, "d/c.1.manifest", manifest)?;
+    why_passed(alloc, &mixed, "d/c.1.0", folder.get("d/e.1.0"))
+}
+
 #[test]
 fn no_mixture(rt: HostRuntime) -> Result<(), Fail> {
-    let alloc = rt.alloc();
-    let folder = two_of_each(alloc)?;
-    let mixed = with_other(
-        alloc,
-        &folder,
-        "d/c.1.manifest",
-        folder.get("d/e.1.manifest"),
-    )?;
-    let error = why_passed(alloc, &mixed, "d/c.1.0", folder.get("d/e.1.0"))?;
     let file = CheckpointFile::Shard(1);
-    assert_eq!(rt; error, Some(CheckpointError::Other { file }));
+    assert_eq!(rt;
+        why_mixed(rt.alloc())?,
+        Some(CheckpointError::Other { file })
+    );
     Ok(())
 }
 

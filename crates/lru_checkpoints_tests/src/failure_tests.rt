@@ -80,28 +80,32 @@ fn first_early(alloc: Global) -> Result<Option<u64>, CheckpointError> {
     Ok(None)
 }
 
+// Whether they go in a save that is done.
+fn are_gone(alloc: Global) -> Result<bool, CheckpointError> {
+    let mut folder = half_saved(alloc)?;
+    let is_third = save_next(alloc, &mut folder, 12)?.generation == 3;
+    let names = "c.1.0 c.1.1 c.1.manifest c.3.0 c.3.1 c.3.manifest ";
+    Ok(is_third & (names_in(alloc, &folder)?.as_str() == names))
+}
+
 #[test]
 fn leftovers_go_before_a_save_writes(rt: HostRuntime) -> Result<(), Fail> {
-    let alloc = rt.alloc();
-    let early = first_early(alloc)?;
-    let mut folder = half_saved(alloc)?;
-    let saved = save_next(alloc, &mut folder, 12)?;
-    let names = names_in(alloc, &folder)?;
-    let are_right = names.as_str() == "c.1.0 c.1.1 c.1.manifest c.3.0 c.3.1 c.3.manifest ";
-    assert_eq!(rt; (early, saved.generation, are_right), (None, 3, true));
+    assert!(rt; first_early(rt.alloc())?.is_none() & are_gone(rt.alloc())?);
     Ok(())
 }
 
-// How a save is refused in a folder, and whether it leaves the files and what loads as they were.
+// How a save is refused in a folder with these files, and whether it leaves the files and what loads as they were.
 fn refusal(
     alloc: Global,
-    folder: &mut MemoryFolder,
+    mut folder: MemoryFolder,
+    names: &str,
 ) -> Result<(Option<CheckpointError>, bool), CheckpointError> {
-    let before = names_in(alloc, folder)?;
-    let error = save_next(alloc, folder, 12).err();
-    let after = names_in(alloc, folder)?;
-    let is_old = what_loads(alloc, folder)? == Some((1, 11));
-    Ok((error, is_old && before == after))
+    let error = save_next(alloc, &mut folder, 12).err();
+    let is_same = names_in(alloc, &folder)?.as_str() == names;
+    Ok((
+        error,
+        is_same & (what_loads(alloc, &mut folder)? == Some((1, 11))),
+    ))
 }
 
 fn claimed(alloc: Global) -> Result<MemoryFolder, CheckpointError> {
@@ -113,8 +117,7 @@ fn claimed(alloc: Global) -> Result<MemoryFolder, CheckpointError> {
 
 #[test]
 fn a_folder_that_another_save_has(rt: HostRuntime) -> Result<(), Fail> {
-    let mut folder = claimed(rt.alloc())?;
-    let refusal = refusal(rt.alloc(), &mut folder)?;
+    let refusal = refusal(rt.alloc(), claimed(rt.alloc())?, TWO)?;
     assert_eq!(rt; refusal, (Some(CheckpointError::InUse), true));
     Ok(())
 }
@@ -129,8 +132,8 @@ fn with_last(alloc: Global) -> Result<MemoryFolder, AllocError> {
 
 #[test]
 fn the_last_generation(rt: HostRuntime) -> Result<(), Fail> {
-    let mut folder = with_last(rt.alloc())?;
-    let refusal = refusal(rt.alloc(), &mut folder)?;
+    let names = "c.0.0 c.0.1 c.0.manifest c.1.0 c.1.1 c.1.manifest c.18446744073709551615.0 ";
+    let refusal = refusal(rt.alloc(), with_last(rt.alloc())?, names)?;
     assert_eq!(rt; refusal, (Some(CheckpointError::LastGeneration), true));
     Ok(())
 }

@@ -133,6 +133,12 @@ pub(crate) fn what_loads(
     Ok(found_in(&load_newest(alloc, folder)?))
 }
 
+// Whether nothing is loaded from a folder, and nothing passed over.
+pub(crate) fn has_none(alloc: Global, mut folder: MemoryFolder) -> Result<bool, CheckpointError> {
+    let loaded = load_newest(alloc, &mut folder)?;
+    Ok(loaded.newest.is_none() & loaded.passed.is_empty())
+}
+
 // Whether these generations were passed over, for these reasons.
 pub(crate) fn are_passed(passed: &[Passed], wanted: &[(u64, CheckpointError)]) -> bool {
     (passed.len() == wanted.len())

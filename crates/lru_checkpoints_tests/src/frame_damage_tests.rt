@@ -56,12 +56,16 @@ fn first_unseen(alloc: Global, bytes: &mut Vec<u8>) -> Option<usize> {
     None
 }
 
+// How many bytes there are, that place, and whether the frame is read as it is.
+fn changed(alloc: Global) -> Result<(usize, Option<usize>, bool), AllocError> {
+    let mut bytes = two_rows(alloc)?;
+    let unseen = first_unseen(alloc, &mut bytes);
+    Ok((bytes.len(), unseen, read(alloc, &bytes).is_ok()))
+}
+
 #[test]
 fn each_changed_byte(rt: HostRuntime) -> Result<(), Fail> {
-    let mut bytes = two_rows(rt.alloc())?;
-    let unseen = first_unseen(rt.alloc(), &mut bytes);
-    let is_read = read(rt.alloc(), &bytes).is_ok();
-    assert_eq!(rt; (bytes.len(), unseen, is_read), (112, None, true));
+    assert_eq!(rt; changed(rt.alloc())?, (112, None, true));
     Ok(())
 }
 
@@ -106,18 +110,29 @@ fn damage_at(alloc: Global, bytes: &mut Vec<u8>, place: usize) -> Option<Part> {
     part
 }
 
+// Places, and the part that is told where another byte stands there.
+static PARTS: [(usize, Part); 5] = [
+    (0, Part::Magic),
+    (8, Part::Version),
+    (16, Part::Length),
+    (24, Part::Check),
+    (111, Part::Check),
+];
+
+// The first place at which another part is told.
+fn first_other_part(alloc: Global) -> Result<Option<usize>, AllocError> {
+    let mut bytes = two_rows(alloc)?;
+    for (place, part) in &PARTS {
+        if damage_at(alloc, &mut bytes, *place) != Some(*part) {
+            return Ok(Some(*place));
+        }
+    }
+    Ok(None)
+}
+
 #[test]
 fn which_part(rt: HostRuntime) -> Result<(), Fail> {
-    let mut bytes = two_rows(rt.alloc())?;
-    let parts = [0, 8, 16, 24, 111].map(|place| damage_at(rt.alloc(), &mut bytes, place));
-    let wanted = [
-        Part::Magic,
-        Part::Version,
-        Part::Length,
-        Part::Check,
-        Part::Check,
-    ];
-    assert_eq!(rt; parts, wanted.map(Some));
+    assert_eq!(rt; first_other_part(rt.alloc())?, None);
     Ok(())
 }
 
@@ -174,12 +189,19 @@ static SEALED: [(&[u64], Option<Part>); 7] = [
     (&[88, 1, 0, 0, 0x10_0000_0000, 5, 9, 3], Some(Part::Rows)),
 ];
 
+// The first of these of which another part is told, or none.
+fn first_mended(alloc: Global) -> Result<Option<usize>, AllocError> {
+    for (place, (numbers, wanted)) in SEALED.iter().enumerate() {
+        if damage(alloc, &sealed(alloc, 2, numbers)?) != *wanted {
+            return Ok(Some(place));
+        }
+    }
+    Ok(None)
+}
+
 #[test]
 fn what_a_right_check_does_not_mend(rt: HostRuntime) -> Result<(), Fail> {
-    for (numbers, wanted) in &SEALED {
-        let bytes = sealed(rt.alloc(), 2, numbers)?;
-        assert_eq!(rt; damage(rt.alloc(), &bytes), *wanted, "{numbers:?}");
-    }
+    assert_eq!(rt; first_mended(rt.alloc())?, None);
     Ok(())
 }
 

@@ -1,4 +1,5 @@
 //! Frames whose bytes are written out.
+use lru_frames::errors::FrameError;
 use lru_frames::frame::{Frame, Header, decode, encode, encode_and_decode};
 use lru_frames::row::Row;
 use std::alloc::{AllocError, Global};
@@ -47,22 +48,28 @@ fn one_row(alloc: Global) -> Result<Vec<Row<u64, u64>>, AllocError> {
     Ok(rows)
 }
 
+fn is_written(alloc: Global) -> Result<bool, AllocError> {
+    let rows = one_row(alloc)?;
+    Ok(encode(alloc, HEADER, &rows)?.as_slice() == ONE_ROW.as_slice())
+}
+
 #[test]
 fn writes_these_bytes(rt: HostRuntime) -> Result<(), Fail> {
-    let rows = one_row(rt.alloc())?;
-    let bytes = encode(rt.alloc(), HEADER, &rows)?;
-    assert_eq!(rt; bytes.as_slice(), ONE_ROW.as_slice());
+    assert!(rt; is_written(rt.alloc())?);
     Ok(())
+}
+
+fn is_read(alloc: Global) -> Result<bool, FrameError> {
+    let Frame { header, rows } = decode::<u64, u64>(alloc, &ONE_ROW)?;
+    match rows.as_slice() {
+        [row] => Ok((header == HEADER) & ((row.key, row.data, row.weight) == (5, 9, 3))),
+        _ => Ok(false),
+    }
 }
 
 #[test]
 fn reads_these_bytes(rt: HostRuntime) -> Result<(), Fail> {
-    let Frame { header, rows } = decode::<u64, u64>(rt.alloc(), &ONE_ROW)?;
-    let has_row = match rows.as_slice() {
-        [row] => (row.key, row.data, row.weight) == (5, 9, 3),
-        _ => false,
-    };
-    assert_eq!(rt; (header, has_row), (HEADER, true));
+    assert!(rt; is_read(rt.alloc())?);
     Ok(())
 }
 
@@ -87,11 +94,14 @@ fn text_row(alloc: Global) -> Result<Vec<TextRow>, AllocError> {
     Ok(rows)
 }
 
+fn is_text_written(alloc: Global) -> Result<bool, AllocError> {
+    let rows = text_row(alloc)?;
+    Ok(encode(alloc, TEXT_HEADER, &rows)?.as_slice() == TEXT_ROW.as_slice())
+}
+
 #[test]
 fn writes_text(rt: HostRuntime) -> Result<(), Fail> {
-    let rows = text_row(rt.alloc())?;
-    let bytes = encode(rt.alloc(), TEXT_HEADER, &rows)?;
-    assert_eq!(rt; bytes.as_slice(), TEXT_ROW.as_slice());
+    assert!(rt; is_text_written(rt.alloc())?);
     Ok(())
 }
 
@@ -102,14 +112,17 @@ fn is_text_row(row: &TextRow) -> bool {
         && (row.data.1, row.weight) == (258, 2)
 }
 
+fn is_text_read(alloc: Global) -> Result<bool, FrameError> {
+    let Frame { header, rows } = decode::<String, (Vec<u8>, u64)>(alloc, &TEXT_ROW)?;
+    match rows.as_slice() {
+        [row] => Ok((header == TEXT_HEADER) & is_text_row(row)),
+        _ => Ok(false),
+    }
+}
+
 #[test]
 fn reads_text(rt: HostRuntime) -> Result<(), Fail> {
-    let Frame { header, rows } = decode::<String, (Vec<u8>, u64)>(rt.alloc(), &TEXT_ROW)?;
-    let has_row = match rows.as_slice() {
-        [row] => is_text_row(row),
-        _ => false,
-    };
-    assert_eq!(rt; (header, has_row), (TEXT_HEADER, true));
+    assert!(rt; is_text_read(rt.alloc())?);
     Ok(())
 }
 
@@ -142,8 +155,7 @@ fn tells_again(alloc: Global, count: u64) -> Result<bool, Fail> {
 
 #[test]
 fn none_one_and_many_rows(rt: HostRuntime) -> Result<(), Fail> {
-    for count in [0, 1, 1000] {
-        assert!(rt; tells_again(rt.alloc(), count)?);
-    }
+    let few = tells_again(rt.alloc(), 0)? & tells_again(rt.alloc(), 1)?;
+    assert!(rt; few & tells_again(rt.alloc(), 1000)?);
     Ok(())
 }

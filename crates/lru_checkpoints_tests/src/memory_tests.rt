@@ -43,18 +43,27 @@ fn two_at_last(alloc: Global, refusals: &mut usize) -> Result<MemoryFolder, Chec
 
 // Saves a third checkpoint over two. Where it is refused memory, the second one is there, and the save that is made again
 // succeeds.
+fn saves_at_last(
+    alloc: Global,
+    folder: &mut MemoryFolder,
+    refusals: &mut usize,
+) -> Result<bool, CheckpointError> {
+    let Err(error) = save_next(alloc, folder, 12) else {
+        return Ok(true);
+    };
+    *refusals = refusals.saturating_add(1);
+    let is_kept = what_loads(alloc, folder)? == Some((1, 11));
+    save_next(alloc, folder, 12)?;
+    Ok(is_kept & is_for_memory(&error))
+}
+
+// Whether it is saved and loaded so, with one refusal at most.
 fn saves(alloc: Global) -> Result<bool, CheckpointError> {
     let mut refusals = 0;
     let mut folder = two_at_last(alloc, &mut refusals)?;
-    if let Err(error) = save_next(alloc, &mut folder, 12) {
-        refusals = refusals.saturating_add(1);
-        if !is_for_memory(&error) || what_loads(alloc, &mut folder)? != Some((1, 11)) {
-            return Ok(false);
-        }
-        save_next(alloc, &mut folder, 12)?;
-    }
+    let is_saved = saves_at_last(alloc, &mut folder, &mut refusals)?;
     let found = loads_at_last(alloc, &mut folder, &mut refusals)?;
-    Ok((found == Some((2, 12))) & (refusals <= 1))
+    Ok(is_saved & (found == Some((2, 12))) & (refusals <= 1))
 }
 
 #[test]

@@ -21,14 +21,27 @@ fn save_five(alloc: Global, folder: &mut MemoryFolder) -> Result<bool, Checkpoin
     Ok(is_told)
 }
 
+// Whether a folder has these files, and loads this generation and number.
+fn is_left(
+    alloc: Global,
+    folder: &mut MemoryFolder,
+    names: &str,
+    found: (u64, u64),
+) -> Result<bool, CheckpointError> {
+    let has_names = names_in(alloc, folder)?.as_str() == names;
+    Ok(has_names & (what_loads(alloc, folder)? == Some(found)))
+}
+
+fn keeps_two(alloc: Global) -> Result<bool, CheckpointError> {
+    let mut folder = empty(alloc)?;
+    let is_told = save_five(alloc, &mut folder)?;
+    let names = "c.3.0 c.3.1 c.3.manifest c.4.0 c.4.1 c.4.manifest ";
+    Ok(is_told & is_left(alloc, &mut folder, names, (4, 14))?)
+}
+
 #[test]
 fn the_newest_and_the_one_before_are_kept(rt: HostRuntime) -> Result<(), Fail> {
-    let mut folder = empty(rt.alloc())?;
-    let is_told = save_five(rt.alloc(), &mut folder)?;
-    let names = names_in(rt.alloc(), &folder)?;
-    let found = what_loads(rt.alloc(), &mut folder)?;
-    let has_names = names.as_str() == "c.3.0 c.3.1 c.3.manifest c.4.0 c.4.1 c.4.manifest ";
-    assert_eq!(rt; (is_told, has_names, found), (true, true, Some((4, 14))));
+    assert!(rt; keeps_two(rt.alloc())?);
     Ok(())
 }
 
@@ -40,39 +53,30 @@ fn damage(file: CheckpointFile) -> CheckpointError {
     CheckpointError::Damaged { file, part }
 }
 
-// Saves the third checkpoint over two, the second of which is damaged. Whether the first is kept, the second told, and all
-// their files left.
+// Saves the third checkpoint over two, the second of which is damaged. Whether the first is kept, the second told, all their
+// files left, and the third loaded.
 fn keeps_first(
     alloc: Global,
     folder: &mut MemoryFolder,
     file: CheckpointFile,
 ) -> Result<bool, CheckpointError> {
     let saved = save_next(alloc, folder, 12)?;
-    let names = names_in(alloc, folder)?;
     let is_told = (saved.generation == 2) & (saved.kept == Some(0)) & saved.removed.is_ok();
-    Ok(
-        is_told
-            && are_passed(&saved.passed, &[(1, damage(file))])
-            && names.as_str()
-                == "c.0.0 c.0.1 c.0.manifest c.1.0 c.1.1 c.1.manifest c.2.0 c.2.1 c.2.manifest ",
-    )
+    let is_passed = are_passed(&saved.passed, &[(1, damage(file))]);
+    let names = "c.0.0 c.0.1 c.0.manifest c.1.0 c.1.1 c.1.manifest c.2.0 c.2.1 c.2.manifest ";
+    Ok(is_told & is_passed & is_left(alloc, folder, names, (2, 12))?)
 }
 
-// Whether the third checkpoint is loaded, and where it is damaged too the first, with both others told.
+// Whether the first is loaded where the third is damaged too, with both others told.
 fn loads_first(
     alloc: Global,
-    mut folder: MemoryFolder,
+    folder: MemoryFolder,
     file: CheckpointFile,
 ) -> Result<bool, CheckpointError> {
-    let third = what_loads(alloc, &mut folder)?;
     let mut folder = folder.with("d/c.2.0", DAMAGE)?;
     let loaded = load_newest(alloc, &mut folder)?;
     let wanted = [(2, damage(CheckpointFile::Shard(0))), (1, damage(file))];
-    Ok(
-        third == Some((2, 12))
-            && found_in(&loaded) == Some((0, 10))
-            && are_passed(&loaded.passed, &wanted),
-    )
+    Ok((found_in(&loaded) == Some((0, 10))) & are_passed(&loaded.passed, &wanted))
 }
 
 // Whether all that is so where this file of the second checkpoint is damaged.
@@ -90,30 +94,41 @@ fn a_damaged_one_is_not_kept_for_a_whole_one(rt: HostRuntime) -> Result<(), Fail
     Ok(())
 }
 
+// The generation of the next save, and the one that it keeps.
+fn told_of(
+    alloc: Global,
+    folder: &mut MemoryFolder,
+    number: u64,
+) -> Result<(u64, Option<u64>), CheckpointError> {
+    let saved = save_next(alloc, folder, number)?;
+    Ok((saved.generation, saved.kept))
+}
+
 // Once a newer one is kept, the files of the damaged one go.
+fn goes_at_last(alloc: Global) -> Result<bool, CheckpointError> {
+    let mut folder = two(alloc)?.with("d/c.1.1", DAMAGE)?;
+    told_of(alloc, &mut folder, 12)?;
+    let is_kept = told_of(alloc, &mut folder, 13)? == (3, Some(2));
+    let names = "c.2.0 c.2.1 c.2.manifest c.3.0 c.3.1 c.3.manifest ";
+    Ok(is_kept & (names_in(alloc, &folder)?.as_str() == names))
+}
+
 #[test]
 fn a_damaged_one_goes_at_last(rt: HostRuntime) -> Result<(), Fail> {
-    let alloc = rt.alloc();
-    let mut folder = two(alloc)?.with("d/c.1.1", DAMAGE)?;
-    save_next(alloc, &mut folder, 12)?;
-    let kept = save_next(alloc, &mut folder, 13)?.kept;
-    let names = names_in(alloc, &folder)?;
-    let has_names = names.as_str() == "c.2.0 c.2.1 c.2.manifest c.3.0 c.3.1 c.3.manifest ";
-    assert_eq!(rt; (kept, has_names), (Some(2), true));
+    assert!(rt; goes_at_last(rt.alloc())?);
     Ok(())
 }
 
 // A folder with two checkpoints and a stray frame of a higher number.
+fn is_above_all(alloc: Global) -> Result<bool, CheckpointError> {
+    let mut folder = two(alloc)?.with("d/c.7.0", DAMAGE)?;
+    let is_told = told_of(alloc, &mut folder, 12)? == (8, Some(1));
+    Ok(is_told & (what_loads(alloc, &mut folder)? == Some((8, 12))))
+}
+
 #[test]
 fn a_number_above_all_that_are_named(rt: HostRuntime) -> Result<(), Fail> {
-    let alloc = rt.alloc();
-    let mut folder = two(alloc)?.with("d/c.7.0", DAMAGE)?;
-    let saved = save_next(alloc, &mut folder, 12)?;
-    let found = what_loads(alloc, &mut folder)?;
-    assert_eq!(rt;
-        (saved.generation, saved.kept, found),
-        (8, Some(1), Some((8, 12)))
-    );
+    assert!(rt; is_above_all(rt.alloc())?);
     Ok(())
 }
 
@@ -127,16 +142,25 @@ fn save_each(alloc: Global, folder: &mut MemoryFolder) -> Result<(), CheckpointE
     Ok(())
 }
 
-#[test]
-fn names_that_begin_with_another(rt: HostRuntime) -> Result<(), Fail> {
-    let alloc = rt.alloc();
+// The generation of what loads under each name, and its number.
+fn each_found(
+    alloc: Global,
+    folder: &mut MemoryFolder,
+) -> Result<[Option<(u64, u64)>; 3], CheckpointError> {
+    let first = found_in(&load_as(alloc, folder, "c")?);
+    let second = found_in(&load_as(alloc, folder, "c.before")?);
+    Ok([first, second, found_in(&load_as(alloc, folder, "c.0")?)])
+}
+
+fn are_kept_apart(alloc: Global) -> Result<bool, CheckpointError> {
     let mut folder = empty(alloc)?;
     save_each(alloc, &mut folder)?;
-    let found = [
-        found_in(&load_as(alloc, &mut folder, "c")?),
-        found_in(&load_as(alloc, &mut folder, "c.before")?),
-        found_in(&load_as(alloc, &mut folder, "c.0")?),
-    ];
-    assert_eq!(rt; found, [Some((2, 12)), Some((2, 22)), Some((2, 32))]);
+    let wanted = [Some((2, 12)), Some((2, 22)), Some((2, 32))];
+    Ok(each_found(alloc, &mut folder)? == wanted)
+}
+
+#[test]
+fn names_that_begin_with_another(rt: HostRuntime) -> Result<(), Fail> {
+    assert!(rt; are_kept_apart(rt.alloc())?);
     Ok(())
 }

@@ -1,5 +1,5 @@
 //! A folder without checkpoints, and how errors are shown.
-use crate::fixture::{empty, load_newest, save_next};
+use crate::fixture::{empty, has_none, load_newest, save_next};
 use lru_checkpoints::errors::{CheckpointError, CheckpointFile};
 use lru_folder::fault::FolderFault;
 use lru_folder::folder_call::FolderCall;
@@ -11,10 +11,7 @@ use std::test::Fail;
 
 #[test]
 fn a_folder_without_checkpoints(rt: HostRuntime) -> Result<(), Fail> {
-    let mut folder = empty(rt.alloc())?;
-    let loaded = load_newest(rt.alloc(), &mut folder)?;
-    let found = (loaded.newest.is_none(), loaded.passed.len());
-    assert_eq!(rt; found, (true, 0));
+    assert!(rt; has_none(rt.alloc(), empty(rt.alloc())?)?);
     Ok(())
 }
 

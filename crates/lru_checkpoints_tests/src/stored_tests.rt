@@ -24,84 +24,103 @@ fn comes_back<T: Stored + PartialEq + Drop>(alloc: Global, value: &T) -> Result<
     Ok(read == *value && rest == b"ab".as_slice())
 }
 
+// Whether a value is stored as these bytes, and loaded again.
+fn is_right<T: Stored + PartialEq + Drop>(
+    alloc: Global,
+    value: &T,
+    wanted: &[u8],
+) -> Result<bool, Fail> {
+    Ok(is_stored_as(alloc, value, wanted)? & comes_back(alloc, value)?)
+}
+
 #[test]
 fn numbers(rt: HostRuntime) -> Result<(), Fail> {
-    let value = 0x0807_0605_0403_0201u64;
     let bytes = [1, 2, 3, 4, 5, 6, 7, 8, b'a', b'b'];
-    let is_stored = is_stored_as(rt.alloc(), &value, &bytes)?;
-    assert!(rt; is_stored & comes_back(rt.alloc(), &value)?);
+    assert!(rt; is_right(rt.alloc(), &0x0807_0605_0403_0201u64, &bytes)?);
     Ok(())
+}
+
+// The number 200.
+static SMALL: [u8; 10] = [200, 0, 0, 0, 0, 0, 0, 0, b'a', b'b'];
+
+fn are_smaller_right(alloc: Global) -> Result<bool, Fail> {
+    let are_short = is_right(alloc, &200u8, &SMALL)? & is_right(alloc, &200u16, &SMALL)?;
+    Ok(are_short & is_right(alloc, &200u32, &SMALL)? & is_right(alloc, &200usize, &SMALL)?)
 }
 
 #[test]
 fn smaller_numbers(rt: HostRuntime) -> Result<(), Fail> {
-    let bytes = [200, 0, 0, 0, 0, 0, 0, 0, b'a', b'b'];
-    assert!(rt; is_stored_as(rt.alloc(), &200u8, &bytes)? & comes_back(rt.alloc(), &200u8)?);
-    assert!(rt; is_stored_as(rt.alloc(), &200u16, &bytes)? & comes_back(rt.alloc(), &200u16)?);
-    assert!(rt; is_stored_as(rt.alloc(), &200u32, &bytes)? & comes_back(rt.alloc(), &200u32)?);
-    assert!(rt; is_stored_as(rt.alloc(), &200usize, &bytes)? & comes_back(rt.alloc(), &200usize)?);
+    assert!(rt; are_smaller_right(rt.alloc())?);
     Ok(())
 }
 
 // What is one below zero is stored as bytes of ones, and two below it as one less, whatever the number's own bytes.
+static BELOW: [u8; 10] = [254, 255, 255, 255, 255, 255, 255, 255, b'a', b'b'];
+
+static LEAST: [u8; 10] = [0, 0, 0, 0, 0, 0, 0, 128, b'a', b'b'];
+
+fn are_stored_below_zero(alloc: Global) -> Result<bool, AllocError> {
+    let are_short = is_stored_as(alloc, &-2i8, &BELOW)? & is_stored_as(alloc, &-2i16, &BELOW)?;
+    let are_long = is_stored_as(alloc, &-2i32, &BELOW)? & is_stored_as(alloc, &-2i64, &BELOW)?;
+    let are_others = is_stored_as(alloc, &i64::MIN, &LEAST)?
+        & is_stored_as(alloc, &200i16, &SMALL)?;
+    Ok(are_short & are_long & are_others & is_stored_as(alloc, &-2isize, &BELOW)?)
+}
+
 #[test]
 fn numbers_below_zero(rt: HostRuntime) -> Result<(), Fail> {
-    let bytes = [254, 255, 255, 255, 255, 255, 255, 255, b'a', b'b'];
-    assert!(rt;
-        is_stored_as(rt.alloc(), &-2i8, &bytes)? & is_stored_as(rt.alloc(), &-2i16, &bytes)?
-    );
-    assert!(rt;
-        is_stored_as(rt.alloc(), &-2i32, &bytes)? & is_stored_as(rt.alloc(), &-2i64, &bytes)?
-    );
-    assert!(rt; is_stored_as(rt.alloc(), &-2isize, &bytes)?);
-    let least = [0, 0, 0, 0, 0, 0, 0, 128, b'a', b'b'];
-    assert!(rt; is_stored_as(rt.alloc(), &i64::MIN, &least)?);
-    let small = [200, 0, 0, 0, 0, 0, 0, 0, b'a', b'b'];
-    assert!(rt; is_stored_as(rt.alloc(), &200i16, &small)?);
+    assert!(rt; are_stored_below_zero(rt.alloc())?);
     Ok(())
+}
+
+// Whether all of these are loaded again.
+fn all_come_back<T: Stored + PartialEq + Drop>(alloc: Global, values: &[T]) -> Result<bool, Fail> {
+    for value in values {
+        if !comes_back(alloc, value)? {
+            return Ok(false);
+        }
+    }
+    Ok(true)
+}
+
+fn all_come_back_below_zero(alloc: Global) -> Result<bool, Fail> {
+    let are_short = all_come_back(alloc, &[i8::MIN, -1, 0, i8::MAX])?
+        & all_come_back(alloc, &[i16::MIN, -1, 0, i16::MAX])?;
+    let are_long = all_come_back(alloc, &[i32::MIN, -1, 0, i32::MAX])?
+        & all_come_back(alloc, &[i64::MIN, -1, 0, i64::MAX])?;
+    let are_wide = all_come_back(alloc, &[isize::MIN, -1, 0, isize::MAX])?
+        & all_come_back(alloc, &[i128::MIN, -1, 0, i128::MAX])?;
+    Ok(are_short & are_long & are_wide)
 }
 
 #[test]
 fn numbers_below_zero_come_back(rt: HostRuntime) -> Result<(), Fail> {
-    for number in [i8::MIN, -1, 0, i8::MAX] {
-        assert!(rt; comes_back(rt.alloc(), &number)?);
-    }
-    for number in [i16::MIN, -1, 0, i16::MAX] {
-        assert!(rt; comes_back(rt.alloc(), &number)?);
-    }
-    for number in [i32::MIN, -1, 0, i32::MAX] {
-        assert!(rt; comes_back(rt.alloc(), &number)?);
-    }
-    for number in [i64::MIN, -1, 0, i64::MAX] {
-        assert!(rt; comes_back(rt.alloc(), &number)?);
-    }
-    for number in [isize::MIN, -1, 0, isize::MAX] {
-        assert!(rt; comes_back(rt.alloc(), &number)?);
-    }
-    for number in [i128::MIN, -1, 0, i128::MAX] {
-        assert!(rt; comes_back(rt.alloc(), &number)?);
-    }
+    assert!(rt; all_come_back_below_zero(rt.alloc())?);
     Ok(())
+}
+
+#[rattlefmt::skip]
+static WIDE: [u8; 18] = [1, 2, 3, 4, 5, 6, 7, 8, 9, 10, 11, 12, 13, 14, 15, 16, b'a', b'b'];
+
+#[rattlefmt::skip]
+static WIDE_BELOW: [u8; 18] = [254, 255, 255, 255, 255, 255, 255, 255, 255, 255, 255, 255, 255, 255, 255, 255, b'a', b'b'];
+
+fn are_wide_right(alloc: Global) -> Result<bool, Fail> {
+    let is_wide = is_right(alloc, &0x100f_0e0d_0c0b_0a09_0807_0605_0403_0201u128, &WIDE)?;
+    let are_ends = all_come_back(alloc, &[0, u128::MAX])?;
+    Ok(is_wide & are_ends & is_stored_as(alloc, &-2i128, &WIDE_BELOW)?)
 }
 
 #[test]
 fn wide_numbers(rt: HostRuntime) -> Result<(), Fail> {
-    let value = 0x100f_0e0d_0c0b_0a09_0807_0605_0403_0201u128;
-    #[rattlefmt::skip]
-    let bytes = [1, 2, 3, 4, 5, 6, 7, 8, 9, 10, 11, 12, 13, 14, 15, 16, b'a', b'b'];
-    assert!(rt; is_stored_as(rt.alloc(), &value, &bytes)? & comes_back(rt.alloc(), &value)?);
-    assert!(rt; comes_back(rt.alloc(), &0u128)? & comes_back(rt.alloc(), &u128::MAX)?);
-    #[rattlefmt::skip]
-    let below = [254, 255, 255, 255, 255, 255, 255, 255, 255, 255, 255, 255, 255, 255, 255, 255, b'a', b'b'];
-    assert!(rt; is_stored_as(rt.alloc(), &-2i128, &below)?);
+    assert!(rt; are_wide_right(rt.alloc())?);
     Ok(())
 }
 
 #[test]
 fn truths(rt: HostRuntime) -> Result<(), Fail> {
     let bytes = [1, 0, 0, 0, 0, 0, 0, 0, b'a', b'b'];
-    let is_stored = is_stored_as(rt.alloc(), &true, &bytes)?;
-    assert!(rt; is_stored & comes_back(rt.alloc(), &true)? & comes_back(rt.alloc(), &false)?);
+    assert!(rt; is_right(rt.alloc(), &true, &bytes)? & comes_back(rt.alloc(), &false)?);
     Ok(())
 }
 
@@ -109,50 +128,59 @@ fn truths(rt: HostRuntime) -> Result<(), Fail> {
 fn what_may_be_there(rt: HostRuntime) -> Result<(), Fail> {
     let none: Option<u64> = None;
     let bytes = [0, 0, 0, 0, 0, 0, 0, 0, b'a', b'b'];
-    let is_stored = is_stored_as(rt.alloc(), &none, &bytes)?;
-    assert!(rt; is_stored & comes_back(rt.alloc(), &none)? & comes_back(rt.alloc(), &Some(7u64))?);
+    assert!(rt; is_right(rt.alloc(), &none, &bytes)? & comes_back(rt.alloc(), &Some(7u64))?);
     Ok(())
+}
+
+fn is_shared_right(alloc: Global) -> Result<bool, Fail> {
+    let shared = Arc::new(alloc, 9u64)?;
+    let bytes = [9, 0, 0, 0, 0, 0, 0, 0, b'a', b'b'];
+    let is_stored = is_stored_as(alloc, &shared, &bytes)?;
+    let (read, _) = Arc::<u64>::load(alloc, &bytes)?;
+    Ok(is_stored & (*read == 9))
 }
 
 #[test]
 fn what_is_shared(rt: HostRuntime) -> Result<(), Fail> {
-    let shared = Arc::new(rt.alloc(), 9u64)?;
-    let bytes = [9, 0, 0, 0, 0, 0, 0, 0, b'a', b'b'];
-    let is_stored = is_stored_as(rt.alloc(), &shared, &bytes)?;
-    let (read, _) = Arc::<u64>::load(rt.alloc(), &bytes)?;
-    assert!(rt; is_stored & (*read == 9));
+    assert!(rt; is_shared_right(rt.alloc())?);
     Ok(())
 }
 
 #[test]
 fn nothing(rt: HostRuntime) -> Result<(), Fail> {
-    let is_stored = is_stored_as(rt.alloc(), &(), b"ab")?;
-    assert!(rt; is_stored & comes_back(rt.alloc(), &())?);
+    assert!(rt; is_right(rt.alloc(), &(), b"ab")?);
     Ok(())
+}
+
+fn are_bytes_right(alloc: Global) -> Result<bool, Fail> {
+    let bytes = [3, 0, 0, 0, 0, 0, 0, 0, 0, 255, 7, b'a', b'b'];
+    is_right(alloc, &Vec::from_slice(alloc, &[0, 255, 7])?, &bytes)
 }
 
 #[test]
 fn bytes(rt: HostRuntime) -> Result<(), Fail> {
-    let value = Vec::from_slice(rt.alloc(), &[0, 255, 7])?;
-    let bytes = [3, 0, 0, 0, 0, 0, 0, 0, 0, 255, 7, b'a', b'b'];
-    let is_stored = is_stored_as(rt.alloc(), &value, &bytes)?;
-    assert!(rt; is_stored & comes_back(rt.alloc(), &value)?);
+    assert!(rt; are_bytes_right(rt.alloc())?);
     Ok(())
+}
+
+fn are_texts_right(alloc: Global) -> Result<bool, Fail> {
+    let bytes = [3, 0, 0, 0, 0, 0, 0, 0, b'n', 0xC3, 0xA9, b'a', b'b'];
+    is_right(alloc, &String::from_str(alloc, "né")?, &bytes)
 }
 
 #[test]
 fn texts(rt: HostRuntime) -> Result<(), Fail> {
-    let value = String::from_str(rt.alloc(), "né")?;
-    let bytes = [3, 0, 0, 0, 0, 0, 0, 0, b'n', 0xC3, 0xA9, b'a', b'b'];
-    let is_stored = is_stored_as(rt.alloc(), &value, &bytes)?;
-    assert!(rt; is_stored & comes_back(rt.alloc(), &value)?);
+    assert!(rt; are_texts_right(rt.alloc())?);
     Ok(())
+}
+
+fn do_pairs_come_back(alloc: Global) -> Result<bool, Fail> {
+    comes_back(alloc, &(String::from_str(alloc, "k")?, (5u64, 6u64)))
 }
 
 #[test]
 fn pairs(rt: HostRuntime) -> Result<(), Fail> {
-    let value = (String::from_str(rt.alloc(), "k")?, (5u64, 6u64));
-    assert!(rt; comes_back(rt.alloc(), &value)?);
+    assert!(rt; do_pairs_come_back(rt.alloc())?);
     Ok(())
 }
 
@@ -188,9 +216,18 @@ fn are_damaged_below_zero(alloc: Global) -> [bool; 6] {
     ]
 }
 
+// The same of what is wide: one and a half, and less than one, of the words that it is stored as.
+fn are_wide_damaged(alloc: Global) -> bool {
+    is_damaged::<u128>(alloc, &[1; 15]) & is_damaged::<u128>(alloc, &[1; 7])
+}
+
 #[test]
 fn what_is_no_value(rt: HostRuntime) {
-    assert_eq!(rt; are_damaged(rt.alloc()), [true; 8]);
-    assert_eq!(rt; are_damaged_below_zero(rt.alloc()), [true; 6]);
-    assert!(rt; is_damaged::<u128>(rt.alloc(), &[1; 15]) & is_damaged::<u128>(rt.alloc(), &[1; 7]));
+    let alloc = rt.alloc();
+    let damaged = (
+        are_damaged(alloc),
+        are_damaged_below_zero(alloc),
+        are_wide_damaged(alloc),
+    );
+    assert_eq!(rt; damaged, ([true; 8], [true; 6], true));
 }

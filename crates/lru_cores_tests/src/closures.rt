@@ -1,4 +1,4 @@
-// Calls with closures: what they are handed, what comes of it, and which are not called.
+//! Calls with closures: what they are handed, what comes of it, and which are not called.
 use crate::steps::shown;
 use lru_cores::lru_core::LruCore;
 use lru_shard::unit::{Cause, Refused};

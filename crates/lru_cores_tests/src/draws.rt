@@ -1,4 +1,4 @@
-// Evictions of two shards: how many rows leave, and how the draws spread them.
+//! Evictions of two shards: how many rows leave, and how the draws spread them.
 use lru_cores::lru_core::LruCore;
 use rand::rngs::StdRng;
 use rand_core::SeedableRng;

@@ -1,4 +1,4 @@
-// Two cores that do the same calls: the rows of the one with the smaller limits are a beginning of the other's.
+//! Two cores that do the same calls: the rows of the one with the smaller limits are a beginning of the other's.
 use crate::steps::{fault, rows_of};
 use lru_cores::lru_core::LruCore;
 use lru_runs::inclusion::inclusion_law;

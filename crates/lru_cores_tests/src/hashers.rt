@@ -1,4 +1,4 @@
-// Orders over a hasher of the caller's: SipHash-1-3.
+//! Orders over a hasher of the caller's: SipHash-1-3.
 use lru_cores::lru_core::LruCore;
 use lru_shard::unit::LruUnit;
 use lru_tiers::tiered::TieredCore;

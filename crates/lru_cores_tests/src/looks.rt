@@ -1,4 +1,4 @@
-// What a core shows of its shards and limits.
+//! What a core shows of its shards and limits.
 ghost use Rattle.std.specs.Prelude.{◌<◌};
 
 use lru_cores::lru_core::LruCore;

@@ -1,4 +1,4 @@
-// The worked rows of a core.
+//! The worked rows of a core.
 ghost use Rattle.std.specs.Prelude.{◌<◌};
 
 use crate::steps::faults;

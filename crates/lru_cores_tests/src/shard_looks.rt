@@ -1,4 +1,4 @@
-// What a shard shows of its ends, and its rows from both ends.
+//! What a shard shows of its ends, and its rows from both ends.
 use lru_shard::unit::{LruUnit, Refused};
 use std::alloc::Global;
 use std::test::Fail;

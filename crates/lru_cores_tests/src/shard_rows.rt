@@ -1,4 +1,4 @@
-// Worked rows of one shard, each a list of calls.
+//! Worked rows of one shard, each a list of calls.
 use crate::shard_steps::{Call, Step, fault};
 use lru_shard::unit::{Cause, LruUnit};
 use std::alloc::{AllocError, Global};

@@ -1,4 +1,4 @@
-// A list of calls, done one by one: the text of each answer, and of the shard after it.
+//! A list of calls, done one by one: the text of each answer, and of the shard after it.
 use lru_shard::unit::LruUnit;
 use std::alloc::{AllocError, Global};
 

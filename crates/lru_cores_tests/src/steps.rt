@@ -1,4 +1,4 @@
-// A list of calls, done one by one: the text of each reply, and of the core after it.
+//! A list of calls, done one by one: the text of each reply, and of the core after it.
 ghost use Rattle.std.specs.Prelude.{◌<◌};
 
 use lru_cores::lru_core::LruCore;

@@ -1,4 +1,4 @@
-// Worked rows of two tiers, each a list of calls.
+//! Worked rows of two tiers, each a list of calls.
 use crate::tier_steps::{Call, Step, fault};
 use lru_tiers::tiered::TieredCore;
 use rand::rngs::StdRng;

@@ -1,4 +1,4 @@
-// A list of calls, done one by one: the text of each answer, and of both tiers after it.
+//! A list of calls, done one by one: the text of each answer, and of both tiers after it.
 use lru_cores::lru_core::LruCore;
 use lru_tiers::tiered::TieredCore;
 use rand::rngs::StdRng;

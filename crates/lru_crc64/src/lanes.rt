@@ -1,5 +1,5 @@
-// Bytes by tables, eight at a time, and four such words at once where there are many. No word waits for the table of another
-// one, so the tables are read side by side.
+//! Bytes by tables, eight at a time, and four such words at once where there are many. No word waits for the table of another
+//! one, so the tables are read side by side.
 ghost use Rattle.std.specs.Prelude.{◌≡◌, ℕ, length, bit_xor};
 ghost use Rattle.std.specs.List.{fold};
 ghost use Rattle.lru_crc64.specs.Crc.{step};

@@ -1,4 +1,4 @@
-// Where a state comes to that begins with one byte: in row k, at the place of the byte, after so many steps of a bit.
+//! Where a state comes to that begins with one byte: in row k, at the place of the byte, after so many steps of a bit.
 
 // After 8 * k + 8 steps of a bit.
 #[rattlefmt::skip]

@@ -1,5 +1,5 @@
-// Many bytes without tables. The polynomial divides one of ten terms, each a whole number of bytes from the first one, so a byte
-// may go where it is added to nine others behind it: what is left of many bytes is a window of the last ones.
+//! Many bytes without tables. The polynomial divides one of ten terms, each a whole number of bytes from the first one, so a byte
+//! may go where it is added to nine others behind it: what is left of many bytes is a window of the last ones.
 ghost use Rattle.std.specs.Prelude.{◌≡◌, ◌+◌, ◌<◌, ◌≤◌, length, take, drop, replicate, slice_index, bit_xor};
 ghost use Rattle.std.specs.List.{fold};
 ghost use Rattle.lru_crc64.specs.Crc.{all_ones, step};

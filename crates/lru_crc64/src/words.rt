@@ -1,4 +1,4 @@
-// Steps of one byte and of many, by tables.
+//! Steps of one byte and of many, by tables.
 ghost use Rattle.std.specs.Prelude.{◌≡◌, ◌+◌, ◌*◌, ◌%◌, ◌^◌, ◌<◌, ℕ, length, bit_xor};
 ghost use Rattle.std.specs.List.{fold};
 ghost use Rattle.lru_crc64.specs.Crc.{bit_steps, step};

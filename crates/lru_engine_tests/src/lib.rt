@@ -1,4 +1,6 @@
 //! Tests of `lru_engine`: the program's answers over folders in memory, and where something fails.
+//!
+//! What is expected is worked out by hand, or is what a plain simulation answers, and never what the program answered.
 #![tactic(auto)]
 
 #[cfg(test)]

@@ -1,4 +1,4 @@
-// What the folders answer.
+//! What the folders answer.
 use lru_test_folders::told::told_names;
 use pingora_lru_files::persistence::{Folder, FolderFault, HostFolder, MemoryFolder};
 use std::alloc::{AllocError, Global};

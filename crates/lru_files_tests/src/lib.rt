@@ -1,4 +1,6 @@
 //! Tests of the folders (which are synced, how files are listed), of the texts of errors, and of the snapshots of cores.
+//!
+//! What is expected is worked out by hand, or is what a plain simulation answers, and never what the program answered.
 #![tactic(auto)]
 
 #[cfg(test)]

@@ -1,4 +1,4 @@
-// What the bytes of a shard are, and what loading them does.
+//! What the bytes of a shard are, and what loading them does.
 ghost use Rattle.std.specs.Prelude.{◌<◌};
 
 use log::sink;

@@ -1,4 +1,4 @@
-// The texts of faults, failures and errors, each once.
+//! The texts of faults, failures and errors, each once.
 use pingora_lru_files::persistence::{
     FolderFault, ShardFileError, ShardLoadFailure, ShardSaveError, ShardSaveFailure,
     ShardSaveSetupError,

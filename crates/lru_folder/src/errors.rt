@@ -1,4 +1,4 @@
-// What can go wrong with a shard's file, with a shard, and with a save as a whole.
+//! What can go wrong with a shard's file, with a shard, and with a save as a whole.
 use crate::fault::FolderFault;
 use std::error::Error;
 use std::fmt;

@@ -1,4 +1,4 @@
-// How a call of a folder fails.
+//! How a call of a folder fails.
 ghost use Rattle.std.specs.Prelude.{◌≡◌};
 ghost use Rattle.lru_folder.specs.declared.fault.FolderFault.TheVariants.{Memory};
 

@@ -1,4 +1,4 @@
-// A folder, with what a stop or a loss of power at any moment may leave.
+//! A folder, with what a stop or a loss of power at any moment may leave.
 ghost use Rattle.std.specs.Prelude.{◌≡◌, ◌≢◌, ◌↔◌, ℕ, List, None, Some, IfOk, IsTrue, OnOk, IsErrOf, MatchResult, length, map};
 ghost use Rattle.std.specs.FinMap.{get};
 ghost use Rattle.lru_folder.specs.Files.{created, appended, renamed, removed, AllOrNone, SomeFront, Same};

@@ -1,4 +1,4 @@
-// The calls of a folder, by name.
+//! The calls of a folder, by name.
 
 /// A call of a folder.
 #[derive(Clone, Copy, Debug, PartialEq, Eq)]

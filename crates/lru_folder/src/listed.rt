@@ -1,4 +1,4 @@
-// What a folder lists.
+//! What a folder lists.
 
 /// A file of a folder.
 #[derive(Debug, Drop)]

@@ -1,4 +1,4 @@
-// The names of a shard's files.
+//! The names of a shard's files.
 ghost use Rattle.std.specs.Prelude.{◌≡◌, IfOk, string_bytes};
 ghost use Rattle.lru_folder.specs.Names.{is_temp_name, path_text, shard_path, shard_text, temp_text};
 

@@ -1,4 +1,4 @@
-// What a save, a load and a cleanup report.
+//! What a save, a load and a cleanup report.
 ghost use Rattle.std.specs.Prelude.{◌≡◌, []};
 
 use crate::errors::{ShardFileError, ShardLoadFailure, ShardSaveFailure};

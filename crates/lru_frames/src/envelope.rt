@@ -1,4 +1,4 @@
-// What stands around the content of a frame.
+//! What stands around the content of a frame.
 ghost use Rattle.std.specs.Prelude.{◌≡◌, ◌≢◌, ◌+◌, ◌<◌, ◌^◌, ◌++◌, ℕ, List, length, ◌≤◌, MatchResult, MatchOption, IfSome, IfErr, OnOk, take, drop, vec_len, Err};
 ghost use Rattle.lru_frames.specs.declared.errors.Part.TheVariants.{Length};
 ghost use Rattle.lru_frames.specs.Words.{word};

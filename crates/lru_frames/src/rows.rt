@@ -1,4 +1,4 @@
-// Rows one behind the other.
+//! Rows one behind the other.
 ghost use Rattle.std.specs.Prelude.{◌≡◌, ◌++◌, ℕ, List, length, OnOk, IfOk, Err};
 ghost use Rattle.std.specs.List.{flat_map, AllByRecursion};
 ghost use Rattle.lru_frames.specs.declared.row.Row.{Row};

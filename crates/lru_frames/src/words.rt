@@ -1,4 +1,4 @@
-// Numbers in 8 or 16 bytes each, the lowest byte first, and bytes behind their count.
+//! Numbers in 8 or 16 bytes each, the lowest byte first, and bytes behind their count.
 ghost use Rattle.std.specs.Prelude.{◌≡◌, ◌<◌, ◌^◌, ◌++◌, ℕ, List, length, OnOk, MatchOption};
 ghost use Rattle.lru_frames.specs.Words.{word, counted};
 ghost use Rattle.lru_frames.specs.Signed.{signed_word, wide_word};

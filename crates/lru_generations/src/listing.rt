@@ -1,4 +1,4 @@
-// The files of a checkpoint that a folder lists.
+//! The files of a checkpoint that a folder lists.
 ghost use Rattle.std.specs.Prelude.{◌≡◌, ◌↔◌, false, IfErr, IfOk, OnOk};
 ghost use Rattle.lru_folder.specs.Names.{has_slash};
 ghost use Rattle.lru_manifests.specs.Listing.{HasParts};

@@ -1,4 +1,4 @@
-// Files of a checkpoint removed.
+//! Files of a checkpoint removed.
 ghost use Rattle.std.specs.Prelude.{◌≡◌, ◌↔◌, ℕ, List, None, Contains, IfErr, IfOk, OnOk, string_bytes};
 ghost use Rattle.std.specs.FinMap.{get};
 ghost use Rattle.lru_manifests.specs.declared.names.PartName.{PartName};

@@ -1,4 +1,4 @@
-// A generation saved for good.
+//! A generation saved for good.
 ghost use Rattle.std.specs.Prelude.{◌≡◌, ◌↔◌, ◌<◌, ◌≤◌, ◌^◌, ℕ, suc, List, false, length, IfErr, IfOk, OnOk, IsTrue};
 ghost use Rattle.lru_folder.specs.Files.{Files};
 ghost use Rattle.lru_folder.specs.Names.{has_slash};

@@ -1,4 +1,4 @@
-// What a save finds in its folder.
+//! What a save finds in its folder.
 ghost use Rattle.std.specs.Prelude.{◌≡◌, ◌↔◌, ◌<◌, ◌^◌, ℕ, List, false, IfErr, IfOk, OnOk, option_copied};
 ghost use Rattle.lru_folder.specs.Files.{Files};
 ghost use Rattle.lru_folder.specs.Names.{has_slash};

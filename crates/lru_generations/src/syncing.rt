@@ -1,4 +1,4 @@
-// The names of a checkpoint's files synced, and their folder claimed.
+//! The names of a checkpoint's files synced, and their folder claimed.
 ghost use Rattle.std.specs.Prelude.{◌≡◌, ◌↔◌, ℕ, List, IfErr, OnOk};
 ghost use Rattle.lru_folder.specs.Files.{Same};
 ghost use Rattle.lru_folder.specs.Folder.{Passes};

@@ -1,4 +1,4 @@
-// Open files that tell others that they are in use.
+//! Open files that tell others that they are in use.
 use std::fs::{File, TryLockError};
 
 /// A file that one open of it can have for itself.

@@ -1,4 +1,4 @@
-// The folder of the operating system.
+//! The folder of the operating system.
 ghost use Rattle.std.specs.Prelude.{◌≡◌, ◌⊎◌, ℕ, String, string_bytes, List, [], ◌∷◌, true, false, length, map, Some, None, Ok, IfErr, IfOk, IsSomeAnd, MatchResult, OnErr, OnOk};
 ghost use Rattle.std.specs.declared.alloc.Global.{Global};
 ghost use Rattle.lru_folder.specs.Listings.{name_of};

@@ -1,4 +1,4 @@
-// The open file of a folder of the operating system, with its path.
+//! The open file of a folder of the operating system, with its path.
 ghost use Rattle.std.specs.Prelude.{◌≡◌};
 
 #[derive(Drop)]

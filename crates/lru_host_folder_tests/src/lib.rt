@@ -1,4 +1,6 @@
 //! Tests of `lru_host_folder` over a system that answers by a script.
+//!
+//! What is expected is worked out by hand, or is what a plain simulation answers, and never what the program answered.
 #![tactic(auto)]
 
 #[cfg(test)]

@@ -1,5 +1,8 @@
 //! An actor's messages with their log: who puts a message knows that it stands there, who takes messages knows which they are,
 //! and who asked learns of which beginning of the log the reply tells.
+//!
+//! Its calls are exact. `exact_law`: where no message was refused, an answer is that of the rows which the messages leave. It
+//! stands on logs (`lru_logs`) and on the law of the actors (`lru_schedules`).
 #![tactic(auto)]
 
 mod caller;

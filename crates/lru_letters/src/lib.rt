@@ -1,4 +1,7 @@
 //! Messages on their way to an actor, each with the cell in which its reply is given.
+//!
+//! A cell takes the first reply that is given, and wakes who waits for it. That a reply is given at all is only tested. It
+//! stands on the messages of `lru_actors`.
 #![tactic(auto)]
 
 mod letter;

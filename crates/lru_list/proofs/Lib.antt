@@ -1,4 +1,5 @@
 pub mod Chains
+pub mod Insertions
 pub mod LinkedLaws
 pub mod LinkedLives
 pub mod LinkedModels

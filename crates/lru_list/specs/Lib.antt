@@ -1,3 +1,4 @@
 pub mod Linked
 pub mod LinkedLends
 pub mod Representation
+pub mod Insertions

@@ -3,7 +3,7 @@
 //! The nodes lie in one vector and are joined by 32-bit links. Index 0 is the head sentinel, index 1 the tail
 //! sentinel, and items have the indices from 2 on. The slot of a removed item is used again: the one that was
 //! freed last comes first.
-ghost use Rattle.std.specs.Prelude.{◌≡◌, ◌≢◌, ◌<◌, ◌≤◌, ◌==◌, not, [], length, take, vec_len, slice_set, get_or, IfOk, IsSome, is_some, IfSome, option_copied};
+ghost use Rattle.std.specs.Prelude.{◌≡◌, ◌≢◌, ◌⊎◌, ◌<◌, ◌≤◌, ◌==◌, not, [], length, take, vec_len, slice_set, get_or, IfOk, IsSome, is_some, IfSome, option_copied};
 ghost use Rattle.std.specs.List.{list_any};
 ghost use Rattle.std.specs.Option.{option_copied_mut};
 ghost use Rattle.std.specs.Borrow.{sem};
@@ -11,6 +11,7 @@ ghost use Rattle.std.specs.Iterator.{at_most, UpTo};
 ghost use Rattle.std.specs.Iterator.SizeHint.{IsWithinCount};
 ghost use Rattle.std.specs.Map.Iter.{TakesFirst, TakesLast, ShowsInOrder, ShowsInReverse, deref};
 ghost use Rattle.lru_list.specs.Linked.{Linked, linked, no_slot, items_of, indices_of, itself, IsNumbered, IsLive, IsPlace, head_of, tail_of, next_of, prev_of, item_at, pushed_head, pushed_tail, promoted, demoted, with_its_item, Pushes, Removes, PopsTail, item_of, number_of};
+ghost use Rattle.lru_list.specs.Insertions.{inserted};
 ghost use Rattle.lru_list.specs.Representation.Nodes.{nexts, prevs, items, at as link_at, TakesSlot};
 
 use std::alloc::{AllocError, Global};
@@ -285,6 +286,28 @@ impl<K: Default + Drop> LinkedList<K> {
         };
         let last = self.nodes[TAIL as usize].prev;
         link_between(&mut self.nodes, last, place, TAIL);
+        self.len += 1;
+        Ok(place as usize)
+    }
+
+    /// Puts an item before that of an index, and answers its own index as `push_head` does.
+    ///
+    /// The index has to be of an item in the list, as for `remove`, or 1, which is behind the last item.
+    ///
+    /// # Errors
+    ///
+    /// As for `push_head`.
+    pub fn insert_before(&mut self, item: K, index: Index) -> Result<Index, PushError<K>>
+        requires { IsLive self.old index ⊎ (index ≡ 1) }
+        ensures pushes { Pushes self.old (inserted self.old index item) item result self.new }
+        ensures numbered { IsNumbered self.new }
+    {
+        let place = match take_slot(&mut self.nodes, &mut self.last_freed, item) {
+            Ok(place) => place,
+            Err(refused) => return Err(refused),
+        };
+        let before = self.nodes[index].prev;
+        link_between(&mut self.nodes, before, place, index as u32);
         self.len += 1;
         Ok(place as usize)
     }

@@ -1,4 +1,4 @@
-// Temp files that a save has left, and their removal.
+//! Temp files that a save has left, and their removal.
 ghost use Rattle.std.specs.Prelude.{◌≡◌, ◌↔◌, ◌+◌, ◌<◌, ◌≤◌, [], ◌∷◌, ◌++◌, List, IfOk, OnErr, count_by, filter, is_none, map, replicate, string_bytes, vec_capacity, vec_len};
 ghost use Rattle.std.specs.List.{filter_map};
 ghost use Rattle.lru_folder.specs.Blames.{blame_of, ReadDir, ReadDirEntry};

@@ -1,4 +1,4 @@
-// Shards loaded from their files.
+//! Shards loaded from their files.
 ghost use Rattle.std.specs.Prelude.{◌≡◌, ◌≢◌, ◌↔◌, ◌<◌, ◌≤◌, ℕ, List, [], false, length, IfOk, IfErr, IsErrAnd, Option, option_map, string_bytes, vec_len};
 ghost use Rattle.lru_folder.specs.Blames.{failed_call};
 ghost use Rattle.std.specs.FinMap.{get};

@@ -1,4 +1,7 @@
 //! N shards for many threads, each behind a lock of its own.
+//!
+//! It holds the order `Lru`. What a call does under a lock is proved as of a core's shard; how threads interleave is only
+//! tested. It stands on one shard (`lru_shard`), short locks (`lru_short_locks`) and batches (`lru_batches`).
 #![tactic(auto)]
 
 mod locked;

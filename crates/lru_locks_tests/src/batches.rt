@@ -1,4 +1,4 @@
-// Batches of admissions: by one caller as a core admits one after the other, and by two threads with each pair counted.
+//! Batches of admissions: by one caller as a core admits one after the other, and by two threads with each pair counted.
 use crate::admissions::{Tally, rest_of};
 use crate::shown::{rows_of, tell_core_state, tell_state};
 use lru_batches::{Admission, Fate};

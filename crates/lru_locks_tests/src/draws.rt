@@ -1,4 +1,4 @@
-// Evictions of several shards of an `Lru` with one caller: how many rows leave, and how the draws spread them.
+//! Evictions of several shards of an `Lru` with one caller: how many rows leave, and how the draws spread them.
 use lru_cores::lru_core::LruCore;
 use lru_locks::lru::Lru;
 use rand::rngs::StdRng;

@@ -1,4 +1,4 @@
-// What an `Lru` leaves after the calls of two threads: the counters are the sums over its shards.
+//! What an `Lru` leaves after the calls of two threads: the counters are the sums over its shards.
 use lru_locks::lru::Lru;
 use lru_rules::totals::{Totals, Units};
 use lru_shard::unit::LruUnit;

@@ -1,4 +1,6 @@
 //! Tests of `lru_locks`: an `Lru` by its worked rows, beside a core, and under two threads.
+//!
+//! What is expected is worked out by hand, or is what a plain simulation answers, and never what the program answered.
 #![tactic(auto)]
 
 #[cfg(test)]

@@ -1,4 +1,4 @@
-// Drawn calls on an `Lru` and on a core answer the same, and leave the same, by one thread and by two.
+//! Drawn calls on an `Lru` and on a core answer the same, and leave the same, by one thread and by two.
 ghost use Rattle.lru_runs.specs.Calls.{IsAllowed};
 
 use crate::shown::{tell_core_state, tell_state, text_of};

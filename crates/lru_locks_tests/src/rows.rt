@@ -1,4 +1,4 @@
-// The worked rows of a core, done by an `Lru` with one caller.
+//! The worked rows of a core, done by an `Lru` with one caller.
 ghost use Rattle.std.specs.Prelude.{◌<◌};
 
 use crate::steps::tell_faults;

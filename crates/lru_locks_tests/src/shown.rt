@@ -1,4 +1,4 @@
-// What an `Lru` and a core show of their rows and counters.
+//! What an `Lru` and a core show of their rows and counters.
 ghost use Rattle.std.specs.Prelude.{◌<◌};
 
 use lru_cores::lru_core::LruCore;

@@ -1,4 +1,4 @@
-// A list of calls on an `Lru`, done one by one: the text of each reply, and of the `Lru` after it.
+//! A list of calls on an `Lru`, done one by one: the text of each reply, and of the `Lru` after it.
 use crate::shown::{rows_of, text_of};
 use lru_locks::lru::Lru;
 use lru_runs::calls::{Call, Reply};

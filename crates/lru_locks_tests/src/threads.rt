@@ -1,4 +1,4 @@
-// Two threads at two shards work at once.
+//! Two threads at two shards work at once.
 use crate::shown::rows_of;
 use lru_locks::lru::Lru;
 use std::alloc::{AllocError, Global};

@@ -35,16 +35,14 @@ fn unfair<R: Wait>(rt: &R, mailbox: &Mailbox<u8>) -> u8 {
 }
 
 // With memory to be had this says little; `rt try --test --fail-alloc N` refuses each request in turn.
+fn is_open_fair<R: Wait>(rt: &R, alloc: Global) -> bool {
+    let mailbox = Mailbox::new(alloc);
+    (unfair(rt, &mailbox) == 0) & is_fair(mailbox.push_evict(rt, 7), 7)
+}
+
 #[test]
 fn open_mailbox_refuses_for_want_of_memory_alone(rt: HostRuntime) {
-    let mailbox = Mailbox::new(rt.alloc());
-    assert_eq!(rt;
-        (
-            unfair(&rt, &mailbox),
-            is_fair(mailbox.push_evict(&rt, 7), 7)
-        ),
-        (0, true)
-    );
+    assert!(rt; is_open_fair(&rt, rt.alloc()));
 }
 
 // What a closed mailbox answers, in which one message waits.
@@ -56,15 +54,21 @@ fn closed<R: Wait>(rt: &R, mailbox: &Mailbox<u8>) -> [Option<(u8, u8)>; 2] {
     ]
 }
 
-#[test]
-fn closed_mailbox_refuses_as_closed(rt: HostRuntime) {
-    let mailbox = Mailbox::new(rt.alloc());
-    let _first = mailbox.push(&rt, 4);
-    assert_eq!(rt; closed(&rt, &mailbox), [Some((2, 5)), Some((2, 6))]);
-    assert_eq!(rt; (mailbox.pop(&rt), mailbox.pop(&rt)), (Some(4), None));
+// What it answers, and what is taken from it then.
+fn closed_and_emptied<R: Wait>(rt: &R, alloc: Global) -> ([Option<(u8, u8)>; 2], [Option<u8>; 2]) {
+    let mailbox = Mailbox::new(alloc);
+    let _first = mailbox.push(rt, 4);
+    let answers = closed(rt, &mailbox);
+    (answers, [mailbox.pop(rt), mailbox.pop(rt)])
 }
 
-// How many of 70 messages are taken at once, and the last of them.
+#[test]
+fn closed_mailbox_refuses_as_closed(rt: HostRuntime) {
+    let wanted = ([Some((2, 5)), Some((2, 6))], [Some(4), None]);
+    assert_eq!(rt; closed_and_emptied(&rt, rt.alloc()), wanted);
+}
+
+// How many messages are taken at once, and the last of them.
 fn taken_at_once<R: Wait>(
     rt: &R,
     mailbox: &Mailbox<u8>,
@@ -75,13 +79,27 @@ fn taken_at_once<R: Wait>(
     Ok((count, taken.pop()))
 }
 
+// A mailbox with 70 messages.
+fn filled<R: Wait>(rt: &R, alloc: Global) -> Mailbox<u8> {
+    let mailbox = Mailbox::new(alloc);
+    for message in 0..70 {
+        let _pushed = mailbox.push(rt, message);
+    }
+    mailbox
+}
+
+// What is taken of 70 messages at once, and then of the rest.
+fn taken_twice<R: Wait>(rt: &R, alloc: Global) -> Result<[(usize, Option<u8>); 2], Fail> {
+    let mailbox = filled(rt, alloc);
+    let first = taken_at_once(rt, &mailbox, alloc)?;
+    Ok([first, taken_at_once(rt, &mailbox, alloc)?])
+}
+
 #[test]
 fn takes_as_many_as_are_asked_for(rt: HostRuntime) -> Result<(), Fail> {
-    let mailbox = Mailbox::new(rt.alloc());
-    for message in 0..70 {
-        let _pushed = mailbox.push(&rt, message);
-    }
-    assert_eq!(rt; taken_at_once(&rt, &mailbox, rt.alloc())?, (64, Some(63)));
-    assert_eq!(rt; taken_at_once(&rt, &mailbox, rt.alloc())?, (6, Some(69)));
+    assert_eq!(rt;
+        taken_twice(&rt, rt.alloc())?,
+        [(64, Some(63)), (6, Some(69))]
+    );
     Ok(())
 }

@@ -86,17 +86,30 @@ fn row_of_one<B: Registry, R: Wait>(
     Ok(Some((taken, lost, len, settled)))
 }
 
+static PUT_BY_ONE: [(u64, u64, usize); 3] = [(0, 5, 1), (1, 6, 2), (2, 7, 3)];
+
+static TAKEN_BY_ONE: [(u64, u64, usize); 1] = [(0, 5, 1)];
+
+static LOST_BY_ONE: [(u64, u64, usize); 2] = [(1, 6, 2), (2, 7, 3)];
+
+fn is_row_settled(settled: &Settled<u8>) -> bool {
+    let are_with_seats = has(&settled.puts, 0, &PUT_BY_ONE) & has(&settled.takes, 0, &TAKEN_BY_ONE);
+    are_with_seats & are(&settled.lost, &LOST_BY_ONE) & settled.left.is_empty()
+}
+
+fn is_row_told<R: Wait>(rt: &R, alloc: Global) -> Result<bool, AllocError> {
+    let blanks = Blanks::new(alloc, 1, 1)?;
+    match row_of_one::<Brand, _>(rt, alloc, blanks)? {
+        Some((taken, lost, len, settled)) => Ok(
+            ((taken, lost, len) == ((0, 50), 2, 0)) & is_row_settled(&settled),
+        ),
+        None => Ok(false),
+    }
+}
+
 #[test]
 fn every_slip_is_told(rt: HostRuntime) -> Result<(), Fail> {
-    let alloc: Global = rt.alloc();
-    let blanks = Blanks::new(alloc, 1, 1)?;
-    let Some((taken, lost, len, settled)) = row_of_one::<Brand, _>(&rt, alloc, blanks)? else {
-        panic!(rt; "no row");
-    };
-    assert_eq!(rt; (taken, lost, len), ((0, 50), 2, 0));
-    assert!(rt; has(&settled.puts, 0, &[(0, 5, 1), (1, 6, 2), (2, 7, 3)]));
-    assert!(rt; has(&settled.takes, 0, &[(0, 5, 1)]));
-    assert!(rt; are(&settled.lost, &[(1, 6, 2), (2, 7, 3)]) && settled.left.is_empty());
+    assert!(rt; is_row_told(&rt, rt.alloc())?);
     Ok(())
 }
 
@@ -142,18 +155,34 @@ fn turns_of_two<B: Registry, R: Wait>(
     Ok(settled(ledger, puts, takes, 2).map(|settled| (taken, settled)))
 }
 
+// The slips of the first and of the second putter, whose pairs are taken by the second and by the first taker.
+static PUT_BY_FIRST: [(u64, u64, usize); 2] = [(0, 5, 7), (2, 7, 3)];
+
+static PUT_BY_SECOND: [(u64, u64, usize); 1] = [(1, 6, 2)];
+
+static TAKEN_BY_SECOND: [(u64, u64, usize); 1] = [(0, 5, 7)];
+
+fn are_turns_settled(settled: &Settled<u8>) -> bool {
+    let puts = &settled.puts;
+    let takes = &settled.takes;
+    let are_put = (puts.len() == 2) & has(puts, 0, &PUT_BY_FIRST) & has(puts, 1, &PUT_BY_SECOND);
+    let are_taken = (takes.len() == 2)
+        & has(takes, 0, &PUT_BY_SECOND)
+        & has(takes, 1, &TAKEN_BY_SECOND);
+    are_put & are_taken & settled.lost.is_empty() & (settled.left.len() == 1)
+}
+
+fn are_turns_told<R: Wait>(rt: &R, alloc: Global) -> Result<bool, AllocError> {
+    let blanks = Blanks::new(alloc, 2, 2)?;
+    match turns_of_two::<Brand, _>(rt, alloc, blanks)? {
+        Some((taken, settled)) => Ok(taken & are_turns_settled(&settled)),
+        None => Ok(false),
+    }
+}
+
 #[test]
 fn slips_stand_with_their_seats(rt: HostRuntime) -> Result<(), Fail> {
-    let alloc: Global = rt.alloc();
-    let blanks = Blanks::new(alloc, 2, 2)?;
-    let Some((taken, settled)) = turns_of_two::<Brand, _>(&rt, alloc, blanks)? else {
-        panic!(rt; "no seats");
-    };
-    assert!(rt; taken && has(&settled.puts, 0, &[(0, 5, 7), (2, 7, 3)]));
-    assert!(rt; has(&settled.puts, 1, &[(1, 6, 2)]));
-    assert!(rt; has(&settled.takes, 0, &[(1, 6, 2)]) && has(&settled.takes, 1, &[(0, 5, 7)]));
-    assert!(rt; settled.lost.is_empty() && settled.left.len() == 1);
-    assert!(rt; (settled.puts.len(), settled.takes.len()) == (2, 2));
+    assert!(rt; are_turns_told(&rt, rt.alloc())?);
     Ok(())
 }
 
@@ -303,22 +332,30 @@ fn is_own(lists: &[Vec<Slip>], place: usize) -> bool {
         })
 }
 
-#[test]
-fn two_put_and_two_take(rt: HostRuntime) -> Result<(), Fail> {
-    let alloc: Global = rt.alloc();
-    let blanks = Blanks::new(alloc, 2, 2)?;
-    let Some((done, settled)) = two_and_two::<Brand, _>(&rt, alloc, blanks)? else {
-        panic!(rt; "no seats");
-    };
+// Whether the pairs of both are told, and all of them were taken.
+fn are_all_taken(settled: &Settled<u8>) -> bool {
     let taken = settled
         .takes
         .iter()
         .map(|slips| slips.len())
         .fold(0usize, |a, b| a.wrapping_add(b));
-    assert!(rt; done && is_own(&settled.puts, 0) && is_own(&settled.puts, 1));
-    assert_eq!(rt;
-        (taken, settled.lost.len(), settled.left.len()),
-        (1000, 0, 0)
-    );
+    let are_own = is_own(&settled.puts, 0) & is_own(&settled.puts, 1);
+    are_own & ((taken, settled.lost.len(), settled.left.len()) == (1000, 0, 0))
+}
+
+fn are_two_and_two_told<R: Threads + Wait + Sync>(
+    rt: &R,
+    alloc: Global,
+) -> Result<bool, AllocError> {
+    let blanks = Blanks::new(alloc, 2, 2)?;
+    match two_and_two::<Brand, _>(rt, alloc, blanks)? {
+        Some((done, settled)) => Ok(done & are_all_taken(&settled)),
+        None => Ok(false),
+    }
+}
+
+#[test]
+fn two_put_and_two_take(rt: HostRuntime) -> Result<(), Fail> {
+    assert!(rt; are_two_and_two_told(&rt, rt.alloc())?);
     Ok(())
 }

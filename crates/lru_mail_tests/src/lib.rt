@@ -1,5 +1,7 @@
 //! Tests of cells for one reply, of mailboxes and boxes, and of the shard that an actor serves: the worked rows by one owner, and
 //! threads that wait for one another.
+//!
+//! What is expected is worked out by hand, or is what a plain simulation answers, and never what the program answered.
 #![tactic(auto)]
 
 #[cfg(test)]

@@ -83,7 +83,7 @@ fn first_other(alloc: Global, row: &[(Call, Answer)]) -> Result<Option<usize>, A
     Ok(None)
 }
 
-const REFUSES_A_SECOND_EVICT_AND_WHAT_COMES_LATE: [(Call, Answer); 8] = [
+static REFUSES_A_SECOND_EVICT_AND_WHAT_COMES_LATE: [(Call, Answer); 8] = [
     (Call::Push(10), Answer::Put),
     (Call::PushEvict(20), Answer::Put),
     (Call::PushEvict(30), Answer::Refused(3, 30)),
@@ -94,7 +94,7 @@ const REFUSES_A_SECOND_EVICT_AND_WHAT_COMES_LATE: [(Call, Answer); 8] = [
     (Call::Counts, Answer::Are(3, 2, 1, 0)),
 ];
 
-const SERVES_WHAT_WAITS_ONCE_IT_IS_CLOSED: [(Call, Answer); 9] = [
+static SERVES_WHAT_WAITS_ONCE_IT_IS_CLOSED: [(Call, Answer); 9] = [
     (Call::Push(1), Answer::Put),
     (Call::PushEvict(2), Answer::Put),
     (Call::Pop, Answer::Taken(Some(1))),
@@ -107,22 +107,24 @@ const SERVES_WHAT_WAITS_ONCE_IT_IS_CLOSED: [(Call, Answer); 9] = [
 ];
 
 // What comes after `leave` is counted as lost; what comes before it waits.
-const PUTS_OR_LOSES: [(Call, Answer); 4] = [
+static PUTS_OR_LOSES: [(Call, Answer); 4] = [
     (Call::PutOrLose(1), Answer::Put),
     (Call::Leave, Answer::Many(1, Some(1), Some(1))),
     (Call::PutOrLose(2), Answer::Put),
     (Call::Counts, Answer::Are(2, 0, 2, 0)),
 ];
 
+fn others(alloc: Global) -> Result<[Option<usize>; 3], AllocError> {
+    Ok([
+        first_other(alloc, &REFUSES_A_SECOND_EVICT_AND_WHAT_COMES_LATE)?,
+        first_other(alloc, &SERVES_WHAT_WAITS_ONCE_IT_IS_CLOSED)?,
+        first_other(alloc, &PUTS_OR_LOSES)?,
+    ])
+}
+
 #[test]
 fn answers_as_in_the_rows(rt: HostRuntime) -> Result<(), Fail> {
-    for row in [
-        REFUSES_A_SECOND_EVICT_AND_WHAT_COMES_LATE.as_slice(),
-        SERVES_WHAT_WAITS_ONCE_IT_IS_CLOSED.as_slice(),
-        PUTS_OR_LOSES.as_slice(),
-    ] {
-        assert_eq!(rt; first_other(rt.alloc(), row)?, None);
-    }
+    assert_eq!(rt; others(rt.alloc())?, [None; 3]);
     Ok(())
 }
 
@@ -140,10 +142,14 @@ fn hands_back_each(mail: &mut MailState<u8>) -> bool {
     well
 }
 
+fn waits_for_memory(alloc: Global) -> bool {
+    let mut mail = MailState::new(alloc);
+    let well = hands_back_each(&mut mail);
+    well & (counts(&mail) == Answer::Are(20, 0, 0, 20)) & (mail.pop() == Some(0))
+}
+
 #[test]
 fn pushes_again_after_want_of_memory(rt: HostRuntime) -> Result<(), Fail> {
-    let mut mail = MailState::new(rt.alloc());
-    let well = hands_back_each(&mut mail);
-    assert!(rt; well && counts(&mail) == Answer::Are(20, 0, 0, 20) && mail.pop() == Some(0));
+    assert!(rt; waits_for_memory(rt.alloc()));
     Ok(())
 }

@@ -34,27 +34,29 @@ fn row<R: Wait>(
     Ok(([first, second, third, fourth, fifth], count))
 }
 
+// How many were pushed, taken and lost, and how many wait.
+fn counts<R: Wait>(rt: &R, mailbox: &Mailbox<u8>) -> ([u64; 3], usize) {
+    let counted = [mailbox.pushed(rt), mailbox.taken(rt), mailbox.lost(rt)];
+    (counted, mailbox.len(rt))
+}
+
+// Whether the row answers and leaves what it should.
+fn is_row<R: Wait>(rt: &R, alloc: Global) -> Result<bool, Fail> {
+    let mailbox = Mailbox::new(alloc);
+    let (answers, count) = row(rt, &mailbox, alloc)?;
+    let are_answered = answers == [None, None, Some((3, 30)), None, Some((2, 50))];
+    Ok(are_answered & (count == 2) & (counts(rt, &mailbox) == ([3, 2, 1], 0)))
+}
+
 #[test]
 fn refuses_a_second_evict_and_what_comes_late(rt: HostRuntime) -> Result<(), Fail> {
-    let alloc: Global = rt.alloc();
-    let mailbox = Mailbox::new(alloc);
-    let (answers, count) = row(&rt, &mailbox, alloc)?;
-    assert_eq!(rt; answers, [None, None, Some((3, 30)), None, Some((2, 50))]);
-    assert_eq!(rt;
-        (
-            count,
-            mailbox.pushed(&rt),
-            mailbox.taken(&rt),
-            mailbox.lost(&rt),
-            mailbox.len(&rt)
-        ),
-        (2, 3, 2, 1, 0)
-    );
+    assert!(rt; is_row(&rt, rt.alloc())?);
     Ok(())
 }
 
 // One thread waits while another puts, and then while another closes.
-fn across<R: Threads + Wait + Sync>(rt: &R, mailbox: &Mailbox<u8>) -> (Option<u8>, Option<u8>) {
+fn across<R: Threads + Wait + Sync>(rt: &R, alloc: Global) -> (Option<u8>, Option<u8>) {
+    let mailbox = Mailbox::new(alloc);
     let (first, _) = thread::join(rt, || mailbox.pop(rt), || mailbox.push(rt, 5).is_ok());
     let (second, ()) = thread::join(rt, || mailbox.pop(rt), || mailbox.close(rt));
     (first, second)
@@ -62,6 +64,5 @@ fn across<R: Threads + Wait + Sync>(rt: &R, mailbox: &Mailbox<u8>) -> (Option<u8
 
 #[test]
 fn wakes_who_waits(rt: HostRuntime) {
-    let mailbox = Mailbox::new(rt.alloc());
-    assert_eq!(rt; across(&rt, &mailbox), (Some(5), None));
+    assert_eq!(rt; across(&rt, rt.alloc()), (Some(5), None));
 }

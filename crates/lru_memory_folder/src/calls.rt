@@ -1,4 +1,4 @@
-// What a folder in memory keeps of its calls.
+//! What a folder in memory keeps of its calls.
 ghost use Rattle.std.specs.Prelude.{◌≡◌};
 ghost use Rattle.lru_memory_folder.specs.History.{end_of};
 

@@ -1,4 +1,4 @@
-// The files that a folder in memory holds.
+//! The files that a folder in memory holds.
 ghost use Rattle.std.specs.Prelude.{◌≡◌, ◌≢◌, ◌∷◌, ◌++◌, [], ◌+◌, ◌<◌, ◌^◌, drop, is_some, length, map, string_bytes, take, None, Some, IfOk, IsTrue, MatchOption, OnErr, OnOk, vec_len};
 ghost use Rattle.std.specs.FinMap.{get, insert, keys, remove};
 ghost use Rattle.lru_folder.specs.Files.{appended, bytes_at, renamed};

@@ -1,4 +1,4 @@
-// The files of a folder in memory, with the calls that led to them.
+//! The files of a folder in memory, with the calls that led to them.
 ghost use Rattle.std.specs.Prelude.{◌≡◌, ◌<◌, ◌++◌, ◌∷◌, [], length, IfOk, OnErr, OnOk, vec_len, vec_capacity};
 ghost use Rattle.std.specs.FinMap.{insert};
 ghost use Rattle.lru_memory_folder.specs.Calls.{begun, ended, whole};

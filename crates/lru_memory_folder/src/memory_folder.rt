@@ -1,4 +1,4 @@
-// A folder in memory, which can be made to fail, and which knows what a stop or a loss of power could have left.
+//! A folder in memory, which can be made to fail, and which knows what a stop or a loss of power could have left.
 ghost use Rattle.std.specs.Prelude.{◌≡◌, ◌≢◌, [], ℕ, List, not, None, Some, IfOk, IsErrOf, IsTrue, MatchOption, MatchResult, OnOk, length, map, string_bytes, take};
 ghost use Rattle.std.specs.FinMap.{get, insert, keys};
 ghost use Rattle.std.specs.Option.{option_map};

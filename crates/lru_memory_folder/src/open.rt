@@ -1,4 +1,4 @@
-// The open file of a folder in memory.
+//! The open file of a folder in memory.
 ghost use Rattle.std.specs.Prelude.{◌≡◌};
 
 #[derive(Drop)]

@@ -1,4 +1,4 @@
-// The folders that a folder in memory has, and the names in them.
+//! The folders that a folder in memory has, and the names in them.
 ghost use Rattle.std.specs.Prelude.{◌≡◌, ◌==◌, ◌&&◌, not, length, string_bytes, None, Some, MatchOption, OnErr, OnOk};
 ghost use Rattle.std.specs.Option.{option_map};
 ghost use Rattle.std.specs.FinSet.{insert};

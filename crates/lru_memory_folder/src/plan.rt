@@ -1,4 +1,4 @@
-// The plan of failures, call by call.
+//! The plan of failures, call by call.
 ghost use Rattle.std.specs.Prelude.{◌≡◌};
 ghost use Rattle.lru_memory_folder.specs.Plans.{fate, MovesOn};
 

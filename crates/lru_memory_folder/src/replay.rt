@@ -1,4 +1,4 @@
-// The calls of a folder in memory, made again to see what a loss of power may leave.
+//! The calls of a folder in memory, made again to see what a loss of power may leave.
 ghost use Rattle.std.specs.Prelude.{◌≡◌, ℕ, [], IfOk, IsSome, OnOk, None, true, false};
 ghost use Rattle.std.specs.FinMap.{get};
 ghost use Rattle.lru_memory_folder.specs.DeedInside.{deed_of, noted_of};

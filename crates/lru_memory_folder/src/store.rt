@@ -1,4 +1,4 @@
-// The calls of a folder in memory, each with the fate that it is given.
+//! The calls of a folder in memory, each with the fate that it is given.
 ghost use Rattle.std.specs.Prelude.{◌≡◌, ℕ, List, [], drop, length, map, true, is_some, string_bytes, IfOk, IsSome, MatchResult, OnOk, take};
 ghost use Rattle.std.specs.FinMap.{get, insert, keys};
 ghost use Rattle.lru_folder.specs.Files.{bytes_at};

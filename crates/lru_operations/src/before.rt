@@ -1,4 +1,4 @@
-// The checkpoint below the newest one.
+//! The checkpoint below the newest one.
 ghost use Rattle.std.specs.Prelude.{◌≡◌, ◌↔◌, false, IfErr, IfOk};
 ghost use Rattle.lru_folder.specs.Names.{has_slash};
 ghost use Rattle.lru_operations.specs.Outcomes.{IsShownBefore, IsUnread};

@@ -1,4 +1,4 @@
-// Rows copied.
+//! Rows copied.
 ghost use Rattle.std.specs.Prelude.{IfOk};
 ghost use Rattle.lru_frames.specs.Copies.{AreEach};
 ghost use Rattle.lru_order_captures.specs.Captures.{IsCopy};

@@ -1,19 +1,26 @@
 //! Pairs by their places, and the order that they stand in, apart from any index.
-ghost use Rattle.std.specs.Prelude.{◌≡◌, ◌+◌, ◌-◌, ◌<◌, ◌≤◌, ◌==◌, ◌∷◌, ◌++◌, [], Some, IsSome, IfOk, OnOk, OnErr, not, length, map, nat_lt, replicate};
+ghost use Rattle.std.specs.Prelude.{◌≡◌, ◌+◌, ◌-◌, ◌<◌, ◌≤◌, ◌==◌, ◌∷◌, ◌++◌, [], Some, IsSome, IfSome, IfOk, OnOk, OnErr, not, length, map, nat_lt, replicate};
 ghost use Rattle.std.specs.Option.{option_map};
 ghost use Rattle.lru_rows.specs.Rows.{recency, row_at, IsAt, placed, taken, entry_of, without, promoted, demoted, with_weight, first_row, last_row, Pushes, MakesVacancy, UpdatesAt};
 ghost use Rattle.lru_pairs.specs.Pairs.{with_entry};
+ghost use Rattle.lru_pairs.specs.Beside.{row_after, row_before, put_before};
+ghost use Rattle.lru_pairs.specs.Representation.Insertions.{index_of};
 ghost use Rattle.lru_pairs.specs.Representation.Nodes.{laid, IsLaid, with_rows, keys_at};
 
 use crate::iter::{PairsEntries, PairsKeys};
 use lru_index::keys::Keys;
-use lru_list::linked_list::{LinkedList, PushError};
+use lru_list::linked_list::{Index, LinkedList, PushError};
 use lru_rows::rows::{NoPlace, Place, Taken, Unpushed};
 use std::alloc::{AllocError, Global};
 use std::marker::Model;
 
 // A list has two places that are no pair's, its sentinels, before the others.
 const SENTINELS: usize = 2;
+
+// The first of them stands before the first pair, the other behind the last.
+const BEFORE_ALL: usize = 0;
+
+const BEHIND_ALL: usize = 1;
 
 /// A list of pairs, and a column of their weights. A freed place of the list holds none.
 #[derive(Drop)]
@@ -90,6 +97,34 @@ impl<K, V> Nodes<K, V> {
     {
         let place = self.list.tail()?;
         Some(place as u32)
+    }
+
+    /// The place of the pair behind that of a place.
+    #[inline(always)]
+    pub(crate) fn after(&self, place: Place) -> Option<Place>
+        requires { IsAt self.now.held.rows place }
+        ensures { result ≡ option_map (λ r. r.place) (row_after self.now.held.rows place) }
+    {
+        let next = self.list.next_index(place as usize);
+        if next == BEHIND_ALL {
+            None
+        } else {
+            Some(next as u32)
+        }
+    }
+
+    /// The place of the pair before that of a place.
+    #[inline(always)]
+    pub(crate) fn before(&self, place: Place) -> Option<Place>
+        requires { IsAt self.now.held.rows place }
+        ensures { result ≡ option_map (λ r. r.place) (row_before self.now.held.rows place) }
+    {
+        let prev = self.list.prev_index(place as usize);
+        if prev == BEFORE_ALL {
+            None
+        } else {
+            Some(prev as u32)
+        }
     }
 
     // The key and the value of a place.
@@ -210,6 +245,27 @@ impl<K, V> Nodes<K, V> {
     }
 }
 
+impl<K, V> Nodes<K, V> {
+    ghost use Rattle.std.specs.Borrow.{sem};
+    ghost use Rattle.lru_pairs.specs.NodesLends.{lends_value};
+
+    /// The value of a place's pair, to write to.
+    #[inline(always)]
+    pub(crate) fn value_mut(&mut self, place: Place) -> &mut V
+        requires { IsAt self.old.held.rows place }
+        ensures* writes_back { sem 𝓛 (lends_value K.row V.row self.entry place result) }
+        ensures value { option_map (λ r. r.value) (row_at self.old.held.rows place) ≡ Some result.now }
+    {
+        match self.list.peek_mut(place as usize) {
+            Some(node) => match node {
+                Some(pair) => &mut pair.1,
+                None => unreachable!(),
+            },
+            None => unreachable!(),
+        }
+    }
+}
+
 impl<K: Drop, V: Drop> Nodes<K, V> {
     /// No pairs, with room for `capacity`, and for `places` in the column.
     pub(crate) fn with_capacity(
@@ -257,6 +313,36 @@ impl<K: Drop, V: Drop> Nodes<K, V> {
             Ok(place) => {
                 self.weights[place] = weight;
                 Ok(place as u32)
+            }
+            Err(PushError::Memory(node)) => Err(unpushed(NoPlace::Memory, node)),
+            Err(PushError::Full(node)) => Err(unpushed(NoPlace::Full, node)),
+        }
+    }
+
+    /// Puts a pair before that of a place, or last where none is named, as `push_first` does.
+    ///
+    /// # Errors
+    ///
+    /// As for `push_first`.
+    #[inline(always)]
+    pub(crate) fn push_before(
+        &mut self,
+        before: Option<Place>,
+        key: K,
+        value: V,
+        weight: usize,
+    ) -> Result<Place, Unpushed<K, V>>
+        requires room { length self.old.held.rows + 2 < self.old.room }
+        requires before { IfSome before (IsAt self.old.held.rows) }
+        ensures pushes { Pushes (put_before self.old.held.rows before) self.old.held key value weight result self.new.held }
+        ensures room { self.new.room ≡ self.old.room }
+        ensures valid { IsLaid self.new }
+    {
+        let (node, next) = (Some((key, value)), index_of(before));
+        match self.list.insert_before(node, next) {
+            Ok(at) => {
+                self.weights[at] = weight;
+                Ok(at as u32)
             }
             Err(PushError::Memory(node)) => Err(unpushed(NoPlace::Memory, node)),
             Err(PushError::Full(node)) => Err(unpushed(NoPlace::Full, node)),
@@ -314,6 +400,17 @@ impl<K: Drop, V: Drop> Nodes<K, V> {
             },
             None => unreachable!(),
         }
+    }
+}
+
+// The index that a list has for a place, and for the end where none is named.
+#[inline(always)]
+fn index_of(named: Option<Place>) -> Index
+    ensures { result ≡ index_of named }
+{
+    match named {
+        Some(place) => place as usize,
+        None => BEHIND_ALL,
     }
 }
 

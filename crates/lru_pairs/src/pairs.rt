@@ -1,9 +1,10 @@
 //! Pairs of key and value with a weight, most recent first, each found by its key.
-ghost use Rattle.std.specs.Prelude.{◌≡◌, ◌+◌, ◌<◌, ◌≤◌, ◌∷◌, ◌++◌, [], length, map, Some, None, IfOk, IfErr, if◌then◌else◌};
+ghost use Rattle.std.specs.Prelude.{◌≡◌, ◌+◌, ◌<◌, ◌≤◌, ◌∷◌, ◌++◌, [], length, map, Some, None, IfSome, IfOk, IfErr, if◌then◌else◌};
 ghost use Rattle.std.specs.Option.{option_map};
 ghost use Rattle.lru_index.specs.Hashing.{key_hash, seeded, unseeded};
-ghost use Rattle.lru_rows.specs.Rows.{most_rows, recency, entry_of, taken, row_at, row_of, IsAt, promoted, demoted, with_weight, last_row, first_row, Finds, IsRecency, Removes, PopsLast, PopsFirst, Pushes, MakesVacancy, UpdatesAt};
+ghost use Rattle.lru_rows.specs.Rows.{most_rows, recency, entry_of, taken, row_at, row_of, IsAt, without, promoted, demoted, with_weight, last_row, first_row, Finds, IsRecency, Removes, PopsLast, PopsFirst, Pushes, MakesVacancy, UpdatesAt};
 ghost use Rattle.lru_pairs.specs.Pairs.{with_entry, SameKey};
+ghost use Rattle.lru_pairs.specs.Beside.{row_after, row_before, put_before};
 ghost use Rattle.lru_pairs.specs.Representation.Nodes.{IsKept};
 
 use crate::iter::{PairsEntries, PairsKeys};
@@ -175,6 +176,24 @@ impl<K: Hash, V, S: BuildHasher> Pairs<K, V, S> {
         self.nodes.first()
     }
 
+    /// The place of the pair behind that of a place, which was used before it.
+    #[inline(always)]
+    pub fn after(&self, place: Place) -> Option<Place>
+        requires { IsAt self.now.held.rows place }
+        ensures { result ≡ option_map (λ r. r.place) (row_after self.now.held.rows place) }
+    {
+        self.nodes.after(place)
+    }
+
+    /// The place of the pair before that of a place, which was used after it.
+    #[inline(always)]
+    pub fn before(&self, place: Place) -> Option<Place>
+        requires { IsAt self.now.held.rows place }
+        ensures { result ≡ option_map (λ r. r.place) (row_before self.now.held.rows place) }
+    {
+        self.nodes.before(place)
+    }
+
     /// The key, the value and the weight of each pair, most recent first.
     pub fn entries(&self) -> PairsEntries<'_, K, V>
         ensures { result ≡ map entry_of self.now.held.rows }
@@ -276,6 +295,21 @@ impl<K: Hash, V, S: BuildHasher> Pairs<K, V, S> {
     }
 }
 
+impl<K: Hash, V, S: BuildHasher> Pairs<K, V, S> {
+    ghost use Rattle.std.specs.Borrow.{sem};
+    ghost use Rattle.lru_pairs.specs.PairsLends.{lends_value};
+
+    /// The value of a place's pair, to write to. Its key, its weight and its place stay.
+    #[inline(always)]
+    pub fn value_mut(&mut self, place: Place) -> &mut V
+        requires { IsAt self.old.held.rows place }
+        ensures* writes_back { sem 𝓛 (lends_value K.row V.row S.row S.Hasher.row K.Hash S.BuildHasher S.Hasher.Hasher self.entry place result) }
+        ensures value { option_map (λ r. r.value) (row_at self.old.held.rows place) ≡ Some result.now }
+    {
+        self.nodes.value_mut(place)
+    }
+}
+
 impl<K: Hash + Drop, V: Drop, S: BuildHasher> Pairs<K, V, S> {
     /// Puts a pair first whose key has none, and answers its place.
     ///
@@ -328,6 +362,46 @@ impl<K: Hash + Drop, V: Drop, S: BuildHasher> Pairs<K, V, S> {
         self.index
             .insert_hashed(self.nodes.key_at(place), hash, place);
         Ok(place)
+    }
+
+    /// Puts a pair whose key has none before that of a place, or last where no place is named, and answers its place. The
+    /// hash of the key is known, as for `push_first_hashed`.
+    ///
+    /// # Errors
+    ///
+    /// As for `push_first`.
+    #[inline(always)]
+    pub fn push_before_hashed(
+        &mut self,
+        before: Option<Place>,
+        key: K,
+        value: V,
+        weight: usize,
+        hash: u64,
+    ) -> Result<Place, Unpushed<K, V>>
+        requires before { IfSome before (IsAt self.old.held.rows) }
+        requires absent { row_of K.eq self.old.held.rows key ≡ None }
+        requires hash { hash ≡ key_hash S.BuildHasher S.Hasher.Hasher K.hash_input self.old.hashes key }
+        ensures pushes { Pushes (put_before self.old.held.rows before) self.old.held key value weight result self.new.held }
+        ensures hashes { self.new.hashes ≡ self.old.hashes }
+    {
+        if self.nodes.len() >= MOST_ITEMS {
+            return Err(Unpushed {
+                cause: NoPlace::Full,
+                key,
+                value,
+            });
+        }
+        if make_room(&mut self.nodes, &mut self.index).is_err() {
+            return Err(Unpushed {
+                cause: NoPlace::Memory,
+                key,
+                value,
+            });
+        }
+        let at = self.nodes.push_before(before, key, value, weight)?;
+        self.index.insert_hashed(self.nodes.key_at(at), hash, at);
+        Ok(at)
     }
 
     /// Makes sure of a free place, so that the next push takes no memory and is not refused.
@@ -384,6 +458,20 @@ impl<K: Hash + Drop, V: Drop, S: BuildHasher> Pairs<K, V, S> {
     {
         let place = self.index.remove_hashed(&self.nodes, query, hash)?;
         Some(self.nodes.take(place))
+    }
+
+    /// Takes a place's pair out. The place is free then.
+    #[inline(always)]
+    pub fn take(&mut self, place: Place) -> Taken<K, V>
+        requires { IsAt self.old.held.rows place }
+        ensures taken { option_map taken (row_at self.old.held.rows place) ≡ Some result }
+        ensures rows { self.new.held ≡ recency (without self.old.held.rows place) (self.old.held.free + 1) }
+        ensures hashes { self.new.hashes ≡ self.old.hashes }
+        ensures valid { IsRecency K.eq self.old.held.rows }
+    {
+        let taken = self.nodes.take(place);
+        self.index.remove_at(&taken.key, place);
+        taken
     }
 
     /// Takes the pair out that was used longest ago. Its place is free then.

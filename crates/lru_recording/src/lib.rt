@@ -1,5 +1,8 @@
 //! One shard whose calls are recorded: each is made, and noted in a history that one thread could have made. And the
 //! shards with their histories, gathered at the end.
+//!
+//! The history is legal: its calls have the replies of a plain list, and its end has the shard's rows. It stands on one shard
+//! (`lru_shard`) and on journals (`lru_journal`).
 #![tactic(auto)]
 
 pub mod gathered;

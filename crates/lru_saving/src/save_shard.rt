@@ -1,4 +1,4 @@
-// The file of one shard, saved: it is written under another name, which then becomes the shard's.
+//! The file of one shard, saved: it is written under another name, which then becomes the shard's.
 ghost use Rattle.std.specs.FinMap.{get};
 ghost use Rattle.std.specs.Prelude.{◌≢◌, ◌≡◌, ◌↔◌, ℕ, List, [], Some, IfErr, IfOk, IsErrOf, OnErr, OnOk, string_bytes};
 ghost use Rattle.lru_folder.specs.Blames.{failed_call, blame_of};

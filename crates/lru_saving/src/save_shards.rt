@@ -1,4 +1,4 @@
-// Shards saved one after another.
+//! Shards saved one after another.
 ghost use Rattle.std.specs.Prelude.{◌≡◌, false, IfErr};
 ghost use Rattle.lru_folder.specs.Names.{has_slash};
 ghost use Rattle.lru_saving.specs.Progress.{IfSetup};

@@ -1,4 +1,4 @@
-// A save as a state: each shard's bytes are put in turn.
+//! A save as a state: each shard's bytes are put in turn.
 ghost use Rattle.std.specs.Prelude.{◌≡◌, ◌<◌, ◌↔◌, true, false, None, Option, IfOk, IfErr, IsErrOf, OnOk};
 ghost use Rattle.lru_folder.specs.declared.errors.ShardSaveError.TheVariants.{Setup};
 ghost use Rattle.lru_folder.specs.declared.errors.ShardSaveSetupError.TheVariants.{Memory};

@@ -1,4 +1,7 @@
 //! One shard of a least-recently-used order: rows with weights, under a cap on their sum.
+//!
+//! Its calls are exact, and a refused one changes nothing but what its clause names. All orders stand on it; it stands on
+//! rows (`lru_rows`).
 #![tactic(auto)]
 
 pub mod unit;

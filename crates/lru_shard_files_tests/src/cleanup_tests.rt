@@ -1,4 +1,4 @@
-// Loads and cleanups over a folder in memory.
+//! Loads and cleanups over a folder in memory.
 use lru_test_folders::loads::{Wanted, load_telling};
 use pingora_lru_files::persistence::MemoryFolder;
 use std::alloc::{AllocError, Global};

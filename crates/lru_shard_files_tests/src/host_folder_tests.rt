@@ -1,4 +1,4 @@
-// Loads and cleanups in real folders.
+//! Loads and cleanups in real folders.
 ghost use Rattle.std.specs.Prelude.{◌≡◌, false};
 ghost use Rattle.pingora_lru_files.specs.Names.{has_slash};
 

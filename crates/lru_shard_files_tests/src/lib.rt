@@ -1,4 +1,6 @@
 //! Tests of saving shards to files, of loading them, and of the cleanup of temp files.
+//!
+//! What is expected is worked out by hand, or is what a plain simulation answers, and never what the program answered.
 #![tactic(auto)]
 
 #[cfg(test)]

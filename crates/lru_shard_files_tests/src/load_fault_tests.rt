@@ -1,4 +1,4 @@
-// A load of one shard, of which one call fails.
+//! A load of one shard, of which one call fails.
 use lru_test_folders::loads::{Wanted, load_telling};
 use pingora_lru_files::persistence::MemoryFolder;
 use std::alloc::{AllocError, Global};

@@ -1,6 +1,6 @@
-// Want of memory in loads of shards: a refused load is made again. The gate runs this with memory for all; `rt try --test
-// --fail-alloc N` refuses the request number N. The gate's sweep refuses each request of `lru_sweep_files` in turn, which
-// loads shards too.
+//! Want of memory in loads of shards: a refused load is made again. The gate runs this with memory for all; `rt try --test
+//! --fail-alloc N` refuses the request number N. The gate's sweep refuses each request of `lru_sweep_files` in turn, which
+//! loads shards too.
 use log::sink;
 use lru_test_folders::loads::{Wanted, load_logging};
 use lru_test_folders::refusals::{Ending, Loaded, end_of_load};

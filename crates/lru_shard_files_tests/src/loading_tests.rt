@@ -1,4 +1,4 @@
-// What a load logs and reports.
+//! What a load logs and reports.
 use log::sink;
 use lru_test_folders::loads::{Wanted, load_noting, load_telling};
 use lru_test_folders::shelf::{File, Shelf};

@@ -1,4 +1,4 @@
-// A shard that is written in two pieces.
+//! A shard that is written in two pieces.
 use lru_test_folders::saves::{Given, save_in_turns};
 use lru_test_folders::told::{joined, told_save};
 use pingora_lru_files::persistence::MemoryFolder;

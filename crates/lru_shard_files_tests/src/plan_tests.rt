@@ -1,4 +1,4 @@
-// Which call of a save a planned failure meets.
+//! Which call of a save a planned failure meets.
 use lru_test_folders::saves::{Given, save_in_turns};
 use lru_test_folders::told::{joined, told_save};
 use pingora_lru_files::persistence::MemoryFolder;

@@ -1,4 +1,4 @@
-// A save of two shards over older files, of which one call fails, or all from one on.
+//! A save of two shards over older files, of which one call fails, or all from one on.
 use log::sink;
 use lru_test_folders::loads::{Wanted, load_logging};
 use lru_test_folders::saves::{Given, Refusable, save_logging};

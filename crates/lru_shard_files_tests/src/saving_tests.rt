@@ -1,4 +1,4 @@
-// What a save leaves, reports and logs.
+//! What a save leaves, reports and logs.
 use log::sink;
 use lru_test_folders::saves::{Given, save_in_turns, save_logging, save_noting};
 use lru_test_folders::told::{are_lines, told_names, told_save};

@@ -1,5 +1,11 @@
 pub mod Shards
 pub mod Making
+pub mod Relations
+pub mod Counts
+pub mod CountCodes
+pub mod Counting
+pub mod Popping
 pub mod Calls
 pub mod Sharded
 pub mod Answers
+pub mod Related

@@ -1,5 +1,5 @@
 -- Shards that are told by their numbers: what a call on one of them answers, and what it leaves.
-use Rattle.std.specs.Prelude.{◌≡◌, ℕ, ◌%◌, ◌⊎◌, List, slice_index_or, slice_set, Option, None, Result, Ok, Err}
+use Rattle.std.specs.Prelude.{◌≡◌, ℕ, zero, suc, ◌%◌, ◌⊎◌, List, slice_index_or, slice_set, Option, Some, None, Result, Ok, Err}
 use Rattle.std.specs.Borrow.{Bor, MutBor}
 
 -- the shard of a hash among so many: its low 32 bits tell it
@@ -25,6 +25,11 @@ abbrev pub Begins : {S V E : Type 0} → (MutBor S → Result (Option V) E → M
 Begins post (Ok found) before after = Acts post (Ok found) before after
 Begins post (Err e) before after = Acts post (Err e) before after ⊎ Acts post (Ok None) before after
 
+-- a closure that ends the making of a value was lent a shard and answered this, and left another in its place; or others had ended that making, where they may, and all stays
+abbrev pub Finishes : {S R : Type 0} → Type 0 → ((S → S → Type 0) → Type 0) → (MutBor S → R → MutBor S → Type 0) → Option R → Type 0
+Finishes MayEnd does post (Some answer) = does (Acts post answer)
+Finishes MayEnd does post None = MayEnd × does (λ before after. after ≡ before)
+
 -- of one owner's shards that with this number is so
 abbrev pub Sees : {S : Type 0} → List S → ℕ → (S → Type 0) → Type 0
 Sees {S} shards i P = (shard : S) × ((slice_index_or shards i shard ≡ shard) × P shard)
@@ -32,6 +37,11 @@ Sees {S} shards i P = (shard : S) × ((slice_index_or shards i shard ≡ shard) 
 -- of one owner's shards that with this number is changed so, and the others stay
 abbrev pub Owns : {S : Type 0} → List S → ℕ → (S → S → Type 0) → List S → Type 0
 Owns {S} old i P new = (before : S) × ((after : S) × ((slice_index_or old i before ≡ before) × (P before after × (new ≡ slice_set old i after))))
+
+-- of one owner's shards those with the numbers below this are changed so, one after another, and the others stay
+abbrev pub OwnsEach : {S : Type 0} → ℕ → List S → (S → S → Type 0) → List S → Type 0
+OwnsEach zero old P new = new ≡ old
+OwnsEach {S} (suc n) old P new = (mid : List S) × (OwnsEach n old P mid × Owns mid n P new)
 
 -- behind locks some shard is so, of which nothing else is known
 abbrev pub MaySee : {S : Type 0} → (S → Type 0) → Type 0

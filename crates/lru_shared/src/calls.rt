@@ -1,14 +1,20 @@
 //! The calls on keys and values that stand in shards, written once: of shards of one owner and of shards behind locks.
-ghost use Rattle.std.specs.Prelude.{◌≡◌, ◌<◌, ◌⊎◌, Ok, Err, None, is_some, length, IfOk, IfErr};
+ghost use Rattle.std.specs.Prelude.{◌≡◌, ℕ, ◌<◌, ◌⊎◌, Ok, Err, None, is_some, length, IfOk, IfErr};
 ghost use Rattle.lru_index.specs.Hashing.{key_hash};
-ghost use Rattle.lru_cache.specs.Cache.{entry_of, without, with_entries, Puts, UpdatesEntry, Clears, Retains};
+ghost use Rattle.lru_cache.specs.Cache.{entry_of};
 ghost use Rattle.lru_entries.specs.Entries.{weight_of};
 ghost use Rattle.lru_shared.specs.Shards.{home};
-ghost use Rattle.lru_shared.specs.Calls.{ShowsEntry, VisitsEach, GetsClone, PutsMissing, GetsOrPuts, EndsMaking};
+ghost use Rattle.lru_shared.specs.Calls.{ShowsEntry, VisitsEach, Gets, Lends, PutsMissing, RetainsShard, GetsOrPuts, EndsMaking};
+ghost use Rattle.lru_shared.specs.Relations.{IsRelated};
+ghost use Rattle.lru_shared.specs.Related.{KeepsRelation};
+ghost use Rattle.lru_shared.specs.Counting.{Takes, PopsShard, ClearsShard, DrainsShard, LimitsShard, PutsCounted};
 
+use crate::counts::Counts;
+use crate::kept::Kept;
+use crate::limits::Limits;
 use crate::one;
-use crate::shards::{Shards, home_of};
-use lru_cache::cache::{Cache, Cause, Entry, Refused};
+use crate::shards::{Shards, give_up, home_of};
+use lru_cache::cache::{Cause, Entry, Refused};
 use lru_index::alike::SameHashes;
 use lru_index::hashing::hash_of;
 use lru_index::keys::Query;
@@ -29,49 +35,58 @@ pub enum NotGot<K, V, E> {
 
 // Whether what the query stands for has an entry.
 #[inline(always)]
-pub(crate) fn contains<K, V, S, Q, T>(shards: &T, hashes: &S, query: Q) -> bool
+pub(crate) fn contains<K, V, S, X, Q, T>(shards: &T, hashes: &S, query: Q) -> bool
 where
     K: Hash,
     S: BuildHasher + SameHashes,
     Q: Query<K>,
-    T: Shards<Cache<K, V, S>>,
+    X: Kept<K, V, S>,
+    T: Shards<X>,
     requires { 0 < T.many shards.now }
     ensures { T.sees shards.now (home (T.many shards.now) (key_hash S.BuildHasher S.Hasher.Hasher Q.hash_input hashes.now query))
-        (λ cache. result ≡ is_some (entry_of Q.stands_for cache.entries query)) }
+        (λ shard. result ≡ is_some (entry_of Q.stands_for (X.inside shard).cache.entries query)) }
 {
     let hash = hash_of(hashes, &query);
     let home = home_of(shards.count(), hash);
     shards.look(
         home,
-        |cache: &Cache<K, V, S>| one::contains(cache, query, hash, hashes),
+        |shard: &X|
+            requires { hash ≡ key_hash S.BuildHasher S.Hasher.Hasher Q.hash_input hashes.now query }
+            ensures { result ≡ is_some (entry_of Q.stands_for (X.inside shard.now).cache.entries query) }
+        { one::contains(shard.shard(), query, hash, hashes) },
     )
 }
 
 // Shows the value of what the query stands for, which is not used by that.
 #[inline(always)]
-pub(crate) fn peek<K, V, S, Q, T, R, F>(shards: &T, hashes: &S, query: Q, show: F) -> Option<R>
+pub(crate) fn peek<K, V, S, X, Q, T, R, F>(shards: &T, hashes: &S, query: Q, show: F) -> Option<R>
 where
     K: Hash,
     S: BuildHasher + SameHashes,
     Q: Query<K>,
-    T: Shards<Cache<K, V, S>>,
+    X: Kept<K, V, S>,
+    T: Shards<X>,
     F: FnOnce(&V) -> R,
     requires some { 0 < T.many shards.now }
     requires show { F.IsAlwaysCallable show }
     ensures { T.sees shards.now (home (T.many shards.now) (key_hash S.BuildHasher S.Hasher.Hasher Q.hash_input hashes.now query))
-        (λ cache. ShowsEntry Q.stands_for (F.post show) cache.entries query result) }
+        (λ shard. ShowsEntry Q.stands_for (F.post show) (X.inside shard).cache.entries query result) }
 {
     let hash = hash_of(hashes, &query);
     let home = home_of(shards.count(), hash);
     shards.look(
         home,
-        |cache: &Cache<K, V, S>| one::peek(cache, query, hash, hashes, show),
+        |shard: &X|
+            requires hash { hash ≡ key_hash S.BuildHasher S.Hasher.Hasher Q.hash_input hashes.now query }
+            requires show { F.IsAlwaysCallable show }
+            ensures { ShowsEntry Q.stands_for (F.post show) (X.inside shard.now).cache.entries query result }
+        { one::peek(shard.shard(), query, hash, hashes, show) },
     )
 }
 
 // Uses what the query stands for, and answers a clone of its value.
 #[inline(always)]
-pub(crate) fn get<K, V, S, Q, T>(
+pub(crate) fn get<K, V, S, X, Q, T>(
     shards: &mut T,
     hashes: &S,
     query: Q,
@@ -81,23 +96,21 @@ where
     V: Clone,
     S: BuildHasher + SameHashes,
     Q: Query<K>,
-    T: Shards<Cache<K, V, S>>,
+    X: Kept<K, V, S>,
+    T: Shards<X>,
     requires { 0 < T.many shards.old }
     ensures acts { T.does shards.old (home (T.many shards.old) (key_hash S.BuildHasher S.Hasher.Hasher Q.hash_input hashes.now query))
-        (λ before after. GetsClone Q.stands_for V.is_clone before query result after) shards.new }
+        (λ before after. Gets Q.stands_for V.is_clone (X.inside before) query result (X.inside after)) shards.new }
     ensures many { T.many shards.new ≡ T.many shards.old }
 {
     let hash = hash_of(hashes, &query);
     let home = home_of(shards.count(), hash);
-    shards.on(
-        home,
-        |cache: &mut Cache<K, V, S>| one::get(cache, query, hash, hashes),
-    )
+    shards.on(home, |shard: &mut X| shard.get(query, hash, hashes))
 }
 
 // Uses what the query stands for, and lends its value with its weight, which stays.
 #[inline(always)]
-pub(crate) fn update<K, V, S, Q, T, R, F>(
+pub(crate) fn update<K, V, S, X, Q, T, R, F>(
     shards: &mut T,
     hashes: &S,
     query: Q,
@@ -107,25 +120,27 @@ where
     K: Hash,
     S: BuildHasher + SameHashes,
     Q: Query<K>,
-    T: Shards<Cache<K, V, S>>,
+    X: Kept<K, V, S>,
+    T: Shards<X>,
     F: FnOnce(&mut V, usize) -> R + Drop,
     requires some { 0 < T.many shards.old }
     requires update { F.IsAlwaysCallable update }
+    requires keeps { KeepsRelation X.holds (F.post update) }
     ensures acts { T.does shards.old (home (T.many shards.old) (key_hash S.BuildHasher S.Hasher.Hasher Q.hash_input hashes.now query))
-        (λ before after. UpdatesEntry Q.stands_for (F.post update) before query result after) shards.new }
+        (λ before after. Lends Q.stands_for (F.post update) (X.inside before) query result (X.inside after)) shards.new }
     ensures many { T.many shards.new ≡ T.many shards.old }
 {
     let hash = hash_of(hashes, &query);
     let home = home_of(shards.count(), hash);
     shards.on(
         home,
-        |cache: &mut Cache<K, V, S>| one::update(cache, query, hash, hashes, update),
+        |shard: &mut X| shard.update(query, hash, hashes, update),
     )
 }
 
 // Puts an entry first in the shard of its key, and lets go what has to go for it.
 #[inline(always)]
-pub(crate) fn put<K, V, S, T, F>(
+pub(crate) fn put<K, V, S, X, T, F>(
     shards: &mut T,
     hashes: &S,
     key: K,
@@ -137,137 +152,225 @@ where
     K: Hash + Drop,
     V: Drop,
     S: BuildHasher + SameHashes,
-    T: Shards<Cache<K, V, S>>,
+    X: Kept<K, V, S>,
+    T: Shards<X>,
     F: FnMut(Entry<K, V>) + Drop,
     requires some { 0 < T.many shards.old }
     requires visit { F.IsAlwaysCallable visit }
+    requires related { IsRelated X.holds key value }
     ensures acts { T.does shards.old (home (T.many shards.old) (key_hash S.BuildHasher S.Hasher.Hasher K.hash_input hashes.now key))
-        (λ before after. Puts K.eq (λ p x q. F.step p x tt q) visit before key value weight result after) shards.new }
+        (λ before after. PutsCounted (λ p x q. F.step p x tt q) visit K.eq (X.inside before) key value weight result (X.inside after)) shards.new }
     ensures many { T.many shards.new ≡ T.many shards.old }
 {
     let hash = hash_of(hashes, &key);
     let home = home_of(shards.count(), hash);
-    shards.on(
+    shards.renew(
         home,
-        |cache: &mut Cache<K, V, S>|
+        hash,
+        |shard: &mut X|
             requires hash { hash ≡ key_hash S.BuildHasher S.Hasher.Hasher K.hash_input hashes.now key }
             requires visit { F.IsAlwaysCallable visit }
-            ensures { Puts K.eq (λ p x q. F.step p x tt q) visit cache.old key value weight result cache.new }
-        { one::put(cache, key, value, weight, hash, hashes, visit) },
+            requires related { IsRelated X.holds key value }
+            ensures { PutsCounted (λ p x q. F.step p x tt q) visit K.eq (X.inside shard.old) key value weight result (X.inside shard.new) }
+        { shard.put(key, value, weight, hash, hashes, visit) },
     )
 }
 
 // Takes the entry out of what the query stands for.
 #[inline(always)]
-pub(crate) fn remove<K, V, S, Q, T>(shards: &mut T, hashes: &S, query: Q) -> Option<Entry<K, V>>
+pub(crate) fn remove<K, V, S, X, Q, T>(shards: &mut T, hashes: &S, query: Q) -> Option<Entry<K, V>>
 where
     K: Hash + Drop,
     V: Drop,
     S: BuildHasher + SameHashes,
     Q: Query<K>,
-    T: Shards<Cache<K, V, S>>,
+    X: Kept<K, V, S>,
+    T: Shards<X>,
     requires { 0 < T.many shards.old }
     ensures acts { T.does shards.old (home (T.many shards.old) (key_hash S.BuildHasher S.Hasher.Hasher Q.hash_input hashes.now query))
-        (λ before after. (result ≡ entry_of Q.stands_for before.entries query) × (after ≡ with_entries before (without Q.stands_for before.entries query))) shards.new }
+        (λ before after. Takes Q.stands_for (X.inside before) query result (X.inside after)) shards.new }
     ensures many { T.many shards.new ≡ T.many shards.old }
 {
     let hash = hash_of(hashes, &query);
     let home = home_of(shards.count(), hash);
-    shards.on(
+    shards.renew(
         home,
-        |cache: &mut Cache<K, V, S>| one::remove(cache, query, hash, hashes),
+        hash,
+        |shard: &mut X| shard.remove(query, hash, hashes),
     )
 }
 
 // Lets all entries of a shard go.
-pub(crate) fn clear<K, V, S, T, F>(shards: &mut T, shard: usize, visit: F)
+pub(crate) fn clear<K, V, S, X, T, F>(shards: &mut T, shard: usize, visit: F)
 where
     K: Hash + Drop,
     V: Drop,
     S: BuildHasher,
-    T: Shards<Cache<K, V, S>>,
+    X: Kept<K, V, S>,
+    T: Shards<X>,
     F: FnMut(Entry<K, V>) + Drop,
     requires shard { shard < T.many shards.old }
     requires visit { F.IsAlwaysCallable visit }
-    ensures acts { T.does shards.old shard (λ before after. Clears (λ p x q. F.step p x tt q) visit before after) shards.new }
+    ensures acts { T.does shards.old shard (λ before after. ClearsShard (λ p x q. F.step p x tt q) visit (X.inside before) (X.inside after)) shards.new }
     ensures many { T.many shards.new ≡ T.many shards.old }
 {
     shards.on(
         shard,
-        |cache: &mut Cache<K, V, S>|
+        |shard: &mut X|
             requires { F.IsAlwaysCallable visit }
-            ensures { Clears (λ p x q. F.step p x tt q) visit cache.old cache.new }
-        { one::clear(cache, visit) },
+            ensures { ClearsShard (λ p x q. F.step p x tt q) visit (X.inside shard.old) (X.inside shard.new) }
+        { shard.clear(visit) },
     )
 }
 
-// Lets those entries of a shard go for which a test answers false.
-pub(crate) fn retain<K, V, S, T, F>(shards: &mut T, shard: usize, keep: F)
+// Lets all entries of a shard go, the first first.
+pub(crate) fn drain<K, V, S, X, T, F>(shards: &mut T, shard: usize, visit: F)
 where
     K: Hash + Drop,
     V: Drop,
     S: BuildHasher,
-    T: Shards<Cache<K, V, S>>,
-    F: FnMut(&K, &V, usize) -> bool + Drop,
+    X: Kept<K, V, S>,
+    T: Shards<X>,
+    F: FnMut(Entry<K, V>) + Drop,
     requires shard { shard < T.many shards.old }
-    requires keep { F.IsAlwaysCallable keep }
-    ensures acts { T.does shards.old shard (λ before after. Retains (λ p k v w b q. F.step p k v w b q) keep before after) shards.new }
+    requires visit { F.IsAlwaysCallable visit }
+    ensures acts { T.does shards.old shard (λ before after. DrainsShard (λ p x q. F.step p x tt q) visit (X.inside before) (X.inside after)) shards.new }
     ensures many { T.many shards.new ≡ T.many shards.old }
 {
     shards.on(
         shard,
-        |cache: &mut Cache<K, V, S>|
+        |shard: &mut X|
+            requires { F.IsAlwaysCallable visit }
+            ensures { DrainsShard (λ p x q. F.step p x tt q) visit (X.inside shard.old) (X.inside shard.new) }
+        { shard.drain(visit) },
+    )
+}
+
+// Gives a shard other limits, and lets go what has to go for them.
+pub(crate) fn set_limits<K, V, S, X, T, F>(shards: &mut T, shard: usize, limits: Limits, visit: F)
+where
+    K: Hash + Drop,
+    V: Drop,
+    S: BuildHasher,
+    X: Kept<K, V, S>,
+    T: Shards<X>,
+    F: FnMut(Entry<K, V>) + Drop,
+    requires shard { shard < T.many shards.old }
+    requires visit { F.IsAlwaysCallable visit }
+    ensures acts { T.does shards.old shard (λ before after. LimitsShard (λ p x q. F.step p x tt q) visit limits.weight limits.entries (X.inside before) (X.inside after)) shards.new }
+    ensures many { T.many shards.new ≡ T.many shards.old }
+{
+    shards.on(
+        shard,
+        |shard: &mut X|
+            requires { F.IsAlwaysCallable visit }
+            ensures { LimitsShard (λ p x q. F.step p x tt q) visit limits.weight limits.entries (X.inside shard.old) (X.inside shard.new) }
+        { shard.set_limits(limits, visit) },
+    )
+}
+
+// Takes the last entry of a shard out.
+pub(crate) fn pop_last<K, V, S, X, T>(shards: &mut T, shard: usize) -> Option<Entry<K, V>>
+where
+    K: Hash + Drop,
+    V: Drop,
+    S: BuildHasher,
+    X: Kept<K, V, S>,
+    T: Shards<X>,
+    requires { shard < T.many shards.old }
+    ensures acts { T.does shards.old shard (λ before after. PopsShard (X.inside before) result (X.inside after)) shards.new }
+    ensures many { T.many shards.new ≡ T.many shards.old }
+{
+    shards.on(shard, |shard: &mut X| shard.pop_last())
+}
+
+// Lets those entries of a shard go for which a test answers false.
+pub(crate) fn retain<K, V, S, X, T, F>(shards: &mut T, shard: usize, keep: F)
+where
+    K: Hash + Drop,
+    V: Drop,
+    S: BuildHasher,
+    X: Kept<K, V, S>,
+    T: Shards<X>,
+    F: FnMut(&K, &V, usize) -> bool + Drop,
+    requires shard { shard < T.many shards.old }
+    requires keep { F.IsAlwaysCallable keep }
+    ensures acts { T.does shards.old shard (λ before after. RetainsShard (λ p k v w b q. F.step p k v w b q) keep (X.inside before) (X.inside after)) shards.new }
+    ensures many { T.many shards.new ≡ T.many shards.old }
+{
+    shards.on(
+        shard,
+        |shard: &mut X|
             requires { F.IsAlwaysCallable keep }
-            ensures { Retains (λ p k v w b q. F.step p k v w b q) keep cache.old cache.new }
-        { one::retain(cache, keep) },
+            ensures { RetainsShard (λ p k v w b q. F.step p k v w b q) keep (X.inside shard.old) (X.inside shard.new) }
+        { shard.retain(keep) },
     )
 }
 
 // Calls a closure with the key, the value and the weight of each entry of a shard, most recent first.
-pub(crate) fn visit_each<K, V, S, T, F>(shards: &T, shard: usize, visit: F)
+pub(crate) fn visit_each<K, V, S, X, T, F>(shards: &T, shard: usize, visit: F)
 where
     K: Hash,
     S: BuildHasher,
-    T: Shards<Cache<K, V, S>>,
+    X: Kept<K, V, S>,
+    T: Shards<X>,
     F: FnMut((&K, &V, usize)),
     requires shard { shard < T.many shards.now }
     requires visit { F.IsAlwaysCallable visit }
-    ensures { T.sees shards.now shard (λ cache. VisitsEach (λ p x q. F.step p x tt q) visit cache.entries) }
+    ensures { T.sees shards.now shard (λ shard. VisitsEach (λ p x q. F.step p x tt q) visit (X.inside shard).cache.entries) }
 {
     shards.look(
         shard,
-        |cache: &Cache<K, V, S>| one::visit_each(cache, visit),
+        |shard: &X|
+            requires { F.IsAlwaysCallable visit }
+            ensures { VisitsEach (λ p x q. F.step p x tt q) visit (X.inside shard.now).cache.entries }
+        { one::visit_each(shard.shard(), visit) },
     );
 }
 
 // How many entries a shard has.
-pub(crate) fn shard_len<K, V, S, T>(shards: &T, shard: usize) -> usize
+pub(crate) fn shard_len<K, V, S, X, T>(shards: &T, shard: usize) -> usize
 where
     K: Hash,
     S: BuildHasher,
-    T: Shards<Cache<K, V, S>>,
+    X: Kept<K, V, S>,
+    T: Shards<X>,
     requires { shard < T.many shards.now }
-    ensures { T.sees shards.now shard (λ cache. result ≡ length cache.entries) }
+    ensures { T.sees shards.now shard (λ shard. result ≡ length (X.inside shard).cache.entries) }
 {
-    shards.look(shard, |cache: &Cache<K, V, S>| cache.len())
+    shards.look(shard, |shard: &X| shard.shard().cache.len())
 }
 
 // What the entries of a shard weigh together.
-pub(crate) fn shard_weight<K, V, S, T>(shards: &T, shard: usize) -> usize
+pub(crate) fn shard_weight<K, V, S, X, T>(shards: &T, shard: usize) -> usize
 where
     K: Hash,
     S: BuildHasher,
-    T: Shards<Cache<K, V, S>>,
+    X: Kept<K, V, S>,
+    T: Shards<X>,
     requires { shard < T.many shards.now }
-    ensures { T.sees shards.now shard (λ cache. result ≡ weight_of cache.entries) }
+    ensures { T.sees shards.now shard (λ shard. result ≡ weight_of (X.inside shard).cache.entries) }
 {
-    shards.look(shard, |cache: &Cache<K, V, S>| cache.weight())
+    shards.look(shard, |shard: &X| shard.shard().cache.weight())
+}
+
+// What the calls on a shard met.
+pub(crate) fn shard_stats<K, V, S, X, T>(shards: &T, shard: usize) -> Counts
+where
+    K: Hash,
+    S: BuildHasher,
+    X: Kept<K, V, S>,
+    T: Shards<X>,
+    requires { shard < T.many shards.now }
+    ensures { T.sees shards.now shard (λ shard. result ≡ (X.inside shard).counts) }
+{
+    shards.look(shard, |shard: &X| shard.shard().counts)
 }
 
 // Uses a key, and answers a clone of its value; or, where it has none, puts what `make` makes, under no lock, and answers a
 // clone of that.
 #[inline(always)]
-pub(crate) fn get_or_put_with<K, V, S, T, E, M, F>(
+pub(crate) fn get_or_put_with<K, V, S, X, T, E, M, F>(
     shards: &mut T,
     hashes: &S,
     key: K,
@@ -278,15 +381,17 @@ where
     K: Hash + Drop,
     V: Clone + Drop,
     S: BuildHasher + SameHashes,
-    T: Shards<Cache<K, V, S>>,
+    X: Kept<K, V, S>,
+    T: Shards<X>,
     E: Drop,
     M: FnOnce() -> Result<(V, usize), E> + Drop,
     F: FnMut(Entry<K, V>) + Drop,
     requires some { 0 < T.many shards.old }
     requires make { M.IsAlwaysCallable make }
+    requires related { (value : V) (weight : ℕ) → M.post make (Ok (value, weight)) → IsRelated X.holds key value }
     requires visit { F.IsAlwaysCallable visit }
-    ensures acts { GetsOrPuts K.eq V.is_clone (M.post make) (λ p x q. F.step p x tt q) visit
-        (λ s P t. T.does s (home (T.many shards.old) (key_hash S.BuildHasher S.Hasher.Hasher K.hash_input hashes.now key)) P t) key shards.old result shards.new }
+    ensures acts { GetsOrPuts T.may_end K.eq V.is_clone (M.post make) (λ p x q. F.step p x tt q) visit
+        (λ s P t. T.does s (home (T.many shards.old) (key_hash S.BuildHasher S.Hasher.Hasher K.hash_input hashes.now key)) (λ a b. P (X.inside a) (X.inside b)) t) key shards.old result shards.new }
     ensures many { T.many shards.new ≡ T.many shards.old }
 {
     let hash = hash_of(hashes, &key);
@@ -300,7 +405,7 @@ where
 
 // Uses a key, and answers a clone of its value; or, where it has none, a value of it is being made from then on.
 #[inline(always)]
-fn start<K, V, S, T>(
+fn start<K, V, S, X, T>(
     shards: &mut T,
     home: usize,
     hash: u64,
@@ -311,29 +416,32 @@ where
     K: Hash,
     V: Clone + Drop,
     S: BuildHasher + SameHashes,
-    T: Shards<Cache<K, V, S>>,
+    X: Kept<K, V, S>,
+    T: Shards<X>,
     requires home { home < T.many shards.old }
     requires hash { hash ≡ key_hash S.BuildHasher S.Hasher.Hasher K.hash_input hashes.now key.now }
-    ensures found { IfOk result (λ found. T.does shards.old home (λ before after. GetsClone K.eq V.is_clone before key.now (Ok found) after) shards.new) }
+    ensures found { IfOk result (λ found. T.does shards.old home (λ before after. Gets K.eq V.is_clone (X.inside before) key.now (Ok found) (X.inside after)) shards.new) }
     ensures refused { IfErr result (λ error. T.does shards.old home
-        (λ before after. GetsClone K.eq V.is_clone before key.now (Err error) after ⊎ GetsClone K.eq V.is_clone before key.now (Ok None) after) shards.new) }
+        (λ before after. Gets K.eq V.is_clone (X.inside before) key.now (Err error) (X.inside after) ⊎ Gets K.eq V.is_clone (X.inside before) key.now (Ok None) (X.inside after)) shards.new) }
     ensures many { T.many shards.new ≡ T.many shards.old }
 {
     shards.begin(
         home,
         hash,
-        |cache: &Cache<K, V, S>| one::contains(cache, key, hash, hashes),
-        |cache: &mut Cache<K, V, S>|
+        |shard: &X|
             requires { hash ≡ key_hash S.BuildHasher S.Hasher.Hasher K.hash_input hashes.now key.now }
-            ensures { GetsClone K.eq V.is_clone cache.old key.entry.now result cache.new }
-        { one::get(cache, key, hash, hashes) },
+        { one::contains(shard.shard(), key, hash, hashes) },
+        |shard: &mut X|
+            requires { hash ≡ key_hash S.BuildHasher S.Hasher.Hasher K.hash_input hashes.now key.now }
+            ensures { Gets K.eq V.is_clone (X.inside shard.old) key.entry.now result (X.inside shard.new) }
+        { shard.get(key, hash, hashes) },
     )
 }
 
-// Puts what was made for a key, unless it has an entry by now, and answers a clone of its value. Who waits for it goes on in
-// any case.
+// Puts what was made for a key, unless it has an entry by now or others ended its making, and answers a clone of its value. Who
+// waits for it goes on in any case.
 #[inline(always)]
-fn put_made<K, V, S, T, E, F>(
+fn put_made<K, V, S, X, T, E, F>(
     shards: &mut T,
     home: usize,
     hash: u64,
@@ -346,38 +454,41 @@ where
     K: Hash + Drop,
     V: Clone + Drop,
     S: BuildHasher + SameHashes,
-    T: Shards<Cache<K, V, S>>,
+    X: Kept<K, V, S>,
+    T: Shards<X>,
     E: Drop,
     F: FnMut(Entry<K, V>) + Drop,
     requires home { home < T.many shards.old }
     requires hash { hash ≡ key_hash S.BuildHasher S.Hasher.Hasher K.hash_input hashes.now key }
+    requires related { (value : V) (weight : ℕ) → made ≡ Ok (value, weight) → IsRelated X.holds key value }
     requires visit { F.IsAlwaysCallable visit }
-    ensures acts { EndsMaking K.eq V.is_clone (λ m. m ≡ made) (λ p x q. F.step p x tt q) visit (λ s P t. T.does s home P t) key shards.old made result shards.new }
+    ensures acts { EndsMaking T.may_end K.eq V.is_clone (λ m. m ≡ made) (λ p x q. F.step p x tt q) visit (λ s P t. T.does s home (λ a b. P (X.inside a) (X.inside b)) t) key shards.old made result shards.new }
     ensures many { T.many shards.new ≡ T.many shards.old }
 {
     let (value, weight) = match made {
         Ok(made) => made,
         Err(error) => {
-            shards.finish(home, hash, |_cache: &mut Cache<K, V, S>| {});
+            give_up(shards, home);
             return Err(NotGot::Unmade(key, error));
         }
     };
     let Ok(answer) = value.clone() else {
-        shards.finish(home, hash, |_cache: &mut Cache<K, V, S>| {});
+        give_up(shards, home);
         let cause = Cause::Memory;
         return Err(NotGot::Refused(Refused { cause, key, value }));
     };
     let put = shards.finish(
         home,
-        hash,
-        |cache: &mut Cache<K, V, S>|
+        |shard: &mut X|
             requires hash { hash ≡ key_hash S.BuildHasher S.Hasher.Hasher K.hash_input hashes.now key }
             requires visit { F.IsAlwaysCallable visit }
-            ensures { PutsMissing K.eq (λ p x q. F.step p x tt q) visit cache.old key value weight result cache.new }
-        { one::put_missing(cache, key, value, weight, hash, hashes, visit) },
+            requires related { IsRelated X.holds key value }
+            ensures { PutsMissing K.eq (λ p x q. F.step p x tt q) visit (X.inside shard.old) key value weight result (X.inside shard.new) }
+        { shard.put_missing(key, value, weight, hash, hashes, visit) },
     );
     match put {
-        Ok(()) => Ok(answer),
-        Err(refused) => Err(NotGot::Refused(refused)),
+        Some(Err(refused)) => Err(NotGot::Refused(refused)),
+        Some(Ok(())) => Ok(answer),
+        None => Ok(answer),
     }
 }

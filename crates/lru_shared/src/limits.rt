@@ -1,5 +1,5 @@
 //! Limits by name.
-ghost use Rattle.std.specs.Prelude.{◌≡◌};
+ghost use Rattle.std.specs.Prelude.{◌≡◌, ◌<◌, ◌/◌};
 
 /// What the entries of a cache may weigh together, and how many there may be.
 #[derive(Clone, Copy, Debug, PartialEq, Eq, Drop)]
@@ -19,6 +19,18 @@ impl Limits {
         Limits {
             weight,
             entries: weight,
+        }
+    }
+
+    /// A shard's part of these, of so many shards.
+    pub fn part(self, shards: usize) -> Self
+        requires { 0 < shards }
+        ensures weight { result.weight ≡ self.weight / shards }
+        ensures entries { result.entries ≡ self.entries / shards }
+    {
+        Limits {
+            weight: self.weight / shards,
+            entries: self.entries / shards,
         }
     }
 }

@@ -1,6 +1,6 @@
 //! Shards behind locks.
-ghost use Rattle.std.specs.Prelude.{◌≡◌, ◌∷◌, ◌++◌, [], Ok, None, true, length, vec_len, OnOk, OnErr, IfOk};
-ghost use Rattle.lru_shared.specs.Making.{is_among, left_of};
+ghost use Rattle.std.specs.Prelude.{◌≡◌, ◌∷◌, ◌++◌, ◌<◌, ◌↔◌, [], Ok, None, true, length, vec_len, OnErr, IfOk, IsTrue};
+ghost use Rattle.lru_shared.specs.Making.{note, is_among, left_of, left_but};
 ghost use Rattle.lru_shared.specs.Shards.{MaySee, MayDo};
 
 use crate::shards::Shards;
@@ -9,43 +9,74 @@ use lru_short_locks::ShortMutex;
 use std::alloc::{AllocError, Global};
 use std::sync::{Condvar, MutexGuard, Wait};
 
-// Which values are being made for a shard, by the hashes of their keys: the keys themselves stay with those who make them.
+// A value that is being made: the hash of its key, and the number of this making. The key stays with who makes it.
+#[derive(Clone, Copy, Drop)]
+struct Note {
+    hash: u64,
+    number: u64,
+}
+
+// Which values are being made for a shard, and how many makings have begun.
 #[derive(Drop)]
-pub(crate) struct Making {
-    hashes: Vec<u64>,
+struct Making {
+    notes: Vec<Note>,
+    begun: u64,
 }
 
 impl Making {
     // None is being made.
-    pub(crate) fn none(alloc: Global) -> Self
-        ensures { result.hashes.items ≡ [] }
+    fn none(alloc: Global) -> Self
+        ensures { result.notes.items ≡ [] }
     {
         Making {
-            hashes: Vec::new(alloc),
+            notes: Vec::new(alloc),
+            begun: 0,
         }
     }
 
     // Whether one of this hash is.
-    pub(crate) fn contains(&self, hash: u64) -> bool
-        ensures { result ≡ is_among self.now.hashes.items hash }
+    fn contains(&self, hash: u64) -> bool
+        ensures { result ≡ is_among self.now.notes.items hash }
     {
-        self.hashes.contains(&hash)
+        let mut rest = self.notes.as_slice();
+        while let Some((note, tail)) = rest.split_first() {
+            if note.hash == hash {
+                return true;
+            }
+            rest = tail;
+        }
+        false
     }
 
-    // Notes that one of this hash is.
-    pub(crate) fn add(&mut self, hash: u64) -> Result<(), AllocError>
-        ensures made { OnOk result (self.new.hashes.items ≡ self.old.hashes.items ++ hash ∷ []) }
-        ensures refused { OnErr result (self.new.hashes.items ≡ self.old.hashes.items) }
+    // Notes that one of this hash is, and answers its number.
+    fn begin(&mut self, hash: u64) -> Result<u64, AllocError>
+        ensures noted { IfOk result (λ number. self.new.notes.items ≡ self.old.notes.items ++ note hash number ∷ []) }
+        ensures refused { OnErr result (self.new.notes.items ≡ self.old.notes.items) }
     {
-        self.hashes.push(hash)?;
-        Ok(())
+        let number = self.begun;
+        self.notes.push(Note { hash, number })?;
+        self.begun = number.wrapping_add(1);
+        Ok(number)
     }
 
-    // Notes that none of this hash is any longer.
-    pub(crate) fn end(&mut self, hash: u64)
-        ensures { self.new.hashes.items ≡ left_of self.old.hashes.items hash }
+    // Notes that none of this hash is any longer, and answers whether one was.
+    fn end(&mut self, hash: u64) -> bool
+        ensures left { self.new.notes.items ≡ left_of self.old.notes.items hash }
+        ensures was { IsTrue result ↔ length self.new.notes.items < length self.old.notes.items }
     {
-        self.hashes.retain(|other| *other != hash);
+        let before = self.notes.len();
+        self.notes.retain(|other| other.hash != hash);
+        self.notes.len() < before
+    }
+
+    // Notes that the one of this number is not any longer, and answers whether it still was.
+    fn settle(&mut self, number: u64) -> bool
+        ensures left { self.new.notes.items ≡ left_but self.old.notes.items number }
+        ensures was { IsTrue result ↔ length self.new.notes.items < length self.old.notes.items }
+    {
+        let before = self.notes.len();
+        self.notes.retain(|other| other.number != number);
+        self.notes.len() < before
     }
 }
 
@@ -120,22 +151,40 @@ fn has_found_none<V>(found: &Result<Option<V>, AllocError>) -> bool
     matches!(found, Ok(None))
 }
 
-/// Shards, each behind its lock, and what waits for the locks.
+/// Shards, each behind its lock, and what waits for the locks. How many there are is known by the type, so that a hash is
+/// divided by a number that the compiler knows.
 #[derive(Drop)]
-pub struct Locked<'a, C, W> {
+pub struct Locked<'a, C, W, const N: usize> {
     /// The shards, in the order of their numbers.
     pub shards: &'a [CachePadded<Shard<C>>],
     /// By which a call may wait.
     pub rt: &'a W,
+    // which making this call began
+    number: u64,
+    ghost has_shards: { length shards.now ≡ N },
+}
+
+impl<'a, C, W, const N: usize> Locked<'a, C, W, N> {
+    /// These shards, and what waits for their locks.
+    #[inline(always)]
+    pub fn new(shards: &'a [CachePadded<Shard<C>>], rt: &'a W) -> Self
+        requires { length shards.now ≡ N }
+        ensures { result.shards.now ≡ shards.now }
+    {
+        let number = 0;
+        Locked { shards, rt, number }
+    }
 }
 
 // Each call takes the lock of its shard, does once what it is to do, and lets go of it.
-impl<'a, C, W: Wait> Shards<C> for Locked<'a, C, W> {
+impl<'a, C, W: Wait, const N: usize> Shards<C> for Locked<'a, C, W, N> {
     ghost many = { λ l. length l.shards.now };
 
     ghost sees = { λ l i P. MaySee P };
 
     ghost does = { λ l i P n. MayDo P };
+
+    ghost may_end = { Unit {0} };
 
     ghost sees_more = { λ P Q more s i d. (d.0, more d.0 d.1) };
 
@@ -143,7 +192,7 @@ impl<'a, C, W: Wait> Shards<C> for Locked<'a, C, W> {
 
     #[inline(always)]
     fn count(&self) -> usize {
-        self.shards.len()
+        N
     }
 
     #[inline(always)]
@@ -179,20 +228,38 @@ impl<'a, C, W: Wait> Shards<C> for Locked<'a, C, W> {
             shelf = shard.ended.wait(self.rt, shelf);
         }
         let found = act(&mut shelf.cache);
-        if has_found_none(&found) && shelf.making.add(hash).is_err() {
-            return Err(AllocError);
+        if has_found_none(&found) {
+            let Ok(number) = shelf.making.begin(hash) else {
+                return Err(AllocError);
+            };
+            self.number = number;
         }
         found
     }
 
     #[inline(always)]
-    fn finish<R, F: FnOnce(&mut C) -> R + Drop>(&mut self, shard: usize, hash: u64, act: F) -> R {
+    fn finish<R, F: FnOnce(&mut C) -> R + Drop>(&mut self, shard: usize, act: F) -> Option<R> {
         let shard = &self.shards[shard];
         let mut shelf = shard.shelf.lock(self.rt);
-        shelf.making.end(hash);
+        if !shelf.making.settle(self.number) {
+            return None;
+        }
         let answer = act(&mut shelf.cache);
         drop(shelf);
         shard.ended.notify_all();
+        Some(answer)
+    }
+
+    #[inline(always)]
+    fn renew<R, F: FnOnce(&mut C) -> R + Drop>(&mut self, shard: usize, hash: u64, act: F) -> R {
+        let shard = &self.shards[shard];
+        let mut shelf = shard.shelf.lock(self.rt);
+        let is_ended = shelf.making.end(hash);
+        let answer = act(&mut shelf.cache);
+        drop(shelf);
+        if is_ended {
+            shard.ended.notify_all();
+        }
         answer
     }
 }

@@ -1,34 +1,52 @@
-//! What is done to the cache of one shard, by a hash that was made to tell the shard.
+//! What is done to one shard and counted, by a hash that was made to tell the shard.
 ghost use Rattle.std.specs.Prelude.{◌≡◌, is_some};
 ghost use Rattle.lru_index.specs.Hashing.{key_hash};
-ghost use Rattle.lru_cache.specs.Cache.{entry_of, without, with_entries, Puts, UpdatesEntry, Clears, Retains};
-ghost use Rattle.lru_shared.specs.Calls.{ShowsEntry, VisitsEach, GetsClone, PutsMissing};
+ghost use Rattle.lru_cache.specs.Cache.{entry_of};
+ghost use Rattle.lru_shared.specs.Calls.{ShowsEntry, VisitsEach};
+ghost use Rattle.lru_shared.specs.Counting.{size_of};
 
+use crate::counts::{Counted, Size, Why, weight_in};
+use crate::kept::Kept;
+use crate::limits::Limits;
 use lru_cache::cache::{Cache, Entry, Refused};
 use lru_index::alike::SameHashes;
 use lru_index::keys::Query;
 use std::alloc::AllocError;
 use std::hash::{BuildHasher, Hash};
 
+// A shard: its entries, and what its calls met.
+pub(crate) type Shard<K, V, S> = Counted<Cache<K, V, S>>;
+
+// How many entries there are, and what they weigh together.
+#[inline(always)]
+fn size<K: Hash, V, S: BuildHasher>(cache: &Cache<K, V, S>) -> Size
+    ensures { result ≡ size_of cache.now }
+{
+    Size {
+        entries: cache.len(),
+        weight: cache.weight(),
+    }
+}
+
 // Whether what the query stands for has an entry.
 #[inline(always)]
 pub(crate) fn contains<K: Hash, V, S: BuildHasher + SameHashes, Q: Query<K>>(
-    cache: &Cache<K, V, S>,
+    shard: &Shard<K, V, S>,
     query: Q,
     hash: u64,
     hashes: &S,
 ) -> bool
     requires { hash ≡ key_hash S.BuildHasher S.Hasher.Hasher Q.hash_input hashes.now query }
-    ensures { result ≡ is_some (entry_of Q.stands_for cache.now.entries query) }
+    ensures { result ≡ is_some (entry_of Q.stands_for shard.now.cache.entries query) }
 {
-    let own = cache.hash_as(&query, hash, hashes);
-    cache.contains_hashed(query, own)
+    let own = shard.cache.hash_as(&query, hash, hashes);
+    shard.cache.contains_hashed(query, own)
 }
 
 // Shows the value of what the query stands for, which is not used by that.
 #[inline(always)]
 pub(crate) fn peek<K, V, S, Q, R, F>(
-    cache: &Cache<K, V, S>,
+    shard: &Shard<K, V, S>,
     query: Q,
     hash: u64,
     hashes: &S,
@@ -41,176 +59,197 @@ where
     F: FnOnce(&V) -> R,
     requires hash { hash ≡ key_hash S.BuildHasher S.Hasher.Hasher Q.hash_input hashes.now query }
     requires show { F.IsAlwaysCallable show }
-    ensures { ShowsEntry Q.stands_for (F.post show) cache.now.entries query result }
+    ensures { ShowsEntry Q.stands_for (F.post show) shard.now.cache.entries query result }
 {
-    let own = cache.hash_as(&query, hash, hashes);
-    let value = cache.peek_hashed(query, own)?;
+    let own = shard.cache.hash_as(&query, hash, hashes);
+    let value = shard.cache.peek_hashed(query, own)?;
     Some(show(value))
 }
 
-// Uses what the query stands for, and lends its value with its weight, which stays.
-#[inline(always)]
-pub(crate) fn update<K, V, S, Q, R, F>(
-    cache: &mut Cache<K, V, S>,
-    query: Q,
-    hash: u64,
-    hashes: &S,
-    update: F,
-) -> Option<R>
-where
-    K: Hash,
-    S: BuildHasher + SameHashes,
-    Q: Query<K>,
-    F: FnOnce(&mut V, usize) -> R + Drop,
-    requires hash { hash ≡ key_hash S.BuildHasher S.Hasher.Hasher Q.hash_input hashes.now query }
-    requires update { F.IsAlwaysCallable update }
-    ensures { UpdatesEntry Q.stands_for (F.post update) cache.old query result cache.new }
-{
-    let own = cache.hash_as(&query, hash, hashes);
-    cache.update_hashed(query, own, update)
-}
-
-// Uses what the query stands for, and answers a clone of its value. Where there is no memory for one, it is used all the same.
-#[inline(always)]
-pub(crate) fn get<K, V, S, Q>(
-    cache: &mut Cache<K, V, S>,
-    query: Q,
-    hash: u64,
-    hashes: &S,
-) -> Result<Option<V>, AllocError>
-where
-    K: Hash,
-    V: Clone,
-    S: BuildHasher + SameHashes,
-    Q: Query<K>,
-    requires { hash ≡ key_hash S.BuildHasher S.Hasher.Hasher Q.hash_input hashes.now query }
-    ensures { GetsClone Q.stands_for V.is_clone cache.old query result cache.new }
-{
-    // Read for the proof alone, which learns from it what the type says of itself.
-    let _len = cache.len();
-    match update(
-        cache,
-        query,
-        hash,
-        hashes,
-        |value: &mut V, _weight: usize| value.clone(),
-    ) {
-        Some(cloned) => Ok(Some(cloned?)),
-        None => Ok(None),
-    }
-}
-
-// Puts an entry first, and lets go what has to go for it.
-#[inline(always)]
-pub(crate) fn put<K, V, S, F>(
-    cache: &mut Cache<K, V, S>,
-    key: K,
-    value: V,
-    weight: usize,
-    hash: u64,
-    hashes: &S,
-    visit: F,
-) -> Result<Option<Entry<K, V>>, Refused<K, V>>
-where
-    K: Hash + Drop,
-    V: Drop,
-    S: BuildHasher + SameHashes,
-    F: FnMut(Entry<K, V>) + Drop,
-    requires hash { hash ≡ key_hash S.BuildHasher S.Hasher.Hasher K.hash_input hashes.now key }
-    requires visit { F.IsAlwaysCallable visit }
-    ensures { Puts K.eq (λ p x q. F.step p x tt q) visit cache.old key value weight result cache.new }
-{
-    let own = cache.hash_as(&key, hash, hashes);
-    cache.put_hashed(key, value, weight, own, visit)
-}
-
-// Puts what was made for a key that had no entry, unless it has one by now, which is newer: that one stays.
-#[inline(always)]
-pub(crate) fn put_missing<K, V, S, F>(
-    cache: &mut Cache<K, V, S>,
-    key: K,
-    value: V,
-    weight: usize,
-    hash: u64,
-    hashes: &S,
-    visit: F,
-) -> Result<(), Refused<K, V>>
-where
-    K: Hash + Drop,
-    V: Drop,
-    S: BuildHasher + SameHashes,
-    F: FnMut(Entry<K, V>) + Drop,
-    requires hash { hash ≡ key_hash S.BuildHasher S.Hasher.Hasher K.hash_input hashes.now key }
-    requires visit { F.IsAlwaysCallable visit }
-    ensures { PutsMissing K.eq (λ p x q. F.step p x tt q) visit cache.old key value weight result cache.new }
-{
-    if contains(cache, &key, hash, hashes) {
-        return Ok(());
-    }
-    match put(cache, key, value, weight, hash, hashes, visit) {
-        Ok(_) => Ok(()),
-        Err(refused) => Err(refused),
-    }
-}
-
-// Takes the entry out of what the query stands for.
-#[inline(always)]
-pub(crate) fn remove<K, V, S, Q>(
-    cache: &mut Cache<K, V, S>,
-    query: Q,
-    hash: u64,
-    hashes: &S,
-) -> Option<Entry<K, V>>
-where
-    K: Hash + Drop,
-    V: Drop,
-    S: BuildHasher + SameHashes,
-    Q: Query<K>,
-    requires { hash ≡ key_hash S.BuildHasher S.Hasher.Hasher Q.hash_input hashes.now query }
-    ensures answer { result ≡ entry_of Q.stands_for cache.old.entries query }
-    ensures entries { cache.new ≡ with_entries cache.old (without Q.stands_for cache.old.entries query) }
-{
-    let own = cache.hash_as(&query, hash, hashes);
-    cache.remove_hashed(query, own)
-}
-
-// Lets all entries go.
-pub(crate) fn clear<K, V, S, F>(cache: &mut Cache<K, V, S>, visit: F)
-where
-    K: Hash + Drop,
-    V: Drop,
-    S: BuildHasher,
-    F: FnMut(Entry<K, V>) + Drop,
-    requires { F.IsAlwaysCallable visit }
-    ensures { Clears (λ p x q. F.step p x tt q) visit cache.old cache.new }
-{
-    cache.clear(visit);
-}
-
-// Lets those entries go for which a test answers false.
-pub(crate) fn retain<K, V, S, F>(cache: &mut Cache<K, V, S>, keep: F)
-where
-    K: Hash + Drop,
-    V: Drop,
-    S: BuildHasher,
-    F: FnMut(&K, &V, usize) -> bool + Drop,
-    requires { F.IsAlwaysCallable keep }
-    ensures { Retains (λ p k v w b q. F.step p k v w b q) keep cache.old cache.new }
-{
-    cache.retain(keep);
-}
-
 // Calls a closure with the key, the value and the weight of each entry, most recent first.
-pub(crate) fn visit_each<K, V, S, F>(cache: &Cache<K, V, S>, mut visit: F)
+pub(crate) fn visit_each<K, V, S, F>(shard: &Shard<K, V, S>, mut visit: F)
 where
     K: Hash,
     S: BuildHasher,
     F: FnMut((&K, &V, usize)),
     requires { F.IsAlwaysCallable visit }
-    ensures { VisitsEach (λ p x q. F.step p x tt q) visit cache.now.entries }
+    ensures { VisitsEach (λ p x q. F.step p x tt q) visit shard.now.cache.entries }
 {
-    let mut rest = cache.iter();
+    let mut rest = shard.cache.iter();
     while let Some(entry) = rest.next() {
         visit(entry);
+    }
+}
+
+// It asks no relation of anybody.
+impl<K: Hash, V, S: BuildHasher> Kept<K, V, S> for Counted<Cache<K, V, S>> {
+    ghost inside = { λ shard. shard };
+
+    ghost holds = { λ key value. Unit {0} };
+
+    #[inline(always)]
+    fn shard(&self) -> &Shard<K, V, S> {
+        self
+    }
+
+    #[inline(always)]
+    fn update<Q, R, F>(&mut self, query: Q, hash: u64, hashes: &S, update: F) -> Option<R>
+    where
+        S: SameHashes,
+        Q: Query<K>,
+        F: FnOnce(&mut V, usize) -> R + Drop,
+    {
+        let own = self.cache.hash_as(&query, hash, hashes);
+        let answer = self.cache.update_hashed(query, own, update);
+        self.counts.look(answer.is_some());
+        answer
+    }
+
+    #[inline(always)]
+    fn get<Q>(&mut self, query: Q, hash: u64, hashes: &S) -> Result<Option<V>, AllocError>
+    where
+        V: Clone,
+        S: SameHashes,
+        Q: Query<K>,
+    {
+        // Read for the proof alone, which learns from it what the type says of itself.
+        let _len = self.cache.len();
+        match self.update(
+            query,
+            hash,
+            hashes,
+            |value: &mut V, _weight: usize| value.clone(),
+        ) {
+            Some(cloned) => Ok(Some(cloned?)),
+            None => Ok(None),
+        }
+    }
+
+    #[inline(always)]
+    fn put<F>(
+        &mut self,
+        key: K,
+        value: V,
+        weight: usize,
+        hash: u64,
+        hashes: &S,
+        visit: F,
+    ) -> Result<Option<Entry<K, V>>, Refused<K, V>>
+    where
+        K: Drop,
+        V: Drop,
+        S: SameHashes,
+        F: FnMut(Entry<K, V>) + Drop,
+    {
+        let own = self.cache.hash_as(&key, hash, hashes);
+        let before = size(&self.cache);
+        match self.cache.put_hashed(key, value, weight, own, visit) {
+            Ok(was) => {
+                let after = size(&self.cache);
+                self.counts.put(before, weight_in(&was), weight, after);
+                Ok(was)
+            }
+            Err(refused) => {
+                self.counts.refuse();
+                Err(refused)
+            }
+        }
+    }
+
+    #[inline(always)]
+    fn put_missing<F>(
+        &mut self,
+        key: K,
+        value: V,
+        weight: usize,
+        hash: u64,
+        hashes: &S,
+        visit: F,
+    ) -> Result<(), Refused<K, V>>
+    where
+        K: Drop,
+        V: Drop,
+        S: SameHashes,
+        F: FnMut(Entry<K, V>) + Drop,
+    {
+        if contains(self, &key, hash, hashes) {
+            return Ok(());
+        }
+        match self.put(key, value, weight, hash, hashes, visit) {
+            Ok(_) => Ok(()),
+            Err(refused) => Err(refused),
+        }
+    }
+
+    #[inline(always)]
+    fn remove<Q>(&mut self, query: Q, hash: u64, hashes: &S) -> Option<Entry<K, V>>
+    where
+        K: Drop,
+        V: Drop,
+        S: SameHashes,
+        Q: Query<K>,
+    {
+        let own = self.cache.hash_as(&query, hash, hashes);
+        let gone = self.cache.remove_hashed(query, own)?;
+        self.counts.leave(Why::Removed, 1, gone.weight as u64);
+        Some(gone)
+    }
+
+    fn clear<F>(&mut self, visit: F)
+    where
+        K: Drop,
+        V: Drop,
+        F: FnMut(Entry<K, V>) + Drop,
+    {
+        let Size { entries, weight } = size(&self.cache);
+        self.cache.clear(visit);
+        self.counts
+            .leave(Why::Cleared, entries as u64, weight as u64);
+    }
+
+    fn drain<F>(&mut self, visit: F)
+    where
+        K: Drop,
+        V: Drop,
+        F: FnMut(Entry<K, V>) + Drop,
+    {
+        let Size { entries, weight } = size(&self.cache);
+        self.cache.drain(visit);
+        self.counts
+            .leave(Why::Cleared, entries as u64, weight as u64);
+    }
+
+    fn set_limits<F>(&mut self, limits: Limits, visit: F)
+    where
+        K: Drop,
+        V: Drop,
+        F: FnMut(Entry<K, V>) + Drop,
+    {
+        let before = size(&self.cache);
+        self.cache.set_limits(limits.weight, limits.entries, visit);
+        let after = size(&self.cache);
+        self.counts.leave_from(Why::ForRoom, before, after);
+    }
+
+    fn pop_last(&mut self) -> Option<Entry<K, V>>
+    where
+        K: Drop,
+        V: Drop,
+    {
+        let gone = self.cache.pop_last()?;
+        self.counts.leave(Why::Removed, 1, gone.weight as u64);
+        Some(gone)
+    }
+
+    fn retain<F>(&mut self, keep: F)
+    where
+        K: Drop,
+        V: Drop,
+        F: FnMut(&K, &V, usize) -> bool + Drop,
+    {
+        let before = size(&self.cache);
+        self.cache.retain(keep);
+        let after = size(&self.cache);
+        self.counts.leave_from(Why::Removed, before, after);
     }
 }

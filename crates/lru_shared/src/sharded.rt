@@ -1,21 +1,28 @@
 //! A cache of one owner in shards: what a shared cache is behind its locks.
-ghost use Rattle.std.specs.Prelude.{◌≡◌, ◌<◌, ◌/◌, is_some, length, replicate, IfOk};
+ghost use Rattle.std.specs.Prelude.{◌≡◌, ◌<◌, ◌≤◌, ◌/◌, is_some, length, replicate, IfOk};
 ghost use Rattle.lru_index.specs.Hashing.{key_hash, seeded, unseeded};
-ghost use Rattle.lru_cache.specs.Cache.{empty, hashes_from, entry_of, without, with_entries, Puts, UpdatesEntry, Clears, Retains};
+ghost use Rattle.lru_cache.specs.Cache.{hashes_from, entry_of};
 ghost use Rattle.lru_entries.specs.Entries.{weight_of};
-ghost use Rattle.lru_shared.specs.Shards.{home, Sees, Owns};
-ghost use Rattle.lru_shared.specs.Calls.{ShowsEntry, VisitsEach, GetsClone, GetsOrPuts};
-ghost use Rattle.lru_shared.specs.Sharded.{sharded};
+ghost use Rattle.lru_shared.specs.Shards.{home, Sees, Owns, OwnsEach};
+ghost use Rattle.lru_shared.specs.Calls.{ShowsEntry, VisitsEach, Gets, Lends, RetainsShard, GetsOrPuts};
+ghost use Rattle.lru_shared.specs.Counting.{Takes, PopsShard, ClearsShard, DrainsShard, LimitsShard, PutsCounted};
+ghost use Rattle.lru_shared.specs.Counts.{total};
+ghost use Rattle.lru_shared.specs.Sharded.{empty_shard, empty_shards};
+ghost use Rattle.lru_shared.specs.Popping.{PopsAmong, PopsRound};
 
 use crate::calls;
 use crate::calls::NotGot;
+use crate::counts::{Counted, Counts, shard_stats, total};
 use crate::limits::Limits;
+use crate::one::Shard;
 use crate::shards::Owned;
 use lru_cache::cache::{Cache, Entry, Refused};
 use lru_index::alike::SameHashes;
 use lru_index::hashing::SeededHashes;
 use lru_index::keys::Query;
 use std::alloc::{AllocError, Global};
+use std::fmt;
+use std::fmt::{Debug, Formatter};
 use std::hash::{BuildHasher, Hash};
 use std::marker::Model;
 
@@ -23,10 +30,11 @@ use std::marker::Model;
 ///
 /// A key's shard is told by its hash: the low 32 bits of that modulo N. A call on a key does to the cache of its shard what
 /// that cache's call does, and leaves the others. Each shard has a part of the limits, `most_weight / N` and
-/// `most_entries / N`. It is what a `SharedCache` is behind its locks, whose calls are the same.
+/// `most_entries / N`. What its calls met is counted beside each shard. It is what a `SharedCache` is behind its locks, whose
+/// calls are the same.
 #[derive(Drop)]
 pub struct ShardedCache<K: Hash, V, const N: usize, S: BuildHasher = SeededHashes> {
-    shards: Owned<Cache<K, V, S>>,
+    shards: Owned<Counted<Cache<K, V, S>>>,
     hash_builder: S,
 }
 
@@ -42,24 +50,34 @@ impl<K: Hash, V, const N: usize, S: BuildHasher> Model for ShardedCache<K, V, N,
     ghost invariant = { λ c. AreSome N c.shards.shards.items };
 }
 
-// Caches without entries, one for each shard, each under its part of the limits.
-pub(crate) fn empty_caches<K: Hash + Drop, V: Drop, S: BuildHasher + Copy + Drop>(
+/// Tells how many shards there are.
+impl<K: Hash, V, const N: usize, S: BuildHasher> Debug for ShardedCache<K, V, N, S> {
+    fn fmt<W: fmt::Write>(&self, f: &mut Formatter<W>) -> fmt::Result {
+        f.debug_struct("ShardedCache")
+            .field("shards", &N)
+            .finish_non_exhaustive()
+    }
+}
+
+// Shards without entries, each under its part of the limits.
+pub(crate) fn empty_shards<K: Hash + Drop, V: Drop, S: BuildHasher + Copy + Drop>(
     alloc: Global,
     most_weight: usize,
     most_entries: usize,
     shards: usize,
     hash_builder: S,
-) -> Result<Vec<Cache<K, V, S>>, AllocError>
+) -> Result<Vec<Shard<K, V, S>>, AllocError>
     requires { 0 < shards }
-    ensures { IfOk result (λ caches. caches.items ≡ replicate shards (empty hash_builder (most_weight / shards) (most_entries / shards))) }
+    ensures { IfOk result (λ made. made.items ≡ replicate shards (empty_shard hash_builder (most_weight / shards) (most_entries / shards))) }
 {
     let (most_weight, most_entries) = (most_weight / shards, most_entries / shards);
-    let mut caches = Vec::with_capacity(alloc, shards)?;
+    let mut made = Vec::with_capacity(alloc, shards)?;
     for _ in 0..shards {
         let cache = Cache::with_hasher(alloc, most_weight, most_entries, hash_builder)?;
-        caches.push(cache)?;
+        let counts = Counts::none();
+        made.push(Counted { cache, counts })?;
     }
-    Ok(caches)
+    Ok(made)
 }
 
 impl<K: Hash + Drop, V: Drop, const N: usize> ShardedCache<K, V, N, SeededHashes> {
@@ -71,7 +89,7 @@ impl<K: Hash + Drop, V: Drop, const N: usize> ShardedCache<K, V, N, SeededHashes
     /// There is no memory.
     pub fn new(alloc: Global, most_weight: usize, most_entries: usize) -> Result<Self, AllocError>
         requires { 0 < N }
-        ensures { IfOk result (λ cache. cache ≡ sharded (replicate N (empty (hashes_from unseeded) (most_weight / N) (most_entries / N))) (hashes_from unseeded)) }
+        ensures { IfOk result (λ cache. cache ≡ empty_shards N (hashes_from unseeded) (most_weight / N) (most_entries / N)) }
     {
         ShardedCache::with_hasher(alloc, most_weight, most_entries, SeededHashes::fixed())
     }
@@ -83,7 +101,7 @@ impl<K: Hash + Drop, V: Drop, const N: usize> ShardedCache<K, V, N, SeededHashes
     /// There is no memory.
     pub fn with_limits(alloc: Global, limits: Limits) -> Result<Self, AllocError>
         requires { 0 < N }
-        ensures { IfOk result (λ cache. cache ≡ sharded (replicate N (empty (hashes_from unseeded) (limits.weight / N) (limits.entries / N))) (hashes_from unseeded)) }
+        ensures { IfOk result (λ cache. cache ≡ empty_shards N (hashes_from unseeded) (limits.weight / N) (limits.entries / N)) }
     {
         ShardedCache::new(alloc, limits.weight, limits.entries)
     }
@@ -101,7 +119,7 @@ impl<K: Hash + Drop, V: Drop, const N: usize> ShardedCache<K, V, N, SeededHashes
         seed: u64,
     ) -> Result<Self, AllocError>
         requires { 0 < N }
-        ensures { IfOk result (λ cache. cache ≡ sharded (replicate N (empty (hashes_from (seeded seed)) (most_weight / N) (most_entries / N))) (hashes_from (seeded seed))) }
+        ensures { IfOk result (λ cache. cache ≡ empty_shards N (hashes_from (seeded seed)) (most_weight / N) (most_entries / N)) }
     {
         let hash_builder = SeededHashes::with_seed(seed);
         ShardedCache::with_hasher(alloc, most_weight, most_entries, hash_builder)
@@ -126,9 +144,9 @@ impl<K: Hash + Drop, V: Drop, const N: usize, S: BuildHasher + Copy + Drop> Shar
         hash_builder: S,
     ) -> Result<Self, AllocError>
         requires { 0 < N }
-        ensures { IfOk result (λ cache. cache ≡ sharded (replicate N (empty hash_builder (most_weight / N) (most_entries / N))) hash_builder) }
+        ensures { IfOk result (λ cache. cache ≡ empty_shards N hash_builder (most_weight / N) (most_entries / N)) }
     {
-        let shards = empty_caches(alloc, most_weight, most_entries, N, hash_builder)?;
+        let shards = empty_shards(alloc, most_weight, most_entries, N, hash_builder)?;
         Ok(ShardedCache {
             shards: Owned { shards },
             hash_builder,
@@ -149,7 +167,7 @@ impl<K: Hash, V, const N: usize, S: BuildHasher> ShardedCache<K, V, N, S> {
     /// How many entries a shard has.
     pub fn shard_len(&self, shard: usize) -> usize
         requires { shard < N }
-        ensures { Sees self.now.shards shard (λ cache. result ≡ length cache.entries) }
+        ensures { Sees self.now.shards shard (λ shard. result ≡ length shard.cache.entries) }
     {
         calls::shard_len(&self.shards, shard)
     }
@@ -157,9 +175,24 @@ impl<K: Hash, V, const N: usize, S: BuildHasher> ShardedCache<K, V, N, S> {
     /// What the entries of a shard weigh together.
     pub fn shard_weight(&self, shard: usize) -> usize
         requires { shard < N }
-        ensures { Sees self.now.shards shard (λ cache. result ≡ weight_of cache.entries) }
+        ensures { Sees self.now.shards shard (λ shard. result ≡ weight_of shard.cache.entries) }
     {
         calls::shard_weight(&self.shards, shard)
+    }
+
+    /// What the calls on a shard met, since the cache was made.
+    pub fn shard_stats(&self, shard: usize) -> Counts
+        requires { shard < N }
+        ensures { Sees self.now.shards shard (λ shard. result ≡ shard.counts) }
+    {
+        shard_stats(&self.shards, shard)
+    }
+
+    /// What the calls met, since the cache was made: the sum over the shards.
+    pub fn stats(&self) -> Counts
+        ensures { result ≡ total self.now.shards }
+    {
+        total(&self.shards.shards)
     }
 
     /// Calls a closure with the key, the value and the weight of each entry of a shard, most recent first. None is used by
@@ -167,7 +200,7 @@ impl<K: Hash, V, const N: usize, S: BuildHasher> ShardedCache<K, V, N, S> {
     pub fn iter_for_each<F: FnMut((&K, &V, usize))>(&self, shard: usize, visit: F)
         requires shard { shard < N }
         requires visit { F.IsAlwaysCallable visit }
-        ensures { Sees self.now.shards shard (λ cache. VisitsEach (λ p x q. F.step p x tt q) visit cache.entries) }
+        ensures { Sees self.now.shards shard (λ shard. VisitsEach (λ p x q. F.step p x tt q) visit shard.cache.entries) }
     {
         calls::visit_each(&self.shards, shard, visit);
     }
@@ -177,7 +210,7 @@ impl<K: Hash, V, const N: usize, S: BuildHasher + SameHashes> ShardedCache<K, V,
     /// Whether a key has an entry, or what stands for the key: a reference to it, or a `&str` where keys are texts.
     pub fn contains<Q: Query<K>>(&self, query: Q) -> bool
         ensures { Sees self.now.shards (home N (key_hash S.BuildHasher S.Hasher.Hasher Q.hash_input self.now.hashes query))
-            (λ cache. result ≡ is_some (entry_of Q.stands_for cache.entries query)) }
+            (λ shard. result ≡ is_some (entry_of Q.stands_for shard.cache.entries query)) }
     {
         calls::contains(&self.shards, &self.hash_builder, query)
     }
@@ -187,7 +220,7 @@ impl<K: Hash, V, const N: usize, S: BuildHasher + SameHashes> ShardedCache<K, V,
     pub fn peek_with<Q: Query<K>, R, F: FnOnce(&V) -> R>(&self, query: Q, show: F) -> Option<R>
         requires { F.IsAlwaysCallable show }
         ensures { Sees self.now.shards (home N (key_hash S.BuildHasher S.Hasher.Hasher Q.hash_input self.now.hashes query))
-            (λ cache. ShowsEntry Q.stands_for (F.post show) cache.entries query result) }
+            (λ shard. ShowsEntry Q.stands_for (F.post show) shard.cache.entries query result) }
     {
         calls::peek(&self.shards, &self.hash_builder, query, show)
     }
@@ -201,7 +234,7 @@ impl<K: Hash, V, const N: usize, S: BuildHasher + SameHashes> ShardedCache<K, V,
     where
         V: Clone,
         ensures acts { Owns self.old.shards (home N (key_hash S.BuildHasher S.Hasher.Hasher Q.hash_input self.old.hashes query))
-            (λ before after. GetsClone Q.stands_for V.is_clone before query result after) self.new.shards }
+            (λ before after. Gets Q.stands_for V.is_clone before query result after) self.new.shards }
         ensures hashes { self.new.hashes ≡ self.old.hashes }
     {
         calls::get(&mut self.shards, &self.hash_builder, query)
@@ -216,7 +249,7 @@ impl<K: Hash, V, const N: usize, S: BuildHasher + SameHashes> ShardedCache<K, V,
     ) -> Option<R>
         requires { F.IsAlwaysCallable show }
         ensures acts { Owns self.old.shards (home N (key_hash S.BuildHasher S.Hasher.Hasher Q.hash_input self.old.hashes query))
-            (λ before after. UpdatesEntry Q.stands_for (F.post show) before query result after) self.new.shards }
+            (λ before after. Lends Q.stands_for (F.post show) before query result after) self.new.shards }
         ensures hashes { self.new.hashes ≡ self.old.hashes }
     {
         calls::update(&mut self.shards, &self.hash_builder, query, show)
@@ -245,7 +278,7 @@ impl<K: Hash + Drop, V: Drop, const N: usize, S: BuildHasher + SameHashes> Shard
     ) -> Result<Option<Entry<K, V>>, Refused<K, V>>
         requires { F.IsAlwaysCallable visit }
         ensures acts { Owns self.old.shards (home N (key_hash S.BuildHasher S.Hasher.Hasher K.hash_input self.old.hashes key))
-            (λ before after. Puts K.eq (λ p x q. F.step p x tt q) visit before key value weight result after) self.new.shards }
+            (λ before after. PutsCounted (λ p x q. F.step p x tt q) visit K.eq before key value weight result after) self.new.shards }
         ensures hashes { self.new.hashes ≡ self.old.hashes }
     {
         calls::put(
@@ -261,7 +294,7 @@ impl<K: Hash + Drop, V: Drop, const N: usize, S: BuildHasher + SameHashes> Shard
     /// Takes a key's entry out, by what stands for the key.
     pub fn remove<Q: Query<K>>(&mut self, query: Q) -> Option<Entry<K, V>>
         ensures acts { Owns self.old.shards (home N (key_hash S.BuildHasher S.Hasher.Hasher Q.hash_input self.old.hashes query))
-            (λ before after. (result ≡ entry_of Q.stands_for before.entries query) × (after ≡ with_entries before (without Q.stands_for before.entries query))) self.new.shards }
+            (λ before after. Takes Q.stands_for before query result after) self.new.shards }
         ensures hashes { self.new.hashes ≡ self.old.hashes }
     {
         calls::remove(&mut self.shards, &self.hash_builder, query)
@@ -286,7 +319,7 @@ impl<K: Hash + Drop, V: Drop, const N: usize, S: BuildHasher + SameHashes> Shard
         F: FnMut(Entry<K, V>) + Drop,
         requires make { M.IsAlwaysCallable make }
         requires visit { F.IsAlwaysCallable visit }
-        ensures acts { GetsOrPuts K.eq V.is_clone (M.post make) (λ p x q. F.step p x tt q) visit
+        ensures acts { GetsOrPuts ⊥ K.eq V.is_clone (M.post make) (λ p x q. F.step p x tt q) visit
             (λ s P t. Owns s (home N (key_hash S.BuildHasher S.Hasher.Hasher K.hash_input self.old.hashes key)) P t) key self.old.shards result self.new.shards }
         ensures hashes { self.new.hashes ≡ self.old.hashes }
     {
@@ -299,7 +332,7 @@ impl<K: Hash + Drop, V: Drop, const N: usize, S: BuildHasher> ShardedCache<K, V,
     pub fn clear_shard<F: FnMut(Entry<K, V>) + Drop>(&mut self, shard: usize, visit: F)
         requires shard { shard < N }
         requires visit { F.IsAlwaysCallable visit }
-        ensures acts { Owns self.old.shards shard (λ before after. Clears (λ p x q. F.step p x tt q) visit before after) self.new.shards }
+        ensures acts { Owns self.old.shards shard (λ before after. ClearsShard (λ p x q. F.step p x tt q) visit before after) self.new.shards }
         ensures hashes { self.new.hashes ≡ self.old.hashes }
     {
         calls::clear(&mut self.shards, shard, visit);
@@ -310,9 +343,71 @@ impl<K: Hash + Drop, V: Drop, const N: usize, S: BuildHasher> ShardedCache<K, V,
     pub fn retain_shard<F: FnMut(&K, &V, usize) -> bool + Drop>(&mut self, shard: usize, keep: F)
         requires shard { shard < N }
         requires keep { F.IsAlwaysCallable keep }
-        ensures acts { Owns self.old.shards shard (λ before after. Retains (λ p k v w b q. F.step p k v w b q) keep before after) self.new.shards }
+        ensures acts { Owns self.old.shards shard (λ before after. RetainsShard (λ p k v w b q. F.step p k v w b q) keep before after) self.new.shards }
         ensures hashes { self.new.hashes ≡ self.old.hashes }
     {
         calls::retain(&mut self.shards, shard, keep);
+    }
+
+    /// Takes the entry of a shard out that was used longest ago there.
+    pub fn pop_last_of(&mut self, shard: usize) -> Option<Entry<K, V>>
+        requires { shard < N }
+        ensures acts { Owns self.old.shards shard (λ before after. PopsShard before result after) self.new.shards }
+        ensures hashes { self.new.hashes ≡ self.old.hashes }
+    {
+        calls::pop_last(&mut self.shards, shard)
+    }
+
+    // Takes the last entry out of the first of these shards that has one.
+    fn pop_last_among(&mut self, first: usize, end: usize) -> Option<Entry<K, V>>
+        requires { end ≤ N }
+        ensures pops { PopsAmong first end self.old.shards result self.new.shards }
+        ensures hashes { self.new.hashes ≡ self.old.hashes }
+    {
+        for shard in first..end {
+            if let Some(gone) = self.pop_last_of(shard) {
+                return Some(gone);
+            }
+        }
+        None
+    }
+
+    /// Takes an entry out: of the shards from `from` on, and then round from shard 0, the first that has entries gives the one
+    /// that was used longest ago there. Who hands in the next number each time takes from each shard in turn.
+    pub fn pop_last(&mut self, from: usize) -> Option<Entry<K, V>>
+        requires { from < N }
+        ensures pops { PopsRound N from self.old.shards result self.new.shards }
+        ensures hashes { self.new.hashes ≡ self.old.hashes }
+    {
+        match self.pop_last_among(from, N) {
+            Some(gone) => Some(gone),
+            None => self.pop_last_among(0, from),
+        }
+    }
+
+    /// Lets all entries of a shard go, the one that was used last first, and hands each to `visit`.
+    pub fn drain_shard<F: FnMut(Entry<K, V>) + Drop>(&mut self, shard: usize, visit: F)
+        requires shard { shard < N }
+        requires visit { F.IsAlwaysCallable visit }
+        ensures acts { Owns self.old.shards shard (λ before after. DrainsShard (λ p x q. F.step p x tt q) visit before after) self.new.shards }
+        ensures hashes { self.new.hashes ≡ self.old.hashes }
+    {
+        calls::drain(&mut self.shards, shard, visit);
+    }
+
+    /// Gives a shard other limits, as `Limits::part` tells its part of those of the whole. Then its entries that were used
+    /// longest ago go, as many as have to, and each is handed to `visit`.
+    pub fn set_shard_limits<F: FnMut(Entry<K, V>) + Drop>(
+        &mut self,
+        shard: usize,
+        limits: Limits,
+        visit: F,
+    )
+        requires shard { shard < N }
+        requires visit { F.IsAlwaysCallable visit }
+        ensures acts { Owns self.old.shards shard (λ before after. LimitsShard (λ p x q. F.step p x tt q) visit limits.weight limits.entries before after) self.new.shards }
+        ensures hashes { self.new.hashes ≡ self.old.hashes }
+    {
+        calls::set_limits(&mut self.shards, shard, limits, visit);
     }
 }

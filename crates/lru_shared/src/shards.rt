@@ -1,6 +1,6 @@
 //! Shards that a call can be done on, of one owner or behind locks. What is called on them is written once, over both.
 ghost use Rattle.std.specs.Prelude.{◌≡◌, ℕ, ◌<◌, length, Option, Result};
-ghost use Rattle.lru_shared.specs.Shards.{home, Looks, Acts, Begins, Sees, Owns};
+ghost use Rattle.lru_shared.specs.Shards.{home, Looks, Acts, Begins, Finishes, Sees, Owns};
 
 use std::alloc::AllocError;
 
@@ -28,6 +28,9 @@ pub trait Shards<S> {
 
     // what is known of all shards afterwards, where that of a number is changed so
     ghost does: { Self → ℕ → (S → S → Type 0) → Self → Type 0 };
+
+    // whether others may end the making of a value
+    ghost may_end: { Type 0 };
 
     // what follows from what is known of a shard is known of it
     ghost sees_more: { (P Q : S → Type 0) → ((a : S) → P a → Q a) → (s : Self) (i : ℕ) → sees s i P → sees s i Q };
@@ -75,15 +78,33 @@ pub trait Shards<S> {
         ensures acts { does self.old shard (Begins (F.post act) result) self.new }
         ensures many { many self.new ≡ many self.old };
 
-    /// As `on`; and a value of this hash is no longer being made: who waits for it goes on.
-    fn finish<R, F: FnOnce(&mut S) -> R + Drop>(&mut self, shard: usize, hash: u64, act: F) -> R
+    /// As `on`; and the value of which `begin` noted that it is being made is no longer: who waits for it goes on. Where
+    /// others have ended that making meanwhile, by `renew`, nothing is called, and the answer is `None`.
+    fn finish<R, F: FnOnce(&mut S) -> R + Drop>(&mut self, shard: usize, act: F) -> Option<R>
+        requires shard { shard < many self.old }
+        requires act { F.IsAlwaysCallable act }
+        ensures acts { Finishes may_end (λ P. does self.old shard P self.new) (F.post act) result }
+        ensures many { many self.new ≡ many self.old };
+
+    /// As `on`, for a closure that leaves what is newer than any value of this hash that is being made: those makings end,
+    /// and who waits for them goes on.
+    fn renew<R, F: FnOnce(&mut S) -> R + Drop>(&mut self, shard: usize, hash: u64, act: F) -> R
         requires shard { shard < many self.old }
         requires act { F.IsAlwaysCallable act }
         ensures acts { does self.old shard (Acts (F.post act) result) self.new }
         ensures many { many self.new ≡ many self.old };
 }
 
-/// Shards of one owner. Nobody else makes a value meanwhile.
+/// Ends the making of a value of which nothing is put.
+pub fn give_up<S, T: Shards<S>>(shards: &mut T, shard: usize)
+    requires { shard < T.many shards.old }
+    ensures same { T.does shards.old shard (λ before after. after ≡ before) shards.new }
+    ensures many { T.many shards.new ≡ T.many shards.old }
+{
+    drop(shards.finish(shard, |_shard: &mut S| {}));
+}
+
+/// Shards of one owner. Nobody else makes a value meanwhile, nor ends a making.
 #[derive(Drop)]
 pub struct Owned<S> {
     /// The shards, in the order of their numbers.
@@ -96,6 +117,8 @@ impl<S> Shards<S> for Owned<S> {
     ghost sees = { λ o i P. Sees o.shards.items i P };
 
     ghost does = { λ o i P n. Owns o.shards.items i P n.shards.items };
+
+    ghost may_end = { ⊥ };
 
     ghost sees_more = { λ P Q more s i d. (d.0, (d.1.0, more d.0 d.1.1)) };
 
@@ -132,7 +155,12 @@ impl<S> Shards<S> for Owned<S> {
     }
 
     #[inline(always)]
-    fn finish<R, F: FnOnce(&mut S) -> R + Drop>(&mut self, shard: usize, _hash: u64, act: F) -> R {
+    fn finish<R, F: FnOnce(&mut S) -> R + Drop>(&mut self, shard: usize, act: F) -> Option<R> {
+        Some(act(&mut self.shards[shard]))
+    }
+
+    #[inline(always)]
+    fn renew<R, F: FnOnce(&mut S) -> R + Drop>(&mut self, shard: usize, _hash: u64, act: F) -> R {
         act(&mut self.shards[shard])
     }
 }

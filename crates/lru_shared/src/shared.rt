@@ -1,31 +1,41 @@
 //! A cache that threads share.
-ghost use Rattle.std.specs.Prelude.{◌≡◌, ◌<◌, length, vec_len, true, IfErr, IfSome};
-ghost use Rattle.lru_shared.specs.Answers.{HandsBack, MayShow, MayLend, MayPut};
+ghost use Rattle.std.specs.Prelude.{◌≡◌, ℕ, ◌<◌, ◌/◌, All, length, vec_len, true, Ok, IfOk, IfErr, IfSome};
+ghost use Rattle.lru_shared.specs.Answers.{HandsBack};
+ghost use Rattle.lru_shared.specs.Sharded.{empty_shard};
+ghost use Rattle.lru_shared.specs.Related.{KeepsRelation, MayShowRelated, MayLendRelated, MayGetRelated, MayTakeRelated, MayPutRelated, MayVisitRelated, MayClearRelated, MayDrainRelated, MayLimitRelated, MayRetainRelated};
+ghost use Rattle.lru_shared.specs.Relations.{IsRelated, AreRelated};
 
 use crate::calls;
 pub use crate::calls::NotGot;
+use crate::counts::{Counted, Counts};
+use crate::kept::Kept;
 pub use crate::limits::Limits;
-use crate::locked::{Held, Locked, Shard, behind_locks};
-use crate::sharded::empty_caches;
+use crate::locked::{Held, Locked, behind_locks};
+use crate::related::RelatedShard;
+pub use crate::relations::{Anything, Relation};
 use crossbeam_utils::CachePadded;
 use lru_cache::cache::{Cache, Entry, Refused};
 use lru_index::alike::SameHashes;
 use lru_index::hashing::SeededHashes;
 use lru_index::keys::Query;
 use std::alloc::{AllocError, Global};
+use std::fmt;
+use std::fmt::{Debug, Formatter};
 use std::hash::{BuildHasher, Hash};
 use std::sync::Wait;
 
 /// A shard under its lock, which is held as long as this is there.
 #[derive(Drop)]
-pub struct LockedShard<'a, K: Hash, V, S: BuildHasher> {
-    held: Held<'a, Cache<K, V, S>>,
+pub struct LockedShard<'a, K: Hash, V, S: BuildHasher, Rel: Relation<K, V> = Anything> {
+    held: Held<'a, RelatedShard<K, V, S, Rel>>,
 }
 
-impl<'a, K: Hash, V, S: BuildHasher> LockedShard<'a, K, V, S> {
+impl<'a, K: Hash, V, S: BuildHasher, Rel: Relation<K, V>> LockedShard<'a, K, V, S, Rel> {
     /// The entries of the shard, as they are while the lock is held.
-    pub fn cache(&self) -> &Cache<K, V, S> {
-        self.held.cache()
+    pub fn cache(&self) -> &Cache<K, V, S>
+        ensures { AreRelated Rel.holds result.now.entries }
+    {
+        &self.held.cache().shard().cache
     }
 }
 
@@ -37,17 +47,36 @@ impl<'a, K: Hash, V, S: BuildHasher> LockedShard<'a, K, V, S> {
 /// that was used longest ago there first; and an entry heavier than a shard's part is refused.
 ///
 /// What a call does under the lock of its shard is what the call of the same name does to that shard of a `ShardedCache`: both
-/// are written once.
+/// are written once. That is counted beside the shard (`stats`), so that no two shards' threads write one number.
 ///
 /// A closure that is handed in is called under the lock, and must make no call that waits for the same shard; only what
 /// `get_or_put_with` makes is made under no lock.
+///
+/// Its last parameter, `Rel`, says in which relation each value stands to its key. Who puts a value owes the relation, and what
+/// any call answers or lends has it. `Anything`, which is meant where none is told, asks nothing.
 #[derive(Drop)]
-pub struct SharedCache<K: Hash, V, const N: usize, S: BuildHasher = SeededHashes> {
+pub struct SharedCache<
+    K: Hash,
+    V,
+    const N: usize,
+    S: BuildHasher = SeededHashes,
+    Rel: Relation<K, V> = Anything,
+> {
     // no two shards share a cache line, so that a thread at one doesn't slow a thread at another
-    shards: Vec<CachePadded<Shard<Cache<K, V, S>>>>,
+    shards: Vec<CachePadded<crate::locked::Shard<RelatedShard<K, V, S, Rel>>>>,
     hash_builder: S,
     ghost some: { 0 < N },
     ghost has_shards: { vec_len shards ≡ N },
+}
+
+/// Tells how many shards there are. What they have is read under their locks, so it is not told here.
+impl<K: Hash, V, const N: usize, S: BuildHasher, Rel: Relation<K, V>> Debug
+    for SharedCache<K, V, N, S, Rel> {
+    fn fmt<W: fmt::Write>(&self, f: &mut Formatter<W>) -> fmt::Result {
+        f.debug_struct("SharedCache")
+            .field("shards", &N)
+            .finish_non_exhaustive()
+    }
 }
 
 impl<K: Hash + Drop, V: Drop, const N: usize> SharedCache<K, V, N, SeededHashes> {
@@ -112,15 +141,68 @@ impl<K: Hash + Drop, V: Drop, const N: usize, S: BuildHasher + Copy + Drop> Shar
     ) -> Result<Self, AllocError>
         requires { 0 < N }
     {
-        let caches = empty_caches(alloc, most_weight, most_entries, N, hash_builder)?;
+        SharedCache::related(alloc, most_weight, most_entries, hash_builder)
+    }
+}
+
+// Shards without entries, each under its part of the limits.
+fn empty_shards<K, V, const N: usize, S, Rel>(
+    alloc: Global,
+    limits: Limits,
+    hash_builder: S,
+) -> Result<Vec<RelatedShard<K, V, S, Rel>>, AllocError>
+where
+    K: Hash + Drop,
+    V: Drop,
+    S: BuildHasher + Copy + Drop,
+    Rel: Relation<K, V>,
+    requires { 0 < N }
+    ensures many { IfOk result (λ made. vec_len made ≡ N) }
+    ensures parts { IfOk result (λ made. All (λ one. one.shard ≡ empty_shard hash_builder (limits.weight / N) (limits.entries / N)) made.items) }
+{
+    let part = limits.part(N);
+    let mut made = Vec::with_capacity(alloc, N)?;
+    for _ in 0..N {
+        let cache = Cache::with_hasher(alloc, part.weight, part.entries, hash_builder)?;
+        let counts = Counts::none();
+        made.push(RelatedShard::new(Counted { cache, counts }))?;
+    }
+    Ok(made)
+}
+
+impl<
+    K: Hash + Drop,
+    V: Drop,
+    const N: usize,
+    S: BuildHasher + Copy + Drop,
+    Rel: Relation<K, V>,
+> SharedCache<K, V, N, S, Rel> {
+    /// A cache as `with_hasher` makes it, of a relation of the caller's: `SharedCache::<K, V, N, S, Rel>::related(..)`.
+    ///
+    /// # Errors
+    ///
+    /// There is no memory.
+    pub fn related(
+        alloc: Global,
+        most_weight: usize,
+        most_entries: usize,
+        hash_builder: S,
+    ) -> Result<Self, AllocError>
+        requires { 0 < N }
+    {
+        let limits = Limits {
+            weight: most_weight,
+            entries: most_entries,
+        };
+        let shards = empty_shards::<K, V, N, S, Rel>(alloc, limits, hash_builder)?;
         Ok(SharedCache {
-            shards: behind_locks(alloc, caches)?,
+            shards: behind_locks(alloc, shards)?,
             hash_builder,
         })
     }
 }
 
-impl<K: Hash, V, const N: usize, S: BuildHasher> SharedCache<K, V, N, S> {
+impl<K: Hash, V, const N: usize, S: BuildHasher, Rel: Relation<K, V>> SharedCache<K, V, N, S, Rel> {
     /// The number of shards, N.
     pub fn shards(&self) -> usize
         ensures value { result ≡ N }
@@ -147,16 +229,22 @@ impl<K: Hash, V, const N: usize, S: BuildHasher> SharedCache<K, V, N, S> {
         weight
     }
 
+    /// What the calls met, since the cache was made: the sum over the shards, each read under its lock, one after another.
+    pub fn stats(&self, rt: &impl Wait) -> Counts {
+        let mut stats = Counts::none();
+        for shard in 0..N {
+            stats = stats.plus(calls::shard_stats(&self.locked(rt), shard));
+        }
+        stats
+    }
+
     // The shards behind their locks, for which a call waits.
     #[inline(always)]
-    fn locked<'a, W: Wait>(&'a self, rt: &'a W) -> Locked<'a, Cache<K, V, S>, W>
+    fn locked<'a, W: Wait>(&'a self, rt: &'a W) -> Locked<'a, RelatedShard<K, V, S, Rel>, W, N>
         ensures some { 0 < N }
         ensures many { length result.shards.now ≡ N }
     {
-        Locked {
-            shards: &self.shards,
-            rt,
-        }
+        Locked::new(&self.shards, rt)
     }
 
     /// Calls a closure with the key, the value and the weight of each entry of a shard, most recent first, under the lock of
@@ -164,13 +252,14 @@ impl<K: Hash, V, const N: usize, S: BuildHasher> SharedCache<K, V, N, S> {
     pub fn iter_for_each<F: FnMut((&K, &V, usize))>(&self, rt: &impl Wait, shard: usize, visit: F)
         requires shard { shard < N }
         requires visit { F.IsAlwaysCallable visit }
+        ensures { MayVisitRelated Rel.holds (λ p x q. F.step p x tt q) visit }
     {
         calls::visit_each(&self.locked(rt), shard, visit);
     }
 
     /// Takes the lock of a shard, and holds it as long as what it answers is there. Meanwhile a call that waits for the same
     /// shard has to come from another thread.
-    pub fn lock_shard(&self, rt: &impl Wait, shard: usize) -> LockedShard<'_, K, V, S>
+    pub fn lock_shard(&self, rt: &impl Wait, shard: usize) -> LockedShard<'_, K, V, S, Rel>
         requires { shard < N }
     {
         LockedShard {
@@ -186,7 +275,13 @@ impl<K: Hash, V, const N: usize, S: BuildHasher> SharedCache<K, V, N, S> {
     }
 }
 
-impl<K: Hash, V, const N: usize, S: BuildHasher + SameHashes> SharedCache<K, V, N, S> {
+impl<K: Hash, V, const N: usize, S: BuildHasher + SameHashes, Rel: Relation<K, V>> SharedCache<
+    K,
+    V,
+    N,
+    S,
+    Rel,
+> {
     /// Whether a key has an entry.
     pub fn contains(&self, rt: &impl Wait, key: &K) -> bool {
         self.contains_by(rt, key)
@@ -201,7 +296,7 @@ impl<K: Hash, V, const N: usize, S: BuildHasher + SameHashes> SharedCache<K, V, 
     /// without an entry is answered by `None`, and nothing is called.
     pub fn peek_with<R, F: FnOnce(&V) -> R>(&self, rt: &impl Wait, key: &K, show: F) -> Option<R>
         requires { F.IsAlwaysCallable show }
-        ensures { IfSome result (MayShow (F.post show)) }
+        ensures { IfSome result (MayShowRelated Rel.holds K.eq key.now (F.post show)) }
     {
         self.peek_with_by(rt, key, show)
     }
@@ -214,7 +309,7 @@ impl<K: Hash, V, const N: usize, S: BuildHasher + SameHashes> SharedCache<K, V, 
         show: F,
     ) -> Option<R>
         requires { F.IsAlwaysCallable show }
-        ensures { IfSome result (MayShow (F.post show)) }
+        ensures { IfSome result (MayShowRelated Rel.holds Q.stands_for query (F.post show)) }
     {
         calls::peek(&self.locked(rt), &self.hash_builder, query, show)
     }
@@ -227,6 +322,7 @@ impl<K: Hash, V, const N: usize, S: BuildHasher + SameHashes> SharedCache<K, V, 
     pub fn get(&self, rt: &impl Wait, key: &K) -> Result<Option<V>, AllocError>
     where
         V: Clone,
+        ensures { IfOk result (λ found. IfSome found (MayGetRelated Rel.holds K.eq V.is_clone key.now)) }
     {
         self.get_by(rt, key)
     }
@@ -239,6 +335,7 @@ impl<K: Hash, V, const N: usize, S: BuildHasher + SameHashes> SharedCache<K, V, 
     pub fn get_by<Q: Query<K>>(&self, rt: &impl Wait, query: Q) -> Result<Option<V>, AllocError>
     where
         V: Clone,
+        ensures { IfOk result (λ found. IfSome found (MayGetRelated Rel.holds Q.stands_for V.is_clone query)) }
     {
         calls::get(&mut self.locked(rt), &self.hash_builder, query)
     }
@@ -251,8 +348,9 @@ impl<K: Hash, V, const N: usize, S: BuildHasher + SameHashes> SharedCache<K, V, 
         key: &K,
         show: F,
     ) -> Option<R>
-        requires { F.IsAlwaysCallable show }
-        ensures { IfSome result (MayLend (F.post show)) }
+        requires show { F.IsAlwaysCallable show }
+        requires keeps { KeepsRelation Rel.holds (F.post show) }
+        ensures { IfSome result (MayLendRelated Rel.holds K.eq key.now (F.post show)) }
     {
         self.get_with_by(rt, key, show)
     }
@@ -264,14 +362,21 @@ impl<K: Hash, V, const N: usize, S: BuildHasher + SameHashes> SharedCache<K, V, 
         query: Q,
         show: F,
     ) -> Option<R>
-        requires { F.IsAlwaysCallable show }
-        ensures { IfSome result (MayLend (F.post show)) }
+        requires show { F.IsAlwaysCallable show }
+        requires keeps { KeepsRelation Rel.holds (F.post show) }
+        ensures { IfSome result (MayLendRelated Rel.holds Q.stands_for query (F.post show)) }
     {
         calls::update(&mut self.locked(rt), &self.hash_builder, query, show)
     }
 }
 
-impl<K: Hash + Drop, V: Drop, const N: usize, S: BuildHasher + SameHashes> SharedCache<K, V, N, S> {
+impl<
+    K: Hash + Drop,
+    V: Drop,
+    const N: usize,
+    S: BuildHasher + SameHashes,
+    Rel: Relation<K, V>,
+> SharedCache<K, V, N, S, Rel> {
     /// Puts an entry first in the shard of its key, in place of its key's, and answers that one. Then the entries of that
     /// shard that were used longest ago go, as many as have to for the others to be within the shard's part of the limits,
     /// and each is handed to `visit`, under the lock.
@@ -287,10 +392,11 @@ impl<K: Hash + Drop, V: Drop, const N: usize, S: BuildHasher + SameHashes> Share
         weight: usize,
         visit: F,
     ) -> Result<Option<Entry<K, V>>, Refused<K, V>>
-        requires { F.IsAlwaysCallable visit }
+        requires visit { F.IsAlwaysCallable visit }
+        requires related { Rel.holds key value }
         ensures key { IfErr result (λ refused. refused.key ≡ key) }
         ensures value { IfErr result (λ refused. refused.value ≡ value) }
-        ensures puts { MayPut K.eq (λ p x q. F.step p x tt q) visit key value weight result }
+        ensures puts { MayPutRelated Rel.holds K.eq (λ p x q. F.step p x tt q) visit key value weight result }
     {
         calls::put(
             &mut self.locked(rt),
@@ -304,14 +410,14 @@ impl<K: Hash + Drop, V: Drop, const N: usize, S: BuildHasher + SameHashes> Share
 
     /// Takes a key's entry out.
     pub fn remove(&self, rt: &impl Wait, key: &K) -> Option<Entry<K, V>>
-        ensures { IfSome result (λ entry. K.eq entry.key key.now ≡ true) }
+        ensures { IfSome result (MayTakeRelated Rel.holds K.eq key.now) }
     {
         self.remove_by(rt, key)
     }
 
     /// As `remove`, by what stands for the key.
     pub fn remove_by<Q: Query<K>>(&self, rt: &impl Wait, query: Q) -> Option<Entry<K, V>>
-        ensures { IfSome result (λ entry. Q.stands_for entry.key query ≡ true) }
+        ensures { IfSome result (MayTakeRelated Rel.holds Q.stands_for query) }
     {
         calls::remove(&mut self.locked(rt), &self.hash_builder, query)
     }
@@ -322,8 +428,9 @@ impl<K: Hash + Drop, V: Drop, const N: usize, S: BuildHasher + SameHashes> Share
     /// `make` is called under no lock, and only where the key has no entry and nobody makes one. While it runs, others who
     /// call this for the same key wait until `make` is done; where no entry is put then, the next of them makes one. Other
     /// keys go on, but for those of the very same hash, which wait in the same way; so `make` must not call this on the
-    /// same cache. Where somebody else put an entry of the key meanwhile, that one is newer and stays; what was made is answered
-    /// all the same.
+    /// same cache. A `put` of the key meanwhile, also one that is refused, or a `remove` ends that making: what was made is
+    /// answered, and is not put, since it is older. Who waited goes on then, with the entry that was put, or else the next of
+    /// them makes one. A call on a whole shard, as `clear_shard`, ends no making.
     ///
     /// # Errors
     ///
@@ -341,18 +448,27 @@ impl<K: Hash + Drop, V: Drop, const N: usize, S: BuildHasher + SameHashes> Share
         M: FnOnce() -> Result<(V, usize), E> + Drop,
         F: FnMut(Entry<K, V>) + Drop,
         requires make { M.IsAlwaysCallable make }
+        requires related { (value : V) (weight : ℕ) → M.post make (Ok (value, weight)) → Rel.holds key value }
         requires visit { F.IsAlwaysCallable visit }
-        ensures { IfErr result (HandsBack (M.post make) key) }
+        ensures value { IfOk result (MayGetRelated Rel.holds K.eq V.is_clone key) }
+        ensures refused { IfErr result (HandsBack (M.post make) key) }
     {
         calls::get_or_put_with(&mut self.locked(rt), &self.hash_builder, key, make, visit)
     }
 }
 
-impl<K: Hash + Drop, V: Drop, const N: usize, S: BuildHasher> SharedCache<K, V, N, S> {
+impl<K: Hash + Drop, V: Drop, const N: usize, S: BuildHasher, Rel: Relation<K, V>> SharedCache<
+    K,
+    V,
+    N,
+    S,
+    Rel,
+> {
     /// Lets all entries of a shard go, the one that was used longest ago first, and hands each to `visit`, under the lock.
     pub fn clear_shard<F: FnMut(Entry<K, V>) + Drop>(&self, rt: &impl Wait, shard: usize, visit: F)
         requires shard { shard < N }
         requires visit { F.IsAlwaysCallable visit }
+        ensures { MayClearRelated Rel.holds (λ p x q. F.step p x tt q) visit }
     {
         calls::clear(&mut self.locked(rt), shard, visit);
     }
@@ -367,7 +483,61 @@ impl<K: Hash + Drop, V: Drop, const N: usize, S: BuildHasher> SharedCache<K, V, 
     )
         requires shard { shard < N }
         requires keep { F.IsAlwaysCallable keep }
+        ensures { MayRetainRelated Rel.holds (λ p k v w b q. F.step p k v w b q) keep }
     {
         calls::retain(&mut self.locked(rt), shard, keep);
+    }
+
+    /// Takes the entry of a shard out that was used longest ago there, under its lock.
+    pub fn pop_last_of(&self, rt: &impl Wait, shard: usize) -> Option<Entry<K, V>>
+        requires { shard < N }
+        ensures { IfSome result (λ entry. IsRelated Rel.holds entry.key entry.value) }
+    {
+        calls::pop_last(&mut self.locked(rt), shard)
+    }
+
+    /// Gives a shard other limits, as `Limits::part` tells its part of those of the whole. Then its entries that were used
+    /// longest ago go, as many as have to, and each is handed to `visit`, under the lock.
+    pub fn set_shard_limits<F: FnMut(Entry<K, V>) + Drop>(
+        &self,
+        rt: &impl Wait,
+        shard: usize,
+        limits: Limits,
+        visit: F,
+    )
+        requires shard { shard < N }
+        requires visit { F.IsAlwaysCallable visit }
+        ensures { MayLimitRelated Rel.holds (λ p x q. F.step p x tt q) visit limits.weight limits.entries }
+    {
+        calls::set_limits(&mut self.locked(rt), shard, limits, visit);
+    }
+
+    /// Takes an entry out: of the shards from `from` on, and then round from shard 0, each under its lock, the first that has
+    /// entries gives the one that was used longest ago there. Who hands in the next number each time takes from each shard in
+    /// turn.
+    pub fn pop_last(&self, rt: &impl Wait, from: usize) -> Option<Entry<K, V>>
+        requires { from < N }
+        ensures { IfSome result (λ entry. IsRelated Rel.holds entry.key entry.value) }
+    {
+        for shard in from..N {
+            if let Some(gone) = self.pop_last_of(rt, shard) {
+                return Some(gone);
+            }
+        }
+        for shard in 0..from {
+            if let Some(gone) = self.pop_last_of(rt, shard) {
+                return Some(gone);
+            }
+        }
+        None
+    }
+
+    /// Lets all entries of a shard go, the one that was used last first, and hands each to `visit`, under the lock.
+    pub fn drain_shard<F: FnMut(Entry<K, V>) + Drop>(&self, rt: &impl Wait, shard: usize, visit: F)
+        requires shard { shard < N }
+        requires visit { F.IsAlwaysCallable visit }
+        ensures { MayDrainRelated Rel.holds (λ p x q. F.step p x tt q) visit }
+    {
+        calls::drain(&mut self.locked(rt), shard, visit);
     }
 }

@@ -1,4 +1,4 @@
-// Calls as data, and what they answer.
+//! Calls as data, and what they answer.
 use lru_journal::entry::Call;
 use lru_journal::journal::Seat;
 use lru_journal::tie::Registry;

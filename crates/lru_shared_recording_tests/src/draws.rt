@@ -1,5 +1,5 @@
-// Evictions of two shards, beside those of a core with the same draws; what is left without the seats; and a refused
-// increment.
+//! Evictions of two shards, beside those of a core with the same draws; what is left without the seats; and a refused
+//! increment.
 ghost use Rattle.std.specs.Prelude.{◌≡◌};
 
 use lru_cores::lru_core::LruCore;

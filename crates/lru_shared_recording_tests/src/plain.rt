@@ -1,4 +1,4 @@
-// A plain checker of histories and receipts.
+//! A plain checker of histories and receipts.
 ghost use Rattle.std.specs.Prelude.{◌≡◌, vec_len};
 
 use lru_journal::entry::{Call, Entry, Reply};

@@ -1,4 +1,4 @@
-// Refused calls: what they hand back, and what a history and a seat have of them.
+//! Refused calls: what they hand back, and what a history and a seat have of them.
 ghost use Rattle.std.specs.Prelude.{◌≡◌};
 
 use crate::plain::finished;

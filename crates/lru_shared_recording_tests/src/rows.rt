@@ -1,4 +1,4 @@
-// The worked row of one caller.
+//! The worked row of one caller.
 ghost use Rattle.std.specs.Prelude.{◌≡◌};
 
 use crate::asked::{Answer, ask};

@@ -1,4 +1,4 @@
-// Runs of two threads and of four.
+//! Runs of two threads and of four.
 ghost use Rattle.std.specs.Prelude.{◌≡◌};
 
 use crate::asked::{Answer, ask};

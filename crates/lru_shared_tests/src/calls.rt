@@ -1,5 +1,6 @@
 //! Each call, at two types of keys, and at values without a size.
 use lru_cache::cache::{Cause, Entry, Refused};
+use lru_shared::counts::{Counts, Left};
 use lru_shared::shared::SharedCache;
 use std::alloc::{AllocError, Global};
 use std::hash::Hash;
@@ -85,6 +86,28 @@ fn is_removed<K: Hash + Drop + Copy>(
     taken & is_gone & ((cache.len(rt), cache.weight(rt)) == (1, 3))
 }
 
+// Whether what the calls met is counted: of two keys three entries put, one in place of another, and one taken out.
+fn are_counted<K: Hash, const N: usize>(rt: &impl Wait, cache: &SharedCache<K, u64, N>) -> bool {
+    let stats = cache.stats(rt);
+    let replaced = Left {
+        entries: 1,
+        weight: 2,
+    };
+    let removed = Left {
+        entries: 1,
+        weight: 4,
+    };
+    stats
+        == Counts {
+            hits: 3,
+            misses: 2,
+            puts: 3,
+            replaced,
+            removed,
+            ..Counts::none()
+        }
+}
+
 fn calls_answer<K: Hash + Drop + Copy>(
     rt: &impl Wait,
     cache: &SharedCache<K, u64, 4>,
@@ -93,7 +116,8 @@ fn calls_answer<K: Hash + Drop + Copy>(
     Ok(
         are_put(rt, cache, one, two)
             && are_shown(rt, cache, one, none)?
-            && is_removed(rt, cache, one),
+            && is_removed(rt, cache, one)
+            && are_counted(rt, cache),
     )
 }
 

@@ -1,8 +1,9 @@
 //! Shards of one owner: each call, and that a shared cache does behind its locks what they do.
 use lru_cache::cache::Entry;
 use lru_index::hashing::SeededHashes;
+use lru_shared::counts::Counts;
 use lru_shared::sharded::ShardedCache;
-use lru_shared::shared::SharedCache;
+use lru_shared::shared::{Limits, SharedCache};
 use std::alloc::{AllocError, Global};
 use std::sync::Wait;
 use std::test::Fail;
@@ -116,10 +117,18 @@ fn are_the_same(rt: &impl Wait, alloc: Global) -> Result<bool, AllocError> {
         is_same &= owned.get(&number)? == shared.get(rt, &number)?;
         went = went.wrapping_add((gone != 0) as u32);
     }
+    let mut counted = 0u64;
     for shard in 0..4 {
         is_same &= owned.shard_len(shard) == shared.shard_len(rt, shard);
+        counted = counted.saturating_add(owned.shard_stats(shard).for_room.entries);
     }
-    Ok(is_same && went > 20)
+    let is_counted = (owned.stats() == shared.stats(rt)) & (counted == went as u64);
+    for turn in 0..48 {
+        let gone = owned.pop_last(turn % 4).map(|entry| entry.key);
+        is_same &= gone == shared.pop_last(rt, turn % 4).map(|entry| entry.key);
+    }
+    is_same &= (owned.stats().removed.entries == 40) & (shared.len(rt) == 0);
+    Ok(is_same && is_counted && went > 20)
 }
 
 #[test]
@@ -153,5 +162,63 @@ fn seeds_tell_shards(alloc: Global) -> Result<bool, AllocError> {
 #[test]
 fn seeds_tell_the_shards_of_keys(rt: HostRuntime) -> Result<(), Fail> {
     assert!(rt; seeds_tell_shards(rt.alloc())?);
+    Ok(())
+}
+
+// Of four entries, put in the order of their keys, which goes for a limit of three, which is popped, and the others as they are
+// drained; and how many left for room, were taken out, and went with all others.
+type LetGo = ([u64; 3], (u64, u64, u64));
+
+static LET_GO: LetGo = ([1, 2, 43], (1, 1, 2));
+
+const THREE: Limits = Limits {
+    weight: 12,
+    entries: 3,
+};
+
+fn left(stats: Counts) -> (u64, u64, u64) {
+    (
+        stats.for_room.entries,
+        stats.removed.entries,
+        stats.cleared.entries,
+    )
+}
+
+// The key of an entry, behind the digits that are there.
+fn behind(digits: u64, gone: Entry<u64, u64>) -> u64 {
+    digits.wrapping_mul(10).wrapping_add(gone.key)
+}
+
+fn let_go_by_owner(alloc: Global) -> Result<LetGo, AllocError> {
+    let mut cache = ShardedCache::<u64, u64, 1>::new(alloc, 40, 40)?;
+    for key in 1..5u64 {
+        drop(cache.put(key, key, 1, |_| {}));
+    }
+    let mut keys = [0u64; 3];
+    cache.set_shard_limits(0, THREE.part(1), |gone| keys[0] = behind(keys[0], gone));
+    keys[1] = cache.pop_last_of(0).map_or(0, |gone| gone.key);
+    cache.drain_shard(0, |gone| keys[2] = behind(keys[2], gone));
+    Ok((keys, left(cache.stats())))
+}
+
+fn let_go_behind_locks(rt: &impl Wait, alloc: Global) -> Result<LetGo, AllocError> {
+    let cache = SharedCache::<u64, u64, 1>::new(alloc, 40, 40)?;
+    for key in 1..5u64 {
+        drop(cache.put(rt, key, key, 1, |_| {}));
+    }
+    let mut keys = [0u64; 3];
+    cache.set_shard_limits(rt, 0, THREE.part(1), |gone| keys[0] = behind(keys[0], gone));
+    keys[1] = cache.pop_last_of(rt, 0).map_or(0, |gone| gone.key);
+    cache.drain_shard(rt, 0, |gone| keys[2] = behind(keys[2], gone));
+    Ok((keys, left(cache.stats(rt))))
+}
+
+fn are_let_go(rt: &impl Wait, alloc: Global) -> Result<bool, AllocError> {
+    Ok(let_go_by_owner(alloc)? == LET_GO && let_go_behind_locks(rt, alloc)? == LET_GO)
+}
+
+#[test]
+fn entries_are_popped_drained_and_limited(rt: HostRuntime) -> Result<(), Fail> {
+    assert!(rt; are_let_go(&rt, rt.alloc())?);
     Ok(())
 }

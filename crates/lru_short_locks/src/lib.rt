@@ -1,5 +1,7 @@
 //! Locks for short calls: who finds one taken tries again a few times before it waits. A call on a shard is over long
 //! before a thread that fell asleep would be awake again, and who waits for the lock in turn holds up all who come after.
+//!
+//! What lies behind a lock is known by its type alone. It stands on the locks of std.
 #![tactic(auto)]
 
 mod short_lock;

@@ -1,4 +1,4 @@
-// A cache of keys and values.
+//! A cache of keys and values.
 
 use lru_cache::cache::{Cache, Cause};
 

@@ -1,4 +1,4 @@
-// N shards of one owner.
+//! N shards of one owner.
 
 use pingora_lru::lru_core::LruCore;
 use rand_core::Rng;

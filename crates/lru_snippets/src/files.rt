@@ -1,4 +1,4 @@
-// A core that comes back after a restart.
+//! A core that comes back after a restart.
 
 use log::sink::Console;
 use pingora_lru::lru_core::LruCore;

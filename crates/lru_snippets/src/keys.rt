@@ -1,4 +1,4 @@
-// Keys that others choose.
+//! Keys that others choose.
 
 use std::hash::{BuildHasher, RandomState};
 

@@ -1,4 +1,4 @@
-// One shard.
+//! One shard.
 
 use pingora_lru::unit::{Cause, LruUnit};
 

@@ -1,4 +1,4 @@
-// N shards for many threads.
+//! N shards for many threads.
 
 use pingora_lru::Lru;
 use pingora_lru::recorded::{RecordedLru, Registry, Seat};

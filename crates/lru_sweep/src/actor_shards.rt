@@ -1,4 +1,4 @@
-// Messages of one shard under a cap of 10, with its map of weights and its queue of evicted pairs.
+//! Messages of one shard under a cap of 10, with its map of weights and its queue of evicted pairs.
 use lru_actors::effect::{Effect, Reply};
 use lru_actors::message::LruMsg;
 use lru_actors::process::process_msg;

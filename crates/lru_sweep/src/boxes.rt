@@ -1,4 +1,4 @@
-// Pairs put into a box and taken from it, where a refused call leaves the pair and the slips as they were.
+//! Pairs put into a box and taken from it, where a refused call leaves the pair and the slips as they were.
 use lru_ledger::{LedgerState, PutShare, TakeShare};
 use lru_mailbox::MailError;
 use std::alloc::{AllocError, Global};

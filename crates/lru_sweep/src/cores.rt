@@ -1,4 +1,4 @@
-// Evictions of one shard and of two, and the two cores of which one keeps a beginning of the other's rows.
+//! Evictions of one shard and of two, and the two cores of which one keeps a beginning of the other's rows.
 use crate::made;
 use lru_cores::lru_core::LruCore;
 use lru_shard::unit::{Cause, Refused};

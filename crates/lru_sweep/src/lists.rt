@@ -1,4 +1,4 @@
-// Pushes and removals of the linked list.
+//! Pushes and removals of the linked list.
 use crate::made;
 use lru_list::linked_list::{Index, LinkedListU64, PushError};
 use std::alloc::Global;

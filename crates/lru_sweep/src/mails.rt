@@ -1,4 +1,4 @@
-// Messages put into a mailbox: a refused push hands its message back and changes nothing.
+//! Messages put into a mailbox: a refused push hands its message back and changes nothing.
 use lru_mailbox::{MailError, MailState};
 use std::alloc::Global;
 use std::io;

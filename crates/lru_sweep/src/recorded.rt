@@ -1,4 +1,4 @@
-// The row of one caller over a limit of 1, and then updates and admissions by closures.
+//! The row of one caller over a limit of 1, and then updates and admissions by closures.
 ghost use Rattle.std.specs.Prelude.{◌≡◌};
 
 use lru_shard::unit::{Cause, Refused};

@@ -1,4 +1,4 @@
-// Calls of one shard under a cap of 10, refusals among them.
+//! Calls of one shard under a cap of 10, refusals among them.
 use crate::made;
 use lru_shard::unit::{Cause, LruUnit, Refused, RefusedUpdate};
 use std::alloc::{AllocError, Global};

@@ -1,4 +1,4 @@
-// Rows of weight 2 that go between two tiers under limits of 4, and more than either has places for at first.
+//! Rows of weight 2 that go between two tiers under limits of 4, and more than either has places for at first.
 use lru_cores::lru_core::LruCore;
 use lru_shard::unit::{Cause, Refused};
 use lru_tiers::tiered::{BalanceError, Tier, TieredCore};

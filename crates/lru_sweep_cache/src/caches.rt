@@ -1,4 +1,4 @@
-// A cache that grows, has room made, and is full.
+//! A cache that grows, has room made, and is full.
 use lru_cache::cache::{Cache, Cause, Entry, NotPut, Refused};
 use std::alloc::{AllocError, Global};
 use std::io;

@@ -1,4 +1,4 @@
-// A cache with deadlines that grows, and is swept.
+//! A cache with deadlines that grows, and is swept.
 use lru_cache::cache::{Cause, Entry, Refused};
 use lru_deadlines::deadlines::{DeadlineCache, Until};
 use std::alloc::{AllocError, Global};

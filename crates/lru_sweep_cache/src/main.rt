@@ -5,6 +5,7 @@
 
 mod caches;
 mod deadlines;
+mod segmented;
 mod shared;
 
 use std::process::ExitCode;
@@ -14,7 +15,8 @@ fn main(rt: HostRuntime) -> ExitCode {
     let caches = caches::script(alloc, &mut rt.stdout());
     let deadlines = deadlines::script(alloc, &mut rt.stdout());
     let shared = shared::script(&rt, alloc, &mut rt.stdout());
-    if caches.is_ok() && deadlines.is_ok() && shared.is_ok() {
+    let segmented = segmented::script(alloc, &mut rt.stdout());
+    if caches.is_ok() && deadlines.is_ok() && shared.is_ok() && segmented.is_ok() {
         ExitCode::SUCCESS
     } else {
         let _ = println!(rt; "a script did not end");

@@ -1,4 +1,4 @@
-// A shared cache of texts, whose clones take memory too.
+//! A shared cache of texts, whose clones take memory too.
 use lru_cache::cache::Cause;
 use lru_shared::shared::{NotGot, SharedCache};
 use std::alloc::{AllocError, Global};

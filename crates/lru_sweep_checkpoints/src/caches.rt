@@ -1,4 +1,4 @@
-// A shared cache of texts, whose clones take memory too.
+//! A shared cache of texts, whose clones take memory too.
 use crate::saves::{folder, is_saved, loaded, text, write_rows};
 use lru_cache_captures::shared::{SharedSource, capture_shard, restore_shards};
 use lru_frames::row::Row;

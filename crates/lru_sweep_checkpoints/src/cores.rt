@@ -1,4 +1,4 @@
-// A core whose data are texts, and a snapshot of keys and weights.
+//! A core whose data are texts, and a snapshot of keys and weights.
 ghost use Rattle.std.specs.Prelude.{◌<◌};
 
 use crate::saves::{folder, is_saved, loaded, text, write_rows};

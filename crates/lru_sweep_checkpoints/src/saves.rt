@@ -1,4 +1,4 @@
-// Saves and loads, made again where memory was refused to the first.
+//! Saves and loads, made again where memory was refused to the first.
 ghost use Rattle.std.specs.Prelude.{◌≤◌};
 ghost use Rattle.lru_checkpoints.specs.Checkpoints.{most_shards};
 

@@ -1,5 +1,5 @@
-// A run of the program's engine: it gives up, or a reply is that memory was refused, and the run made again answers as if nothing
-// had been. One that gives up with no request refused writes something else.
+//! A run of the program's engine: it gives up, or a reply is that memory was refused, and the run made again answers as if nothing
+//! had been. One that gives up with no request refused writes something else.
 use log::sink::Discard;
 use lru_engine::engine::run;
 use pingora_lru_files::persistence::MemoryFolder;

@@ -1,4 +1,4 @@
-// Loads of a core, and a core that is saved and loaded.
+//! Loads of a core, and a core that is saved and loaded.
 ghost use Rattle.std.specs.Prelude.{◌<◌};
 
 use crate::rows::{empty, filled, is_part, write_rows};

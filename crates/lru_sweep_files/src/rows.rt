@@ -1,4 +1,4 @@
-// Cores, and what is shown of them.
+//! Cores, and what is shown of them.
 ghost use Rattle.std.specs.Prelude.{◌<◌};
 
 use pingora_lru::lru_core::LruCore;

@@ -1,4 +1,4 @@
-// Saves of shards, and of a core.
+//! Saves of shards, and of a core.
 use crate::rows::{filled, rows_of};
 use log::sink;
 use lru_test_folders::refusals::{Ending, Saved, end_of_save};

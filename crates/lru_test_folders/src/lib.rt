@@ -1,4 +1,6 @@
 //! Folders, files and answers for the tests of the shard files' crates.
+//!
+//! Nothing that is no test stands on it. It stands on the folders whose tests it serves.
 #![tactic(auto)]
 
 pub mod loads;

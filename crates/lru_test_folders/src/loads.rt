@@ -1,4 +1,4 @@
-// Loads for tests. The closure that takes the bytes is told what to take, so that one closure is proved for all tests.
+//! Loads for tests. The closure that takes the bytes is told what to take, so that one closure is proved for all tests.
 use crate::refusals::Loaded;
 use crate::told::told_load;
 use crate::two_shards::is_bytes;

@@ -1,4 +1,4 @@
-// A runtime for tests, whose folders list one name more, which no file has.
+//! A runtime for tests, whose folders list one name more, which no file has.
 use std::alloc::{Alloc, Allocator, Global};
 use std::fs::{Metadata, OpenOptions};
 use std::io;

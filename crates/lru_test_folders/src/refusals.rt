@@ -1,4 +1,4 @@
-// What a save and a load of two shards may tell where one allocation is refused.
+//! What a save and a load of two shards may tell where one allocation is refused.
 use pingora_lru::unit::Cause;
 use pingora_lru_files::persistence::{
     FolderFault, ShardFileError, ShardLoadFailure, ShardLoadReport, ShardSaveError,

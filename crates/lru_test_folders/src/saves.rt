@@ -1,4 +1,4 @@
-// Saves for tests. What the closures and the savers are given is data, so that one of each is proved for all tests.
+//! Saves for tests. What the closures and the savers are given is data, so that one of each is proved for all tests.
 ghost use Rattle.std.specs.Prelude.{◌≡◌, false};
 ghost use Rattle.pingora_lru_files.specs.Names.{has_slash};
 

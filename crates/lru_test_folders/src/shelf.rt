@@ -1,4 +1,4 @@
-// A folder for tests, which answers as it is told to.
+//! A folder for tests, which answers as it is told to.
 ghost use Rattle.std.specs.Prelude.{◌≡◌, [], false, if◌then◌else◌};
 ghost use Rattle.lru_folder.specs.Meaning.{without_meaning};
 ghost use Rattle.pingora_lru_files.specs.Folder.{Opened, Closed, Lost, Writing};

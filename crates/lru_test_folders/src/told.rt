@@ -1,4 +1,4 @@
-// What a save, a load, a list and a log tell, as one text or one answer: so that a test compares all of it at once.
+//! What a save, a load, a list and a log tell, as one text or one answer: so that a test compares all of it at once.
 use pingora_lru_files::persistence::{
     Folder, Listed, ShardLoadReport, ShardSaveError, ShardSaveFailure, ShardSaveReport,
 };

@@ -1,4 +1,4 @@
-// The files of two shards, for tests of want of memory: each is made anew where the first try finds none.
+//! The files of two shards, for tests of want of memory: each is made anew where the first try finds none.
 use pingora_lru_files::persistence::MemoryFolder;
 use std::alloc::{AllocError, Global};
 

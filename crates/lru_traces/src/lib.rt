@@ -1,4 +1,7 @@
 //! Traces of requests, and what caches under limits make of them.
+//!
+//! The tallies are those of the definition, by one pass for all limits where all sizes are 1. It is all of `trace_player`
+//! that plays plain caches, and stands on one shard (`lru_shard`).
 #![tactic(auto)]
 
 mod help;

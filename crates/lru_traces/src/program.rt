@@ -10,13 +10,14 @@ use crate::progress::Progress;
 use crate::requests::{LineFault, read_line};
 use crate::settings::{Asked, Settings, asked_of};
 use crate::table::{byte_hit_ratio, hit_ratio};
+use std::alloc::AllocError;
 use std::io::{BufRead, BufReader};
 use std::process::ExitCode;
 use std::time::Instant;
 use std::{fs, io};
 
 // How many lines are read between two writes of the line of progress.
-const LINES_A_STEP: usize = 1000000;
+const LINES_A_STEP: u64 = 1000000;
 
 /// The first line of an input that is no request.
 #[derive(Clone, Copy, Debug, PartialEq, Eq)]
@@ -27,14 +28,32 @@ pub struct BadLine {
     pub fault: LineFault,
 }
 
-/// The requests of an input, or its first bad line. The first line tells the format, as `read_line` has it.
-pub fn read_trace<R: BufRead>(
+/// What is handed the requests of a trace, one after another.
+pub trait Takes {
+    /// Takes a request.
+    ///
+    /// # Errors
+    ///
+    /// There is no memory for what has to be kept of it.
+    fn take(&mut self, request: Request) -> Result<(), AllocError>;
+}
+
+impl Takes for Vec<Request> {
+    fn take(&mut self, request: Request) -> Result<(), AllocError> {
+        self.push(request)?;
+        Ok(())
+    }
+}
+
+/// Hands over the requests of an input up to its first bad line, which is answered. The first line tells the format, as
+/// `read_line` has it.
+pub fn read_into<R: BufRead, T: Takes>(
     rt: HostRuntime,
     progress: Progress,
     input: &mut R,
-) -> io::Result<Result<Vec<Request>, BadLine>> {
+    to: &mut T,
+) -> io::Result<Result<(), BadLine>> {
     let mut line = Vec::new(rt.alloc());
-    let mut requests = Vec::new(rt.alloc());
     let mut format = None;
     for number in 1..u64::MAX {
         line.clear();
@@ -45,16 +64,29 @@ pub fn read_trace<R: BufRead>(
             Ok((told, request)) => {
                 format = Some(told);
                 if let Some(request) = request {
-                    requests.push(request)?;
+                    to.take(request)?;
                 }
             }
             Err(fault) => return Ok(Err(BadLine { number, fault })),
         }
-        if requests.len() % LINES_A_STEP == 0 {
-            progress.show(rt, "requests read:", requests.len());
+        if number % LINES_A_STEP == 0 {
+            progress.show(rt, "requests read:", number as usize);
         }
     }
-    Ok(Ok(requests))
+    Ok(Ok(()))
+}
+
+/// The requests of an input, or its first bad line, as `read_into` has it.
+pub fn read_trace<R: BufRead>(
+    rt: HostRuntime,
+    progress: Progress,
+    input: &mut R,
+) -> io::Result<Result<Vec<Request>, BadLine>> {
+    let mut requests = Vec::new(rt.alloc());
+    match read_into(rt, progress, input, &mut requests)? {
+        Ok(()) => Ok(Ok(requests)),
+        Err(bad) => Ok(Err(bad)),
+    }
 }
 
 fn print_head(rt: HostRuntime, is_timed: bool) -> io::Result<()> {

@@ -1,4 +1,4 @@
-// Tables of lines, of shares and of limits, each gone through by one function.
+//! Tables of lines, of shares and of limits, each gone through by one function.
 use lru_traces::limits::{LimitFault, add_limit, limit_of};
 use lru_traces::numbers::NumberFault;
 use lru_traces::one_pass::{are_of_size_one, play_all};

@@ -1,5 +1,8 @@
 //! What actors and workers share, and the loops that they run. The loops change lists, maps of weights and evicted pairs by
 //! the calls of messages and mailboxes alone.
+//!
+//! Which eviction is asked for, and what a batch does, is decided by functions over values; what threads do together is only
+//! tested. It stands on `lru_actors`, on mailboxes, boxes and letters that threads share, and on logs.
 #![tactic(auto)]
 
 pub mod actor;

@@ -8,13 +8,15 @@
 //! and with `--time` the milliseconds that it took. Where all sizes are 1, one pass serves all limits, and its time stands in
 //! a line of its own. `--svg` also draws the shares into a file. On a terminal a line on standard error says how far it is.
 //!
+//! `trace_player compare` plays the trace by several policies, `trace_player sample` plays a sample of its keys, and
+//! `trace_player make` makes a trace: `lru_policies` has these.
+//!
 //! A bad line, wrong arguments, or a file that can't be written: a line that says so, and status 2. No memory: status 1.
 #![tactic(auto)]
 
-use lru_traces::program;
-use std::io;
+use lru_policies::program;
 use std::process::ExitCode;
 
-fn main(rt: HostRuntime) -> io::Result<ExitCode> {
+fn main(rt: HostRuntime) -> ExitCode {
     program::run(rt)
 }

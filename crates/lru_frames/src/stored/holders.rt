@@ -1,4 +1,4 @@
-// What may be there, and what is shared, as bytes.
+//! What may be there, and what is shared, as bytes.
 ghost use Rattle.lru_frames.specs.Holders.{option_bytes, IsOption, IsSameOption};
 ghost use Rattle.lru_frames.specs.HolderLaws.{one_option};
 

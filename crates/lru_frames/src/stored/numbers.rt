@@ -1,4 +1,4 @@
-// Numbers of fewer bits, and truth, as numbers of 8 bytes.
+//! Numbers of fewer bits, and truth, as numbers of 8 bytes.
 ghost use Rattle.std.specs.Prelude.{◌≡◌, ◌<◌, ◌^◌};
 ghost use Rattle.lru_frames.specs.Words.{word, truth};
 ghost use Rattle.lru_frames.specs.WordLaws.{one_byte, one_half, one_quarter, one_word, one_truth};

@@ -1,4 +1,4 @@
-// Numbers that may be below zero, as numbers of 8 bytes.
+//! Numbers that may be below zero, as numbers of 8 bytes.
 ghost use Rattle.std.specs.Prelude.{◌≡◌, FitsSigned};
 ghost use Rattle.std.specs.Int.{w8, w16, w32, w64};
 ghost use Rattle.lru_frames.specs.Signed.{signed_word};

@@ -1,4 +1,4 @@
-// Nothing, numbers, bytes, text and pairs as bytes.
+//! Nothing, numbers, bytes, text and pairs as bytes.
 ghost use Rattle.std.specs.Prelude.{◌≡◌, ◌<◌, ◌^◌, ◌++◌, [], length, string_bytes, IsUtf8};
 ghost use Rattle.lru_frames.specs.Words.{word, counted};
 ghost use Rattle.lru_frames.specs.WordLaws.{one_word, one_counted, one_nothing, one_pair};

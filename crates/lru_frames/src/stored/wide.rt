@@ -1,4 +1,4 @@
-// Numbers of 16 bytes.
+//! Numbers of 16 bytes.
 ghost use Rattle.std.specs.Prelude.{◌≡◌, ◌<◌, ◌^◌, FitsSigned};
 ghost use Rattle.std.specs.Int.{w128};
 ghost use Rattle.lru_frames.specs.Signed.{wide_word, signed_wide};

@@ -1,4 +1,4 @@
-// A core saved shard by shard, and loaded again.
+//! A core saved shard by shard, and loaded again.
 ghost use Rattle.std.specs.Prelude.{◌≡◌, ◌⊎◌, ◌<◌, false, IfErr, IfOk};
 ghost use Rattle.pingora_lru.specs.Core.{IsCore};
 ghost use Rattle.lru_folder.specs.Names.{has_slash};

@@ -1,8 +1,8 @@
 use Rattle.std.proofs.Common.{subst}
-use Rattle.lru_cache.specs.Cache.{Clears}
+use Rattle.lru_shared.specs.Counting.{ClearsShard}
 use Rattle.lru_shared.proofs.calls.clear.Goals as goal
 
 pub returns-clause-acts : goal.returns-clause-acts
 returns-clause-acts g c =
-    g.T.Shards.does_more _ _ (λ a b acts. subst (λ y. Clears (λ p e q. goal.F-step g p e tt q) c.args.visit a y) acts.leaves (subst (λ x. Clears (λ p e q. goal.F-step g p e tt q) c.args.visit x acts.left.now) acts.shows acts.called))
+    g.T.Shards.does_more _ _ (λ a b acts. subst (λ y. ClearsShard (λ p e q. goal.F-step g p e tt q) c.args.visit (g.X.Kept.inside a) (g.X.Kept.inside y)) acts.leaves (subst (λ x. ClearsShard (λ p e q. goal.F-step g p e tt q) c.args.visit (g.X.Kept.inside x) (g.X.Kept.inside acts.left.now)) acts.shows acts.called))
     c.args.shards.now c.on.new.self c.args.shard c.on.ensures.acts

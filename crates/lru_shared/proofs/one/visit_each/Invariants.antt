@@ -12,7 +12,7 @@ abbrev pub invariant-loop-entry : goal.invariant-loop-entry
 invariant-loop-entry g l =
     always_mut g.F.FnMut l.visit
     × ((given : List (Bor g.row.K.Denot × Bor g.row.V.Denot × ℕ))
-    × ((map shown given ++ l.rest ≡ map parts_of l.cache.entries)
+    × ((map shown given ++ l.rest ≡ map parts_of l.shard.cache.entries)
     × ((more : _) (last : _) → FoldsTo (λ p x q. goal.F-step g p x tt q) l.visit more last → FoldsTo (λ p x q. goal.F-step g p x tt q) l.fn.visit (given ++ more) last)))
 
 abbrev pub decreases-loop-entry : goal.decreases-loop-entry

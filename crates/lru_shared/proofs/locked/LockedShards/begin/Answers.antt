@@ -2,8 +2,8 @@ use Rattle.std.proofs.Common.{refl}
 use Rattle.lru_shared.proofs.Begun.{begins, begins_unnoted}
 use Rattle.lru_shared.proofs.locked.LockedShards.begin.Goals as goal
 
-pub returns-then-is_err-clause-acts : goal.returns-then-is_err-clause-acts
-returns-then-is_err-clause-acts g c =
+pub returns-in_default-clause-acts : goal.returns-in_default-clause-acts
+returns-in_default-clause-acts g c =
     (_, (_, begins_unnoted (goal.F-post g c.args.act) _ _ c.act-found.result _ _ (c.has_found_none.ensures c.if-has_found_none.true) refl c.act-found.ensures))
 
 pub returns-clause-acts : goal.returns-clause-acts

@@ -1,7 +1,7 @@
 use Rattle.std.proofs.Common.{subst}
-use Rattle.lru_cache.specs.Cache.{Clears}
+use Rattle.lru_shared.specs.Counting.{ClearsShard}
 use Rattle.lru_shared.specs.Shards.{Owns}
 use Rattle.lru_shared.proofs.sharded.ShardedCache.clear_shard.Goals as goal
 
 pub returns-clause-acts : goal.returns-clause-acts
-returns-clause-acts g c = subst (λ x. Owns x.shards c.args.shard (λ before after. Clears (λ p e q. goal.F-step g p e tt q) c.args.visit before after) c.clear.new.shards.shards.items) c.self.view_is c.clear.ensures.acts
+returns-clause-acts g c = subst (λ x. Owns x.shards c.args.shard (λ before after. ClearsShard (λ p e q. goal.F-step g p e tt q) c.args.visit before after) c.clear.new.shards.shards.items) c.self.view_is c.clear.ensures.acts

@@ -4,4 +4,4 @@ use Rattle.lru_shared.specs.Calls.{VisitsEach}
 use Rattle.lru_shared.proofs.sharded.ShardedCache.iter_for_each.Goals as goal
 
 pub returns : goal.returns
-returns g c = subst (λ x. Sees x.shards c.args.shard (λ cache. VisitsEach (λ p y q. goal.F-step g p y tt q) c.args.visit cache.entries)) c.self.view_is c.visit_each.ensures
+returns g c = subst (λ x. Sees x.shards c.args.shard (λ shard. VisitsEach (λ p y q. goal.F-step g p y tt q) c.args.visit shard.cache.entries)) c.self.view_is c.visit_each.ensures

@@ -1,7 +1,5 @@
-use Rattle.std.proofs.Common.{◌≡◌, sym, subst, true}
-use Rattle.std.specs.Prelude.{IfSome}
-use Rattle.lru_shared.proofs.Answered.{keyed}
+use Rattle.lru_shared.proofs.MayBe.{may_take}
 use Rattle.lru_shared.proofs.shared.SharedCache.remove_by.Goals as goal
 
 pub returns : goal.returns
-returns g c = subst (λ o. IfSome o (λ x. g.Q.Query.stands_for x.key c.args.query ≡ true)) (sym c.remove.ensures.acts.1.1.0) (keyed g.Q.Query.stands_for _ _)
+returns g c = may_take g.Rel.Relation.holds g.Q.Query.stands_for _ _ c.remove.result _ c.remove.ensures.acts.0.related c.remove.ensures.acts.1.1

@@ -1,0 +1,138 @@
+//! A cache that threads share, whose entries end, saved. `restore_shards` of `lru_cache_captures::shared_deadlines` puts what was
+//! loaded back: ends and deadlines stay what they were, in the caller's unit of time.
+ghost use Rattle.std.specs.Prelude.{◌≡◌, ◌↔◌, ◌≤◌, ℕ, List, false, None, Some, IfErr, IfOk, OnOk, option_copied};
+ghost use Rattle.std.specs.FinMap.{get};
+ghost use Rattle.lru_folder.specs.Names.{has_slash};
+ghost use Rattle.lru_manifests.specs.declared.names.PartName.{PartName};
+ghost use Rattle.lru_manifests.specs.Names.{IsPart, part_path};
+ghost use Rattle.lru_cache_captures.specs.Ages.{MayCopyAged};
+ghost use Rattle.lru_checkpoints.specs.Checkpoints.{Shards, AreHandedOut, most_shards};
+ghost use Rattle.lru_checkpoints.specs.Loads.{IsFault};
+ghost use Rattle.lru_generations.specs.Newest.{IsAsKnown, IsHighestTaken, IsNewest};
+ghost use Rattle.lru_generations.specs.Saving.{IsForGood, IsOlder, IsUnsaved, IsUnused, SavesAfter, SavesNext, TellsPassed};
+ghost use Rattle.lru_cache_checkpoints.specs.Ages.{aged_bytes, IsAged};
+
+use lru_cache_captures::shared_deadlines::SharedDeadlineSource;
+use lru_checkpoints::errors::CheckpointError;
+use lru_frames::stored::Stored;
+use lru_generations::generations::{Saved, save, save_after};
+use lru_generations::known::Known;
+use lru_shared_deadlines::shared::SharedDeadlineCache;
+use lru_synced_folder::synced_folder::SyncedFolder;
+use std::alloc::Global;
+use std::hash::Hash;
+use std::sync::Wait;
+
+/// Saves the entries of a shared cache that end as the next checkpoint, of N shards, as `save` of `lru_generations` does. A shard
+/// is copied under its lock when its turn comes, and the lock is free again before its copies are encoded and written.
+pub fn save_shared_deadlines<
+    F: SyncedFolder,
+    K: Hash + Clone + Stored,
+    V: Clone + Stored,
+    const N: usize,
+>(
+    rt: &impl Wait,
+    alloc: Global,
+    folder: &mut F,
+    dir: &str,
+    file_name: &str,
+    cache: &SharedDeadlineCache<K, V, N>,
+) -> Result<Saved, CheckpointError>
+    requires few { N ≤ most_shards }
+    requires name { has_slash file_name.now ≡ false }
+
+    // What stood whole stands, until the new one stands whole; and nothing else comes to stand.
+    ensures saves { F.meaning.keeps folder.old → SavesNext K.bytes_of K.is_value (aged_bytes V.bytes_of) (IsAged V.is_value)
+        dir.now file_name.now (λ shard. MayCopyAged K.is_clone V.is_clone) N F.meaning folder.old folder.new }
+
+    // After an Ok each loss leaves the new one, in a generation of which there was no file.
+    ensures next { F.meaning.keeps folder.old → IfOk result (λ saved. IsUnused dir.now file_name.now (F.meaning.files folder.old) saved.generation) }
+    ensures for_good { F.meaning.keeps folder.old → IfOk result (λ saved. (shards : Shards K (V × (ℕ × ℕ))) × (AreHandedOut (λ shard. MayCopyAged K.is_clone V.is_clone) N shards
+        × IsForGood K.bytes_of K.is_value (aged_bytes V.bytes_of) (IsAged V.is_value) dir.now file_name.now F.meaning saved.generation shards folder.new)) }
+
+    // It is known to be whole from then on.
+    ensures told { F.meaning.keeps folder.old → IfOk result (λ saved. (saved.known.generation ≡ saved.generation)
+        × IsAsKnown dir.now file_name.now (F.meaning.files folder.new) (Some saved.known)) }
+
+    // The one that is kept was the newest whole one, those above it are told, and what was below it is gone.
+    ensures newest { F.meaning.keeps folder.old → IfOk result (λ saved. IsNewest dir.now file_name.now (F.meaning.files folder.old) saved.kept) }
+    ensures passed { F.meaning.keeps folder.old → IfOk result (λ saved. TellsPassed F.meaning dir.now file_name.now (F.meaning.files folder.old) saved.kept saved.passed.items) }
+    ensures gone { F.meaning.keeps folder.old → IfOk result (λ saved. OnOk saved.removed ((part : PartName) (bytes : List ℕ) → IsPart part → IsOlder saved.kept part
+        → get (F.meaning.files folder.old) (part_path dir.now file_name.now part) ≡ Some bytes → get (F.meaning.files folder.new) (part_path dir.now file_name.now part) ≡ None)) }
+
+    // Where neither memory nor the device failed, nothing was done.
+    ensures error { F.meaning.keeps folder.old → IfErr result IsUnsaved }
+    ensures untouched { F.meaning.keeps folder.old → IfErr result (λ error. ¬ IsFault error → F.meaning.files folder.new ≡ F.meaning.files folder.old) }
+
+    ensures places { F.meaning.keeps folder.old → F.meaning.folders folder.new ≡ F.meaning.folders folder.old }
+    ensures kept { F.meaning.keeps folder.old ↔ F.meaning.keeps folder.new }
+{
+    save(
+        alloc,
+        folder,
+        dir,
+        file_name,
+        &SharedDeadlineSource { rt, cache },
+    )
+}
+
+/// Saves as `save_shared_deadlines` does, but need not read the frames of the checkpoint that is known, as `save_after` of `lru_generations`.
+pub fn save_shared_deadlines_after<
+    F: SyncedFolder,
+    K: Hash + Clone + Stored,
+    V: Clone + Stored,
+    const N: usize,
+>(
+    rt: &impl Wait,
+    alloc: Global,
+    folder: &mut F,
+    dir: &str,
+    file_name: &str,
+    cache: &SharedDeadlineCache<K, V, N>,
+    known: Option<&Known>,
+) -> Result<Saved, CheckpointError>
+    requires few { N ≤ most_shards }
+    requires name { has_slash file_name.now ≡ false }
+
+    // What stood whole stands, until the new one stands whole; and nothing else comes to stand.
+    ensures saves { F.meaning.keeps folder.old → SavesAfter K.bytes_of K.is_value (aged_bytes V.bytes_of) (IsAged V.is_value)
+        dir.now file_name.now (λ shard. MayCopyAged K.is_clone V.is_clone) N (option_copied known.entry) F.meaning folder.old folder.new }
+
+    // After an Ok each loss leaves the new one, in a generation of which there was no file.
+    ensures next { F.meaning.keeps folder.old → IfOk result (λ saved. IsUnused dir.now file_name.now (F.meaning.files folder.old) saved.generation) }
+    ensures for_good { F.meaning.keeps folder.old → IfOk result (λ saved. (shards : Shards K (V × (ℕ × ℕ))) × (AreHandedOut (λ shard. MayCopyAged K.is_clone V.is_clone) N shards
+        × IsForGood K.bytes_of K.is_value (aged_bytes V.bytes_of) (IsAged V.is_value) dir.now file_name.now F.meaning saved.generation shards folder.new)) }
+
+    // It is known to be whole from then on.
+    ensures told { F.meaning.keeps folder.old → IfOk result (λ saved. (saved.known.generation ≡ saved.generation)
+        × IsAsKnown dir.now file_name.now (F.meaning.files folder.new) (Some saved.known)) }
+
+    // The one that is kept was the highest that was whole, or that is known and still had its manifest; those above it are told, and
+    // what was below it is gone.
+    ensures newest { F.meaning.keeps folder.old → IfOk result (λ saved. IsHighestTaken dir.now file_name.now (F.meaning.files folder.old) (option_copied known.entry) saved.kept) }
+
+    // Where what is known is whole still, all is as without it.
+    ensures as_known { F.meaning.keeps folder.old → IsAsKnown dir.now file_name.now (F.meaning.files folder.old) (option_copied known.entry)
+        → IfOk result (λ saved. IsNewest dir.now file_name.now (F.meaning.files folder.old) saved.kept)
+        × SavesNext K.bytes_of K.is_value (aged_bytes V.bytes_of) (IsAged V.is_value) dir.now file_name.now (λ shard. MayCopyAged K.is_clone V.is_clone) N F.meaning folder.old folder.new }
+
+    ensures passed { F.meaning.keeps folder.old → IfOk result (λ saved. TellsPassed F.meaning dir.now file_name.now (F.meaning.files folder.old) saved.kept saved.passed.items) }
+    ensures gone { F.meaning.keeps folder.old → IfOk result (λ saved. OnOk saved.removed ((part : PartName) (bytes : List ℕ) → IsPart part → IsOlder saved.kept part
+        → get (F.meaning.files folder.old) (part_path dir.now file_name.now part) ≡ Some bytes → get (F.meaning.files folder.new) (part_path dir.now file_name.now part) ≡ None)) }
+
+    // Where neither memory nor the device failed, nothing was done.
+    ensures error { F.meaning.keeps folder.old → IfErr result IsUnsaved }
+    ensures untouched { F.meaning.keeps folder.old → IfErr result (λ error. ¬ IsFault error → F.meaning.files folder.new ≡ F.meaning.files folder.old) }
+
+    ensures places { F.meaning.keeps folder.old → F.meaning.folders folder.new ≡ F.meaning.folders folder.old }
+    ensures kept { F.meaning.keeps folder.old ↔ F.meaning.keeps folder.new }
+{
+    save_after(
+        alloc,
+        folder,
+        dir,
+        file_name,
+        &SharedDeadlineSource { rt, cache },
+        known,
+    )
+}

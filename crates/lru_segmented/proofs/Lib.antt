@@ -1,0 +1,12 @@
+pub mod Lists
+pub mod Walked
+pub mod Plain
+pub mod Sides
+pub mod Seated
+pub mod Agreed
+pub mod Lowered
+pub mod Caches
+pub mod Receding
+pub mod Retained
+pub mod Drained
+pub mod Putting

@@ -1,0 +1,11 @@
+use Rattle.std.proofs.Common.{length}
+use denote.Param.Always.{always_mut}
+use Rattle.lru_segmented.specs.Segmented.{entries}
+use Rattle.lru_segmented.proofs.Drained.{Draining}
+use Rattle.lru_segmented.proofs.segmented.SegmentedCache.drain.Given as goal
+
+abbrev pub invariant-loop-first : goal.invariant-loop-first
+invariant-loop-first g l = always_mut g.F.FnMut l.visit × Draining (λ p x q. goal.F-step g p x tt q) l.fn.visit l.fn.self l.visit l.self
+
+abbrev pub decreases-loop-first : goal.decreases-loop-first
+decreases-loop-first g l = length (entries l.self)

@@ -1,0 +1,8 @@
+//! Where a value stands.
+
+/// A value, and whether its entry is of the upper segment.
+#[derive(Drop)]
+pub struct Seat<V> {
+    pub(crate) value: V,
+    pub(crate) upper: bool,
+}

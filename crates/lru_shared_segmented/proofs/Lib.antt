@@ -1,0 +1,4 @@
+pub mod Got
+pub mod Made
+pub mod Walked
+pub mod Requested

@@ -1,0 +1,11 @@
+use Rattle.std.proofs.Common.{◌≡◌, is_some, subst}
+use Rattle.lru_index.specs.Hashing.{key_hash}
+use Rattle.lru_cache.specs.Cache.{entry_of}
+use Rattle.lru_segmented.specs.Segmented.{entries}
+use Rattle.lru_shared.specs.Shards.{home, Sees}
+use Rattle.lru_shared_segmented.proofs.sharded.ShardedSegmentedCache.contains.Goals as goal
+
+pub returns : goal.returns
+returns g c =
+    subst (λ x. Sees x.shards (home g.row.N (key_hash g.S.BuildHasher g.S.Hasher.Hasher g.Q.Hash.hash_input x.hashes c.args.query)) (λ shard. c.contains.result ≡ is_some (entry_of g.Q.Query.stands_for (entries shard.cache) c.args.query))) c.self.view_is
+    (subst (λ n. Sees c.self.inside.shards.shards.items (home n (key_hash g.S.BuildHasher g.S.Hasher.Hasher g.Q.Hash.hash_input c.self.inside.hash_builder c.args.query)) (λ shard. c.contains.result ≡ is_some (entry_of g.Q.Query.stands_for (entries shard.cache) c.args.query))) c.self.invariant.1 c.contains.ensures)

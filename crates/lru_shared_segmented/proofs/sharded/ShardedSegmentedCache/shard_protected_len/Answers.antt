@@ -1,0 +1,6 @@
+use Rattle.std.proofs.Common.{◌≡◌, length, subst}
+use Rattle.lru_shared.specs.Shards.{Sees}
+use Rattle.lru_shared_segmented.proofs.sharded.ShardedSegmentedCache.shard_protected_len.Goals as goal
+
+pub returns : goal.returns
+returns g c = subst (λ x. Sees x.shards c.args.shard (λ shard. c.shard_protected_len.result ≡ length shard.cache.upper)) c.self.view_is c.shard_protected_len.ensures

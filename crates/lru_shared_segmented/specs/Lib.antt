@@ -1,0 +1,5 @@
+pub mod Calls
+pub mod Making
+pub mod Sharded
+pub mod Answers
+pub mod Walks
