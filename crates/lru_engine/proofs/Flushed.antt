@@ -2,8 +2,8 @@
 use Rattle.std.proofs.Common.{List, ℕ, None, Some, ◌∙◌}
 use Rattle.std.specs.Prelude.{Option, IfSome}
 use Rattle.std.specs.Io.KnownBytes.{Appends, Keeps}
-use Rattle.lru_commands.specs.declared.settings.Settings.{Settings}
-use Rattle.lru_commands.specs.Commands.{Asked}
+use Rattle.lru_engine.specs.declared.settings.Settings.{Settings}
+use Rattle.lru_engine.specs.Commands.{Asked}
 use Rattle.pingora_lru_files.specs.Stores.{Meaning}
 use Rattle.lru_engine.specs.Program.{Runs}
 

@@ -1,1 +1,3 @@
 pub mod Flushed
+pub mod Possibles
+pub mod Words

@@ -1,1 +1,5 @@
 pub mod Program
+pub mod Commands
+pub mod Settings
+pub mod Storing
+pub mod Replies

@@ -3,12 +3,12 @@ use Rattle.std.specs.Prelude.{◌≡◌, ◌⊎◌, ℕ, List, [], codes, replic
 use Rattle.std.specs.List.{list_all}
 use Rattle.std.specs.Io.KnownBytes.{Appends}
 use Rattle.lru_snapshot.specs.declared.snapshot.Keyed.{Keyed}
-use Rattle.lru_commands.specs.declared.settings.Settings.{Settings}
-use Rattle.lru_commands.specs.Commands.{Asked}
+use Rattle.lru_engine.specs.declared.settings.Settings.{Settings}
+use Rattle.lru_engine.specs.Commands.{Asked}
 use Rattle.pingora_lru.specs.Core.{Core}
 use Rattle.pingora_lru_files.specs.Stores.{Meaning}
-use Rattle.lru_replies.specs.Storing.{State}
-use Rattle.lru_replies.specs.Replies.{line, Serves}
+use Rattle.lru_engine.specs.Storing.{State}
+use Rattle.lru_engine.specs.Replies.{line, Serves}
 use Rattle.rand_core.specs.Stream.{Stream}
 use Rattle.rand_core.specs.Steps.{stream_of, steps_u32}
 use Rattle.rand_core.specs.Pcg32Seed.{pcg32_seed}

@@ -3,16 +3,16 @@ ghost use Rattle.std.specs.Prelude.{◌≡◌, ◌≢◌, ◌↔◌, ◌⊎◌, 
 ghost use Rattle.std.specs.List.{list_all};
 ghost use Rattle.std.specs.Io.Buffered.{writer_contents};
 ghost use Rattle.std.specs.Io.KnownBytes.{Appends};
-ghost use Rattle.lru_commands.specs.Commands.{commands_of};
-ghost use Rattle.lru_commands.specs.Settings.{settings_of};
-ghost use Rattle.lru_replies.specs.Replies.{usage_text, error_line_text};
+ghost use Rattle.lru_engine.specs.Commands.{commands_of};
+ghost use Rattle.lru_engine.specs.Settings.{settings_of};
+ghost use Rattle.lru_engine.specs.Replies.{usage_text, error_line_text};
 ghost use Rattle.lru_engine.specs.Program.{fresh, memory_text, input_text, WritesFor, Runs, GivesUp};
 
 use log::Log;
-use lru_commands::command::command_from;
-use lru_commands::settings::{Settings, settings_from};
+use crate::command::command_from;
+use crate::settings::{Settings, settings_from};
 use lru_lines::parts::first_line;
-use lru_replies::replies::answer;
+use crate::replies::answer;
 use lru_streams::input::{Input, InputError};
 use lru_streams::output::Output;
 use lru_streams::pieces::{Piece, write_pieces};

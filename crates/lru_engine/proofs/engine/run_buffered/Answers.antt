@@ -1,7 +1,7 @@
 use Rattle.std.proofs.Common.{map, string_bytes}
 use Rattle.std.specs.Io.Buffered.{writer_contents}
-use Rattle.lru_commands.specs.Commands.{commands_of}
-use Rattle.lru_commands.specs.Settings.{settings_of}
+use Rattle.lru_engine.specs.Commands.{commands_of}
+use Rattle.lru_engine.specs.Settings.{settings_of}
 use Rattle.pingora_lru_files.specs.Stores.{Meaning}
 use Rattle.lru_engine.proofs.Flushed.{some_so, runs_kept}
 use Rattle.lru_engine.proofs.engine.run_buffered.Goals as goal

@@ -3,10 +3,10 @@ use Rattle.std.specs.Prelude.{is_some, map, option_map, Option}
 use Rattle.std.specs.List.{list_all}
 use Rattle.std.proofs.lemmas.Bool.{eqb-true}
 use Rattle.std.proofs.lemmas.List.{nil_from_length}
-use Rattle.lru_commands.specs.Commands.{Asked, asked, command_of, commands_of}
+use Rattle.lru_engine.specs.Commands.{Asked, asked, command_of, commands_of}
 use Rattle.pingora_lru_files.specs.Stores.{Meaning}
-use Rattle.lru_replies.specs.Storing.{State}
-use Rattle.lru_replies.specs.Replies.{Serves, error_line_text}
+use Rattle.lru_engine.specs.Storing.{State}
+use Rattle.lru_engine.specs.Replies.{Serves, error_line_text}
 use Rattle.lru_streams.proofs.WriteLaws.{appends_none, appends_then}
 use Rattle.lru_engine.proofs.engine.serve.Goals as goal
 

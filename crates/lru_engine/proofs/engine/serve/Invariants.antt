@@ -2,9 +2,9 @@ use Rattle.std.proofs.Common.{◌≡◌, ◌+◌, ◌≤◌, ◌++◌, List, ℕ
 use Rattle.std.specs.Prelude.{◌↔◌, is_some}
 use Rattle.std.specs.List.{list_all}
 use Rattle.std.specs.Io.KnownBytes.{Appends}
-use Rattle.lru_commands.specs.Commands.{commands_of}
+use Rattle.lru_engine.specs.Commands.{commands_of}
 use Rattle.pingora_lru_files.specs.Stores.{Meaning}
-use Rattle.lru_replies.specs.Replies.{Serves}
+use Rattle.lru_engine.specs.Replies.{Serves}
 use Rattle.lru_engine.proofs.engine.serve.Given as goal
 
 -- what is written so far, with any text that the lines left may write, is a text of all lines

@@ -1,2 +1,0 @@
-pub mod Possibles
-pub mod Words
