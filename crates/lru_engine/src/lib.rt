@@ -1,7 +1,7 @@
 //! All of `lru_tool` but where its arguments and its streams come from.
 //!
 //! For every folder, log, reader and writer a run writes each command's reply, up to the first bad line, unless it ends with
-//! status 1. It puts commands (`lru_engine`) and replies (`lru_engine`) together over `lru_streams`.
+//! status 1. It puts commands (`lru_engine`) and replies (`lru_engine`) together over `lru_lines`.
 #![tactic(auto)]
 
 pub mod arguments;

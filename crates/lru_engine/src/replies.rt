@@ -6,8 +6,8 @@ ghost use Rattle.lru_engine.specs.Commands.{asked, IsPossible};
 
 use log::Log;
 use crate::command::Command;
-use lru_streams::output::Output;
-use lru_streams::pieces::{Piece, write_pieces};
+use lru_lines::output::Output;
+use lru_lines::pieces::{Piece, write_pieces};
 use pingora_lru::calls;
 use pingora_lru::calls::Reply;
 use pingora_lru::lru_core::LruCore;

@@ -5,7 +5,7 @@ use crate::run_tests::words;
 use log::sink::Discard;
 use lru_engine::arguments;
 use lru_engine::engine::run;
-use lru_streams::input::{Input, InputError, read_to_end};
+use lru_lines::input::{Input, InputError, read_to_end};
 use pingora_lru_files::persistence::MemoryFolder;
 use std::alloc::{AllocError, Global};
 use std::env::{Env, FillError};

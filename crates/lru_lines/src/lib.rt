@@ -4,5 +4,8 @@
 //! stand on it; it stands on nothing but std.
 #![tactic(auto)]
 
+pub mod input;
 pub mod numbers;
+pub mod output;
 pub mod parts;
+pub mod pieces;

@@ -5,7 +5,7 @@ use Rattle.std.proofs.lemmas.List.{take_more}
 use Rattle.std.specs.List.{flat_map}
 use Rattle.std.specs.Prelude.{Option, Result, Ok, Err, OnOk}
 use Rattle.std.specs.Io.KnownBytes.{Appends}
-use Rattle.lru_streams.proofs.WriteLaws.{appends_then}
+use Rattle.lru_lines.proofs.WriteLaws.{appends_then}
 
 pub told_as : {T E : Type 0} (r : Result T E) (a b : Option (List ℕ)) (x y : List ℕ) → x ≡ y → OnOk r (Appends a b x) → OnOk r (Appends a b y)
 told_as (Ok t) a b x y e h = subst (Appends a b) e h

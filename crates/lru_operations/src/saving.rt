@@ -11,7 +11,7 @@ use crate::input_rows::{InputRowsError, rows_from};
 use crate::outcome::Outcome;
 use lru_frames::row::Row;
 use lru_generations::generations::save;
-use lru_streams::input::{Input, InputError};
+use lru_lines::input::{Input, InputError};
 use lru_synced_folder::synced_folder::SyncedFolder;
 use std::alloc::{AllocError, Global};
 

@@ -16,8 +16,8 @@ use lru_frames::row::Row;
 use lru_generations::checking::Told;
 use lru_generations::loading::{Checkpoint, Loaded};
 use lru_generations::newest::Passed;
-use lru_streams::output::Output;
-use lru_streams::pieces::{Piece, write_pieces};
+use lru_lines::output::Output;
+use lru_lines::pieces::{Piece, write_pieces};
 use std::io;
 
 const ABOUT: &str =

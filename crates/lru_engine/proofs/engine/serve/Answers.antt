@@ -7,7 +7,7 @@ use Rattle.lru_engine.specs.Commands.{Asked, asked, command_of, commands_of}
 use Rattle.pingora_lru_files.specs.Stores.{Meaning}
 use Rattle.lru_engine.specs.Storing.{State}
 use Rattle.lru_engine.specs.Replies.{Serves, error_line_text}
-use Rattle.lru_streams.proofs.WriteLaws.{appends_none, appends_then}
+use Rattle.lru_lines.proofs.WriteLaws.{appends_none, appends_then}
 use Rattle.lru_engine.proofs.engine.serve.Goals as goal
 
 pub loop-rest-init : goal.loop-rest-init

@@ -6,7 +6,7 @@ use Rattle.lru_engine.specs.Commands.{asked}
 use Rattle.pingora_lru_files.specs.Stores.{Meaning}
 use Rattle.lru_engine.specs.Storing.{State}
 use Rattle.lru_engine.specs.Replies.{Answers, save_text, load_text}
-use Rattle.lru_streams.proofs.WriteLaws.{on_ok_map}
+use Rattle.lru_lines.proofs.WriteLaws.{on_ok_map}
 use Rattle.lru_engine.proofs.replies.answer.Goals as goal
 
 pub returns-in-Save-clause-text : goal.returns-in-Save-clause-text

@@ -1,6 +1,6 @@
 use Rattle.std.specs.Prelude.{codes}
 use Rattle.lru_engine.specs.Replies.{rows_text}
-use Rattle.lru_streams.proofs.WriteLaws.{on_ok_then}
+use Rattle.lru_lines.proofs.WriteLaws.{on_ok_then}
 use Rattle.lru_engine.proofs.replies.write_cut_short.Goals as goal
 
 pub returns-clause-text : goal.returns-clause-text

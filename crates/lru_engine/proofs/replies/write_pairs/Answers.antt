@@ -2,7 +2,7 @@ use Rattle.std.proofs.Common.{◌+◌, ◌++◌, ◌∷◌, [], ℕ, get_or, dro
 use Rattle.std.proofs.lemmas.List.{at_drop_more}
 use Rattle.lru_snapshot.specs.declared.snapshot.Keyed.{Keyed}
 use Rattle.lru_engine.specs.Replies.{pairs_text, pair_text}
-use Rattle.lru_streams.proofs.WriteLaws.{appends_then}
+use Rattle.lru_lines.proofs.WriteLaws.{appends_then}
 use Rattle.lru_engine.proofs.replies.write_pairs.Goals as goal
 
 pub loop-data-preserved : goal.loop-data-preserved

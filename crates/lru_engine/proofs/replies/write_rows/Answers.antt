@@ -1,7 +1,7 @@
 use Rattle.std.proofs.Common.{◌++◌, ◌∷◌, [], ℕ, sym, ap, ◌∙◌, append_assoc}
 use Rattle.lru_snapshot.specs.declared.snapshot.Keyed.{Keyed}
 use Rattle.lru_engine.specs.Replies.{pairs_text, pair_text}
-use Rattle.lru_streams.proofs.WriteLaws.{appends_then}
+use Rattle.lru_lines.proofs.WriteLaws.{appends_then}
 use Rattle.lru_engine.proofs.replies.write_rows.Goals as goal
 
 pub loop-data-preserved : goal.loop-data-preserved

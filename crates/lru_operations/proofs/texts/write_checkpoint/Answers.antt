@@ -1,5 +1,5 @@
 use Rattle.std.proofs.Common.{◌++◌, ap}
-use Rattle.lru_streams.proofs.WriteLaws.{on_ok_then}
+use Rattle.lru_lines.proofs.WriteLaws.{on_ok_then}
 use Rattle.lru_operations.specs.Texts.{generation_line, rows_text}
 use Rattle.lru_operations.proofs.Told.{told_as}
 use Rattle.lru_operations.proofs.texts.write_checkpoint.Goals as goal

@@ -1,7 +1,7 @@
 //! Lines that are written piece by piece.
 ghost use Rattle.std.specs.Prelude.{OnErr, OnOk};
 ghost use Rattle.std.specs.Io.KnownBytes.{Appends};
-ghost use Rattle.lru_streams.specs.Pieces.{piece_text, pieces_text};
+ghost use Rattle.lru_lines.specs.Pieces.{piece_text, pieces_text};
 
 use crate::output::Output;
 use itoa::Buffer;

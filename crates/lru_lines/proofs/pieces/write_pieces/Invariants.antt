@@ -1,7 +1,7 @@
 use Rattle.std.proofs.Common.{◌≡◌, ◌++◌, List, ℕ, drop}
 use Rattle.std.specs.Io.KnownBytes.{Appends}
-use Rattle.lru_streams.specs.Pieces.{pieces_text}
-use Rattle.lru_streams.proofs.pieces.write_pieces.Given as goal
+use Rattle.lru_lines.specs.Pieces.{pieces_text}
+use Rattle.lru_lines.proofs.pieces.write_pieces.Given as goal
 
 -- what is written so far, and what is still to be
 abbrev pub invariant-loop-piece : goal.invariant-loop-piece

@@ -1,11 +1,11 @@
 use Rattle.std.proofs.Common.{◌+◌, ◌++◌, List, drop, get_or, sym, ap, ◌∙◌, subst, arith, append_assoc, append-nil}
 use Rattle.std.specs.Io.KnownBytes.{Appends}
 use Rattle.std.proofs.lemmas.List.{at_drop_more, drop_all}
-use Rattle.lru_streams.specs.declared.pieces.Piece.{Piece}
-use Rattle.lru_streams.specs.declared.pieces.Piece.TheVariants.{Number}
-use Rattle.lru_streams.specs.Pieces.{piece_text, pieces_text}
-use Rattle.lru_streams.proofs.WriteLaws.{appends_then}
-use Rattle.lru_streams.proofs.pieces.write_pieces.Goals as goal
+use Rattle.lru_lines.specs.declared.pieces.Piece.{Piece}
+use Rattle.lru_lines.specs.declared.pieces.Piece.TheVariants.{Number}
+use Rattle.lru_lines.specs.Pieces.{piece_text, pieces_text}
+use Rattle.lru_lines.proofs.WriteLaws.{appends_then}
+use Rattle.lru_lines.proofs.pieces.write_pieces.Goals as goal
 
 pub loop-piece-preserved : goal.loop-piece-preserved
 loop-piece-preserved g c =

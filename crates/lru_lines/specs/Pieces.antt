@@ -1,7 +1,7 @@
 -- The text of a line that is written piece by piece.
 use Rattle.std.specs.Prelude.{ℕ, List, [], ◌∷◌, ◌++◌, decimal}
-use Rattle.lru_streams.specs.declared.pieces.Piece.{Piece}
-use Rattle.lru_streams.specs.declared.pieces.Piece.TheVariants.{Text, Number}
+use Rattle.lru_lines.specs.declared.pieces.Piece.{Piece}
+use Rattle.lru_lines.specs.declared.pieces.Piece.TheVariants.{Text, Number}
 
 abbrev pub piece_text : Piece → List ℕ
 piece_text (Text text) = text.now
