@@ -10,3 +10,17 @@ pub mod SnapshotRestores
 pub mod RowLaws
 pub mod MappedItems
 pub mod RoundTrips
+pub mod PieceSteps
+pub mod SaveSteps
+pub mod LossSteps
+pub mod FileSteps
+pub mod Putting
+pub mod TurnsLemmas
+pub mod SavesSoFar
+pub mod ShardTurns
+pub mod SaveEnds
+pub mod CleanupLemmas
+pub mod CleanupNames
+pub mod LoadingLemmas
+pub mod SavedFiles
+pub mod LoadedShards

@@ -26,10 +26,10 @@ use Rattle.lru_folder.specs.declared.errors.ShardSaveSetupError.TheVariants.{Cre
 use Rattle.lru_folder.specs.declared.errors.ShardSaveSetupError.TheVariants as setup
 use Rattle.lru_folder.specs.declared.fault.FolderFault.{FolderFault}
 use Rattle.lru_folder.specs.declared.fault.FolderFault.TheVariants.{NotFound, Memory, Io}
-use Rattle.lru_loading.specs.Loading.{LoadTurn, Missing, Unread, Given, is_loaded, TurnCalls, CallsFrom, AreTrueFrom, IsLoad, IsUnread, failures_from}
-use Rattle.lru_saving.specs.Saves.{TakesTurns}
-use Rattle.lru_saving.specs.Turns as saving
-use Rattle.lru_saving.specs.Turns.{SaveTurn, RunsTo, SavesOne, Ends, IsKept, IsFailureOf, IsRefused, failures_of}
+use Rattle.lru_snapshot.specs.Loading.{LoadTurn, Missing, Unread, Given, is_loaded, TurnCalls, CallsFrom, AreTrueFrom, IsLoad, IsUnread, failures_from}
+use Rattle.lru_snapshot.specs.Saves.{TakesTurns}
+use Rattle.lru_snapshot.specs.Turns as saving
+use Rattle.lru_snapshot.specs.Turns.{SaveTurn, RunsTo, SavesOne, Ends, IsKept, IsFailureOf, IsRefused, failures_of}
 use Rattle.lru_snapshot.specs.declared.snapshot.Keyed.{Keyed}
 use Rattle.lru_snapshot.specs.declared.snapshot.LoadError.{LoadError}
 use Rattle.lru_snapshot.specs.declared.snapshot.LoadError.TheVariants as unloaded

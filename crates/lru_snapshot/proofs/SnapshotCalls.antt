@@ -4,7 +4,7 @@ use Rattle.std.specs.Prelude.{Result, IfOk}
 use Rattle.std.specs.Borrow.{Bor}
 use Rattle.lru_folder.specs.Files.{Files}
 use Rattle.lru_folder.specs.declared.errors.ShardLoadFailure.{ShardLoadFailure}
-use Rattle.lru_loading.specs.Loading.{LoadTurn, Missing, Unread, Given, TurnCalls, CallsFrom, IsLoad}
+use Rattle.lru_snapshot.specs.Loading.{LoadTurn, Missing, Unread, Given, TurnCalls, CallsFrom, IsLoad}
 
 pub if_ok : {X E : Type 0} (P Q : X → Type 0) → ((x : X) → P x → Q x) → (r : Result X E) → IfOk r P → IfOk r Q
 if_ok P Q f (Ok x) h = f x h

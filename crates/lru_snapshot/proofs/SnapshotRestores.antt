@@ -6,7 +6,7 @@ use Rattle.std.proofs.lemmas.List.Sums.{sum_by-cons}
 use Rattle.std.proofs.lemmas.List.{get_or-set_other, length-set}
 use Rattle.pingora_lru.specs.Core.{Core, list_at, with_list}
 use Rattle.lru_folder.specs.Files.{Files}
-use Rattle.lru_loading.specs.Loading.{LoadTurn, Missing, Unread, Given, is_loaded, CallsFrom, AreTrueFrom, IsLoad}
+use Rattle.lru_snapshot.specs.Loading.{LoadTurn, Missing, Unread, Given, is_loaded, CallsFrom, AreTrueFrom, IsLoad}
 use Rattle.lru_snapshot.specs.declared.snapshot.Keyed.{Keyed}
 use Rattle.lru_snapshot.specs.declared.snapshot.LoadError.{LoadError}
 use Rattle.lru_snapshot.specs.SnapshotLoads.{LoadsShard, rows_of}

@@ -5,8 +5,8 @@ use Rattle.std.specs.declared.alloc.AllocError.{AllocError}
 use Rattle.std.specs.declared.alloc.Global.{Global}
 use Rattle.rand_core.specs.Stream.{Stream, next_u32}
 use Rattle.lru_folder.specs.Meaning.{Meaning}
-use Rattle.lru_saving.specs.Saves.{SavesShards, TakesTurns}
-use Rattle.lru_saving.specs.Turns.{Given, SaveTurn, RunsTo}
+use Rattle.lru_snapshot.specs.Saves.{SavesShards, TakesTurns}
+use Rattle.lru_snapshot.specs.Turns.{Given, SaveTurn, RunsTo}
 use Rattle.pingora_lru.specs.Core.{Core}
 use Rattle.lru_snapshot.specs.declared.snapshot.Keyed.{Keyed}
 use Rattle.lru_snapshot.specs.SnapshotSaves.{AreBytesOf, GivesShard}

@@ -9,7 +9,7 @@ use Rattle.pingora_lru.specs.Core.{Core, list_at}
 use Rattle.lru_snapshot.specs.declared.snapshot.Keyed.{Keyed}
 use Rattle.lru_snapshot.specs.Snapshot.{bytes_of}
 use Rattle.lru_folder.specs.Names.{shard_path}
-use Rattle.lru_saving.specs.Turns.{Given}
+use Rattle.lru_snapshot.specs.Turns.{Given}
 
 -- The bytes of a shard's rows, which tell those rows again where the data of each tell its key.
 pub record AreBytesOf (core : Core Keyed) (shard : ℕ) (bytes : List ℕ) : Type 0 where

@@ -13,11 +13,11 @@ use Rattle.lru_folder.specs.declared.errors.ShardSaveSetupError.TheVariants.{Cre
 use Rattle.lru_folder.specs.declared.errors.ShardSaveSetupError.TheVariants as setup
 use Rattle.lru_folder.specs.declared.fault.FolderFault.TheVariants as fault
 pub use Rattle.lru_folder.specs.Meaning.{Meaning}
-use Rattle.lru_loading.specs.Loading.{LoadResultOf, LoadsShards}
-use Rattle.lru_saving.specs.Saves.{SaveResultOf, SavesShards}
+use Rattle.lru_snapshot.specs.Loading.{LoadResultOf, LoadsShards}
+use Rattle.lru_snapshot.specs.Saves.{SaveResultOf, SavesShards}
 use Rattle.lru_snapshot.specs.declared.snapshot.Keyed.{Keyed}
 use Rattle.lru_snapshot.specs.declared.snapshot.LoadError.{LoadError}
-use Rattle.lru_saving.specs.Turns.{IsRefused}
+use Rattle.lru_snapshot.specs.Turns.{IsRefused}
 use Rattle.lru_shard.specs.declared.unit.Cause.TheVariants as cause
 use Rattle.lru_snapshot.specs.declared.snapshot.LoadError.TheVariants as unloaded
 use Rattle.lru_snapshot.specs.SnapshotLoads.{LoadsShard, TellTheirKeys}

@@ -6,5 +6,5 @@
 
 pub mod persistence;
 
-pub use lru_crashes::crash_law;
+pub use lru_snapshot::crash_law;
 pub use lru_snapshot::snapshot;

@@ -4,7 +4,7 @@ use Rattle.lru_folder.specs.declared.reports.ShardLoadReport.{ShardLoadReport}
 use Rattle.lru_folder.specs.Meaning.{Meaning}
 use Rattle.lru_snapshot.specs.declared.snapshot.Keyed.{Keyed}
 use Rattle.lru_snapshot.specs.declared.snapshot.LoadError.{LoadError}
-use Rattle.lru_loading.specs.Loading.{LoadsAll}
+use Rattle.lru_snapshot.specs.Loading.{LoadsAll}
 use Rattle.lru_snapshot.specs.SnapshotLoads.{LoadsShard}
 use Rattle.lru_snapshot.proofs.SnapshotCalls.{if_ok, load_seen, calls_keep}
 use Rattle.lru_snapshot.proofs.SnapshotRestores.{restored_all}

@@ -1,2 +1,0 @@
-pub mod SavedFiles
-pub mod LoadedShards

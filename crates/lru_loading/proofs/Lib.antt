@@ -1,3 +1,0 @@
-pub mod CleanupLemmas
-pub mod CleanupNames
-pub mod LoadingLemmas
