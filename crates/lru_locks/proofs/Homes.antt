@@ -13,11 +13,11 @@ use Rattle.lru_shard.proofs.Edits.{times-without-le, times-with_weight}
 use Rattle.lru_shard.proofs.Pulls.{row_key}
 use Rattle.lru_shard.proofs.EditsOf.{Edit, edits_admit}
 use Rattle.lru_rules.specs.Shards.{AreAtHome}
-use Rattle.lru_batches.specs.declared.admission.Admission.{Admission}
-use Rattle.lru_batches.specs.declared.admission.Fate.{Fate}
-use Rattle.lru_batches.specs.declared.admission.Fate.TheVariants.{Waiting, Admitted, HandedBack}
-use Rattle.lru_batches.specs.Batches.{IsAsked, AdmitsOne, AdmitsEach}
-use Rattle.lru_batches.proofs.Answered.{in_turn}
+use Rattle.lru_locks.specs.declared.admission.Admission.{Admission}
+use Rattle.lru_locks.specs.declared.admission.Fate.{Fate}
+use Rattle.lru_locks.specs.declared.admission.Fate.TheVariants.{Waiting, Admitted, HandedBack}
+use Rattle.lru_locks.specs.Batches.{IsAsked, AdmitsOne, AdmitsEach}
+use Rattle.lru_locks.proofs.Answered.{in_turn}
 
 module _ {T : Type 0} (n s : ℕ) where
   -- a call on a key of this shard

@@ -3,3 +3,5 @@ pub mod Homes
 pub mod Units
 pub mod Sheds
 pub mod Passed
+pub mod Answered
+mod InTurn

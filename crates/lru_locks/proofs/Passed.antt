@@ -4,11 +4,11 @@ use Rattle.std.proofs.Math.ListN.{get_or}
 use Rattle.std.proofs.lemmas.Bool.{cases_eq}
 use Rattle.std.proofs.lemmas.List.{get_or_read}
 use Rattle.lru_shard.specs.Shard.{Shard}
-use Rattle.lru_batches.specs.declared.admission.Admission.{Admission}
-use Rattle.lru_batches.specs.declared.admission.Fate.{Fate}
-use Rattle.lru_batches.specs.declared.admission.Fate.TheVariants.{Waiting, Admitted, HandedBack}
-use Rattle.lru_batches.specs.Batches.{is_waiting, awaited, home_of, AdmitsEach}
-use Rattle.lru_batches.proofs.Answered.{each_done}
+use Rattle.lru_locks.specs.declared.admission.Admission.{Admission}
+use Rattle.lru_locks.specs.declared.admission.Fate.{Fate}
+use Rattle.lru_locks.specs.declared.admission.Fate.TheVariants.{Waiting, Admitted, HandedBack}
+use Rattle.lru_locks.specs.Batches.{is_waiting, awaited, home_of, AdmitsEach}
+use Rattle.lru_locks.proofs.Answered.{each_done}
 
 module _ {T : Type 0} where
   -- of the first so many none waits

@@ -1,2 +1,3 @@
 pub mod LruCalls
 pub mod Sheds
+pub mod Batches

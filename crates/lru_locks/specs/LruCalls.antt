@@ -6,8 +6,8 @@ use Rattle.lru_shard.specs.Shard.{Shard}
 use Rattle.lru_shard.specs.Unit.{raised, started, InsertsTail}
 use Rattle.lru_rules.specs.Limits.{cap_of}
 use Rattle.lru_rules.specs.Shards.{AreAtHome}
-use Rattle.lru_batches.specs.declared.admission.Admission.{Admission}
-use Rattle.lru_batches.specs.Batches.{AdmitsEach}
+use Rattle.lru_locks.specs.declared.admission.Admission.{Admission}
+use Rattle.lru_locks.specs.Batches.{AdmitsEach}
 
 -- what a refused `update_or_admit` hands back: what was made, where it weighs too much, or nothing
 abbrev pub HandsBack : {T : Type 0} → (T × ℕ → Type 0) → Refused (Option (T × ℕ)) → Type 0

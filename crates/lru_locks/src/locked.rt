@@ -5,7 +5,7 @@ ghost use Rattle.lru_rules.specs.Shards.{AreAtHome, IsOwn};
 
 use crate::look::Look;
 use crate::shed::{Room, shed};
-use lru_batches::{Admission, admit_each};
+use crate::{Admission, admit_each};
 use lru_index::hashing::SeededHashes;
 use lru_rules::totals::Totals;
 use lru_shard::unit::{Cause, LruUnit, Refused};
@@ -129,7 +129,7 @@ impl<T: Drop, const N: usize> Locked<T, N> {
     ghost use Rattle.lru_shard.specs.Shard.{shard};
     ghost use Rattle.lru_shard.specs.Unit.{InsertsTail, Updates, accessed};
     ghost use Rattle.lru_rules.specs.ShardCalls.{AdmitsRaised, SetsRaised, IncrementsTo, UpdatesFrom};
-    ghost use Rattle.lru_batches.specs.Batches.{AdmitsEach};
+    ghost use Rattle.lru_locks.specs.Batches.{AdmitsEach};
     ghost use Rattle.lru_locks.specs.Sheds.{Sheds, AdmitsAndSheds, EvictsBesides, VisitsLight};
 
     // A weight of 0 counts as 1.

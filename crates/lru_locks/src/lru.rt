@@ -8,7 +8,7 @@ use crate::locked::Locked;
 use crate::look::Look;
 use crate::shed::Room;
 use crossbeam_utils::CachePadded;
-use lru_batches::Admission;
+use crate::Admission;
 use lru_index::hashing::SeededHashes;
 use lru_rules::counters::{growth, shift};
 use lru_rules::eviction::{EvictError, Readings, drawn_shards, longer_of, shard_after};
@@ -444,7 +444,7 @@ impl<T, const N: usize> Lru<T, N> {
 }
 
 impl<T: Drop, const N: usize> Lru<T, N> {
-    ghost use Rattle.lru_batches.specs.Batches.{AreAnswered};
+    ghost use Rattle.lru_locks.specs.Batches.{AreAnswered};
     ghost use Rattle.lru_locks.specs.LruCalls.{HandsBack, MayAnswer, MayInsertTail, IsAskedOf};
     ghost use Rattle.lru_locks.specs.Sheds.{VisitsLight};
 

@@ -12,7 +12,7 @@ pub use Rattle.lru_rules.specs.Limits
 pub use Rattle.lru_rules.specs.Draws
 pub use Rattle.lru_rules.specs.ShardCalls
 pub use Rattle.lru_rules.specs.Shards
-pub use Rattle.lru_batches.specs.Batches
+pub use Rattle.lru_locks.specs.Batches
 pub use Rattle.lru_locks.specs.LruCalls
 pub use Rattle.lru_journal.specs.Ties
 pub use Rattle.lru_journal.specs.Stamps

@@ -18,7 +18,7 @@ pub use lru_tiers::tiered;
 
 /// Batches of admissions to an [`Lru`].
 pub mod batch {
-    pub use lru_batches::{Admission, Fate};
+    pub use lru_locks::{Admission, Fate};
 }
 
 /// N shards under one limit on their weight, of one owner, and the law of inclusion over two of them.

@@ -1,5 +1,5 @@
 use Rattle.std.proofs.Common.{◌∙◌}
-use Rattle.lru_batches.proofs.Answered.{each_later}
+use Rattle.lru_locks.proofs.Answered.{each_later}
 use Rattle.lru_locks.proofs.Homes.{home_each}
 use Rattle.lru_locks.proofs.locked.Locked.admit_each.Goals as goal
 

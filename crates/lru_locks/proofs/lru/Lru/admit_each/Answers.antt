@@ -1,5 +1,5 @@
 use Rattle.std.proofs.Common.{◌≡◌, ◌∙◌, subst}
-use Rattle.lru_batches.specs.Batches.{AdmitsEach}
+use Rattle.lru_locks.specs.Batches.{AdmitsEach}
 use Rattle.lru_locks.proofs.lru.Lru.admit_each.Goals as goal
 
 pub returns : goal.returns

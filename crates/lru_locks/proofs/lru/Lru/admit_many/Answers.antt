@@ -1,6 +1,6 @@
 use Rattle.std.proofs.Common.{◌≡◌, ◌<◌, None, Some, length, sym, arith}
-use Rattle.lru_batches.specs.Batches.{home_of}
-use Rattle.lru_batches.proofs.Answered.{all_same, all_after, all_answered, as_many, each_later}
+use Rattle.lru_locks.specs.Batches.{home_of}
+use Rattle.lru_locks.proofs.Answered.{all_same, all_after, all_answered, as_many, each_later}
 use Rattle.lru_locks.proofs.Passed.{passed_one, passed_all}
 use Rattle.lru_locks.proofs.lru.Lru.admit_many.Goals as goal
 

@@ -1,4 +1,4 @@
-use Rattle.lru_batches.proofs.Answered.{AreLater}
+use Rattle.lru_locks.proofs.Answered.{AreLater}
 use Rattle.lru_locks.proofs.Passed.{ArePassed}
 use Rattle.lru_locks.proofs.lru.Lru.admit_many.Given as goal
 

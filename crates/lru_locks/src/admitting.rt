@@ -1,6 +1,6 @@
 //! A batch, as far as it is for one shard.
 ghost use Rattle.std.specs.Prelude.{◌≡◌, ◌<◌};
-ghost use Rattle.lru_batches.specs.Batches.{AdmitsOne, AdmitsEach};
+ghost use Rattle.lru_locks.specs.Batches.{AdmitsOne, AdmitsEach};
 
 use crate::admission::{Admission, Fate};
 use lru_shard::unit::LruUnit;

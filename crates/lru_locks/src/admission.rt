@@ -1,6 +1,6 @@
 //! One admission of a batch.
 ghost use Rattle.std.specs.Prelude.{◌≡◌, ◌%◌, ◌<◌};
-ghost use Rattle.lru_batches.specs.Batches.{waiting, home_of, waits_for};
+ghost use Rattle.lru_locks.specs.Batches.{waiting, home_of, waits_for};
 
 use lru_shard::unit::Refused;
 

@@ -1,6 +1,6 @@
 use Rattle.std.proofs.Common.{◌≡◌, vec_len}
-use Rattle.lru_batches.proofs.InTurn.{GoesOn}
-use Rattle.lru_batches.proofs.admitting.admit_each.Given as goal
+use Rattle.lru_locks.proofs.InTurn.{GoesOn}
+use Rattle.lru_locks.proofs.admitting.admit_each.Given as goal
 
 -- whatever becomes of the rest, it becomes of the batch
 abbrev pub invariant-loop-place : goal.invariant-loop-place

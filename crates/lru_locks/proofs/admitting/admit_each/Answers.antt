@@ -1,6 +1,6 @@
 use Rattle.std.proofs.Common.{◌<◌, ◌≤◌, length, arith}
-use Rattle.lru_batches.proofs.InTurn.{goes_on, at_end}
-use Rattle.lru_batches.proofs.admitting.admit_each.Goals as goal
+use Rattle.lru_locks.proofs.InTurn.{goes_on, at_end}
+use Rattle.lru_locks.proofs.admitting.admit_each.Goals as goal
 
 pub loop-place-preserved : goal.loop-place-preserved
 loop-place-preserved g c =

@@ -10,10 +10,10 @@ use Rattle.lru_shard.specs.declared.unit.Cause.TheVariants.{Weight, Length}
 use Rattle.lru_shard.proofs.Rows.{weight-cons}
 use Rattle.lru_rules.specs.Limits.{cap_of}
 use Rattle.lru_rules.specs.ShardCalls.{AdmitsRaised}
-use Rattle.lru_batches.specs.declared.admission.Admission.{Admission}
-use Rattle.lru_batches.specs.declared.admission.Fate.{Fate}
-use Rattle.lru_batches.specs.declared.admission.Fate.TheVariants.{Waiting, Admitted, HandedBack}
-use Rattle.lru_batches.specs.Batches.{is_waiting, awaited, home_of, waits_for, IsAsked, AdmitsOne, AdmitsEach, IsFate, IsAnswered, AreAnswered}
+use Rattle.lru_locks.specs.declared.admission.Admission.{Admission}
+use Rattle.lru_locks.specs.declared.admission.Fate.{Fate}
+use Rattle.lru_locks.specs.declared.admission.Fate.TheVariants.{Waiting, Admitted, HandedBack}
+use Rattle.lru_locks.specs.Batches.{is_waiting, awaited, home_of, waits_for, IsAsked, AdmitsOne, AdmitsEach, IsFate, IsAnswered, AreAnswered}
 
 either : (b : Bool) (P Q : Type 0) → MatchBool b P Q → ((b ≡ true) × P) ⊎ ((b ≡ false) × Q)
 either true P Q h = inl (refl, h)

@@ -4,9 +4,9 @@ use Rattle.lru_shard.specs.declared.unit.Refused.{Refused}
 use Rattle.lru_shard.specs.Shard.{Shard}
 use Rattle.lru_rules.specs.Limits.{cap_of}
 use Rattle.lru_rules.specs.ShardCalls.{AdmitsRaised}
-use Rattle.lru_batches.specs.declared.admission.Admission.{Admission}
-use Rattle.lru_batches.specs.declared.admission.Fate.{Fate}
-use Rattle.lru_batches.specs.declared.admission.Fate.TheVariants.{Waiting, Admitted, HandedBack}
+use Rattle.lru_locks.specs.declared.admission.Admission.{Admission}
+use Rattle.lru_locks.specs.declared.admission.Fate.{Fate}
+use Rattle.lru_locks.specs.declared.admission.Fate.TheVariants.{Waiting, Admitted, HandedBack}
 
 module _ {T : Type 0} where
   abbrev pub waiting : ℕ → T → ℕ → Admission T

@@ -3,8 +3,8 @@ use Rattle.std.proofs.Common.{◌≡◌, ℕ, ◌+◌, ◌<◌, ◌≤◌, List,
 use Rattle.std.proofs.Math.ListN.{set, get_or}
 use Rattle.std.proofs.lemmas.List.{drop_more, drop_all, take_all, take_more_set, drop-set-lt}
 use Rattle.lru_shard.specs.Shard.{Shard}
-use Rattle.lru_batches.specs.declared.admission.Admission.{Admission}
-use Rattle.lru_batches.specs.Batches.{AdmitsOne, AdmitsEach}
+use Rattle.lru_locks.specs.declared.admission.Admission.{Admission}
+use Rattle.lru_locks.specs.Batches.{AdmitsOne, AdmitsEach}
 
 module _ {T : Type 0} (n s : ℕ) (first : Shard T) (batch : List (Admission T)) where
   -- whatever becomes of those from p on, with the answers so far it becomes of the batch
