@@ -1,6 +1,6 @@
 //! An order served by actors whose history is accounted for.
 ghost use Rattle.std.specs.Prelude.{◌≡◌, ◌<◌, ◌≤◌, [], vec_len, vec_capacity, IfOk};
-ghost use Rattle.lru_rules.specs.Limits.{cap_of};
+ghost use Rattle.lru_shard.specs.Limits.{cap_of};
 ghost use Rattle.lru_ledger.specs.Ledger.{slips_of};
 ghost use Rattle.lru_ledger.specs.Slips.{lists_of, IsSettled};
 ghost use Rattle.lru_accounts.specs.Accounts.{Accounts};

@@ -1,7 +1,7 @@
 //! What shards came to, once their threads have ended.
 ghost use Rattle.std.specs.Prelude.{◌≡◌, ◌≤◌, [], map, vec_len, vec_capacity};
 ghost use Rattle.std.specs.Option.{ForSome};
-ghost use Rattle.lru_rules.specs.Limits.{cap_of};
+ghost use Rattle.lru_shard.specs.Limits.{cap_of};
 ghost use Rattle.lru_logs.specs.Logs.{log_of};
 ghost use Rattle.lru_logged_shard.specs.Accounts.{IsAccount};
 ghost use Rattle.lru_accounts.specs.Accounts.{Accounts};

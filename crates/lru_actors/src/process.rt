@@ -1,7 +1,7 @@
 //! Messages processed with the map of weights and the queue of evicted pairs.
 ghost use Rattle.std.specs.Prelude.{◌≡◌, ℕ, ◌<◌, Some, None, IsTrue, IsFalse, IsSome, nat_eq, ◌≤◌, [], vec_len, vec_capacity};
 ghost use Rattle.std.specs.HashMap as hash;
-ghost use Rattle.lru_rules.specs.Victims.{longer_of};
+ghost use Rattle.lru_shard.specs.Victims.{longer_of};
 ghost use Rattle.lru_actors.specs.Messages.{looks};
 ghost use Rattle.lru_actors.specs.Processing.{mapped, queued, MapHasRoom, HasPlace, MayWantRoom, IsKept, HandsOver, Processes, ProcessesAll};
 
@@ -9,7 +9,7 @@ use crate::effect::Effect;
 use crate::message::LruMsg;
 use crate::state::ShardState;
 use lru_dispatch::Dispatch;
-use lru_rules::eviction::longer_of;
+use lru_shard::eviction::longer_of;
 use std::collections::HashMap;
 
 /// Processes one message: makes the room that it may need in the map of weights and in the queue of evicted

@@ -12,9 +12,9 @@ use Rattle.std.proofs.lemmas.List.Elements.{All-replicate}
 use Rattle.lru_shard.specs.Row.{Row, row_of, is_held, pair_of, times, weight_of, last_row, without_last}
 use Rattle.lru_shard.specs.Shard.{Shard, shard, IsShard}
 use Rattle.lru_shard.specs.Unit.{accessed, needs_promote}
-use Rattle.lru_rules.specs.ShardCalls.{promoted_past}
+use Rattle.lru_shard.specs.ShardCalls.{promoted_past}
 use Rattle.lru_cores.specs.Core.{Core, list_at}
-use Rattle.lru_rules.specs.Limits.{cap_of}
+use Rattle.lru_shard.specs.Limits.{cap_of}
 use Rattle.lru_cores.specs.Eviction.{IsVictim, start, is_over, evicted, EvictsFrom, EvictsWhereOver, NamesVictim}
 use Rattle.lru_cores.specs.Representation.Units.{lists_of, AreUnits}
 use Rattle.lru_shard.proofs.EditsOf.{edits_evict}

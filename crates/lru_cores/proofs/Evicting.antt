@@ -5,8 +5,8 @@ use Rattle.std.proofs.lemmas.Bool.{le-ltb}
 use Rattle.lru_shard.specs.Row.{Row, weight_of}
 use Rattle.lru_cores.specs.Core.{Core, core_weight, core_len}
 use Rattle.lru_cores.specs.Eviction.{is_over}
-use Rattle.lru_rules.specs.Limits.{is_above}
-use Rattle.lru_rules.proofs.Circle.{all_empty, empty_sum}
+use Rattle.lru_shard.specs.Limits.{is_above}
+use Rattle.lru_shard.proofs.Circle.{all_empty, empty_sum}
 
 none_above : (n : ℕ) (mark : Option ℕ) → n ≡ 0 → is_above n mark ≡ false
 none_above n None z = refl

@@ -6,7 +6,7 @@ use Rattle.std.proofs.lemmas.List.{length-set, take_all, get_or-set_same, set-ge
 use Rattle.std.proofs.lemmas.List.Sums.{sum_by-set}
 use Rattle.lru_shard.specs.Row.{Row, without_last}
 use Rattle.rand_core.specs.Stream.{Stream}
-use Rattle.lru_rules.specs.Draws.{drawn_shards}
+use Rattle.lru_shard.specs.Draws.{drawn_shards}
 use Rattle.lru_cores.specs.Core.{Core, list_at, with_list, core_len}
 use Rattle.lru_cores.specs.Eviction.{is_over, evicted, Evicts, EvictsWhereOver, EvictionRun, KeepsLongestFront}
 use Rattle.lru_shard.proofs.LastRows.{length-without_last}

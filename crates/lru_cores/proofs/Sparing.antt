@@ -10,8 +10,8 @@ use Rattle.lru_shard.specs.Row.{Row, row, times, pair_of, without, with_first, l
 use Rattle.lru_shard.specs.Shard.{Shard, shard, IsShard}
 use Rattle.lru_shard.proofs.Rows.{without_absent, without_there, length-without-le}
 use Rattle.lru_shard.proofs.LastRows.{held_last, length-without_last}
-use Rattle.lru_rules.specs.Limits.{cap_of}
-use Rattle.lru_rules.proofs.Circle.{before_end, past_end, all_empty, empty_sum}
+use Rattle.lru_shard.specs.Limits.{cap_of}
+use Rattle.lru_shard.proofs.Circle.{before_end, past_end, all_empty, empty_sum}
 use Rattle.lru_cores.specs.Core.{Core, core_len, list_at, home, IsCore}
 use Rattle.lru_cores.specs.CoreCalls.{CoreAdmits}
 use Rattle.lru_cores.specs.Eviction.{is_over, evicted, EvictsFrom}

@@ -9,7 +9,7 @@ use Rattle.lru_shard.specs.Row.{Row, weight_of, times}
 use Rattle.lru_shard.proofs.EditsOf.{Edit}
 use Rattle.lru_shard.specs.Shard.{Shard, shard, IsShard}
 use Rattle.lru_cores.specs.Core.{Core, home, with_list, ActsOn, IsCore}
-use Rattle.lru_rules.specs.Limits.{cap_of}
+use Rattle.lru_shard.specs.Limits.{cap_of}
 use Rattle.lru_cores.specs.Representation.Units.{lists_of, AreUnits}
 
 pub whole_cap : (n : ℕ) → 0 < n → n * cap_of n ≤ 18446744073709551615

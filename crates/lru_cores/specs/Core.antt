@@ -3,7 +3,7 @@ use Rattle.std.specs.Prelude.{◌≡◌, ℕ, ◌%◌, List, [], length, slice_i
 use Rattle.std.specs.Coded.{Coded, code_by, coded×, coded_ℕ, coded_list, coded_option}
 use Rattle.lru_shard.specs.Row.{Row, row_code, weight_of, times}
 use Rattle.lru_shard.specs.Shard.{Shard, shard, IsShard}
-use Rattle.lru_rules.specs.Limits.{cap_of}
+use Rattle.lru_shard.specs.Limits.{cap_of}
 
 pub record Core (T : Type 0) : Type 0 where
   pub lists : List (List (Row T))

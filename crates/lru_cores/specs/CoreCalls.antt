@@ -3,7 +3,7 @@ use Rattle.std.specs.Prelude.{◌≡◌, ℕ, Bool, Option, Result, Ok, Err}
 use Rattle.lru_shard.specs.declared.unit.Refused.{Refused}
 use Rattle.lru_shard.specs.declared.unit.Cause.{Cause}
 use Rattle.lru_shard.specs.Unit.{InsertsTail, Pulls}
-use Rattle.lru_rules.specs.ShardCalls.{AdmitsRaised, SetsRaised, IncrementsTo, UpdatesFrom}
+use Rattle.lru_shard.specs.ShardCalls.{AdmitsRaised, SetsRaised, IncrementsTo, UpdatesFrom}
 use Rattle.lru_cores.specs.Core.{Core, ActsOn, home}
 
 module _ {T : Type 0} where

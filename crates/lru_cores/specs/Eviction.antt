@@ -2,9 +2,9 @@
 use Rattle.std.specs.Prelude.{◌≡◌, ℕ, ◌+◌, ◌<◌, ◌≤◌, ◌%◌, ◌^◌, Bool, List, [], ◌∷◌, length, take, slice_index_or, Option, Some, None, MatchOption, IsTrue, IsFalse}
 use Rattle.std.specs.List.{FoldsTo}
 use Rattle.lru_shard.specs.Row.{Row, pair_of, last_row, without_last}
-use Rattle.lru_rules.specs.Victims.{longer_of}
-use Rattle.lru_rules.specs.Limits.{is_past}
-use Rattle.lru_rules.specs.Draws.{drawn_shards}
+use Rattle.lru_shard.specs.Victims.{longer_of}
+use Rattle.lru_shard.specs.Limits.{is_past}
+use Rattle.lru_shard.specs.Draws.{drawn_shards}
 use Rattle.rand_core.specs.Stream.{Stream}
 use Rattle.lru_cores.specs.Core.{Core, core_weight, core_len, list_at, with_list}
 

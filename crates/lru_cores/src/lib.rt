@@ -2,7 +2,7 @@
 //!
 //! A call on a key does to its shard what the shard's call does, and leaves the others. The draws of an eviction are a
 //! function of the generator. It stands on one shard (`lru_shard`) and on the rules that all sharded orders share
-//! (`lru_rules`).
+//! (`lru_shard`).
 #![tactic(auto)]
 
 pub mod lru_core;

@@ -6,9 +6,9 @@ ghost use Rattle.lru_cores.specs.Sparing.{IsNext, IsLast, GivesUp, HasPut};
 ghost use Rattle.lru_cores.specs.Representation.Units.{lists_of};
 
 use lru_index::hashing::SeededHashes;
-pub use lru_rules::eviction::EvictError;
-use lru_rules::eviction::{drawn_shards, is_past, longer_of, shard_after};
-use lru_rules::totals::Totals;
+pub use lru_shard::eviction::EvictError;
+use lru_shard::eviction::{drawn_shards, is_past, longer_of, shard_after};
+use lru_shard::totals::Totals;
 use lru_shard::unit::{Cause, LruUnit, LruUnitIter, Refused};
 use rand_core::Rng;
 use std::alloc::{AllocError, Global};
@@ -428,7 +428,7 @@ impl<T: Drop, const N: usize, S: BuildHasher> LruCore<T, N, S> {
     ghost use Rattle.lru_shard.specs.Row.{Row, row, pair_of, row_of, is_held, without};
     ghost use Rattle.lru_shard.specs.Unit.{Updates, accessed};
     ghost use Rattle.lru_cores.specs.Core.{list_at, with_list, home};
-    ghost use Rattle.lru_rules.specs.ShardCalls.{promoted_past};
+    ghost use Rattle.lru_shard.specs.ShardCalls.{promoted_past};
     ghost use Rattle.lru_cores.specs.CoreCalls.{CoreAdmits, CoreInsertsTail, CoreIncrements, CoreUpdates, CoreSetsWeight, CorePulls};
     ghost use Rattle.lru_cores.specs.Eviction.{EvictsFrom, EvictsWhereOver, EvictsToLimit, IsCutShort, EvictsWith, KeepsLongestFront};
     ghost use Rattle.lru_cores.specs.Sparing.{SparesToLimit, CoreAdmitsAndEvicts, StandsFirst};

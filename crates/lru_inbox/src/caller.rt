@@ -1,6 +1,6 @@
 //! Who sends messages.
 ghost use Rattle.std.specs.Prelude.{◌≡◌, ◌≤◌, [], length, IsSome};
-ghost use Rattle.lru_rules.specs.Limits.{cap_of};
+ghost use Rattle.lru_shard.specs.Limits.{cap_of};
 ghost use Rattle.lru_logs.specs.Logs.{of_fronts, seen_of};
 ghost use Rattle.lru_inbox.specs.Inboxes.{Learns};
 

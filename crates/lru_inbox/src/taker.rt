@@ -1,7 +1,7 @@
 //! Who takes messages.
 ghost use Rattle.std.specs.Prelude.{◌≡◌, ◌≤◌, [], length, take, is_some};
 ghost use Rattle.std.specs.Option.{ForSome};
-ghost use Rattle.lru_rules.specs.Limits.{cap_of};
+ghost use Rattle.lru_shard.specs.Limits.{cap_of};
 ghost use Rattle.lru_logs.specs.Logs.{of_taker, taken_by};
 ghost use Rattle.lru_inbox.specs.Replies.{IsReply};
 ghost use Rattle.lru_inbox.specs.Inboxes.{taken_in};

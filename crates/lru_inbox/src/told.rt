@@ -1,7 +1,7 @@
 //! A reply that knows of what it tells.
 ghost use Rattle.std.specs.Prelude.{◌≡◌, [], ◌∷◌, length};
 ghost use Rattle.std.specs.Option.{ForSome};
-ghost use Rattle.lru_rules.specs.Limits.{cap_of};
+ghost use Rattle.lru_shard.specs.Limits.{cap_of};
 ghost use Rattle.lru_logs.specs.Logs.{front, of_fronts};
 ghost use Rattle.lru_inbox.specs.Replies.{IsReply};
 ghost use Rattle.lru_inbox.specs.Inboxes.{shown};

@@ -8,8 +8,8 @@ use Rattle.lru_shard.specs.Row.{Row, row, weight_of, with_first, without}
 use Rattle.lru_shard.specs.Shard.{Shard, shard, refusal, size_of, Size, is_full}
 use Rattle.lru_shard.specs.declared.unit.Cause.TheVariants.{Weight, Length}
 use Rattle.lru_shard.proofs.Rows.{weight-cons}
-use Rattle.lru_rules.specs.Limits.{cap_of}
-use Rattle.lru_rules.specs.ShardCalls.{AdmitsRaised}
+use Rattle.lru_shard.specs.Limits.{cap_of}
+use Rattle.lru_shard.specs.ShardCalls.{AdmitsRaised}
 use Rattle.lru_locks.specs.declared.admission.Admission.{Admission}
 use Rattle.lru_locks.specs.declared.admission.Fate.{Fate}
 use Rattle.lru_locks.specs.declared.admission.Fate.TheVariants.{Waiting, Admitted, HandedBack}

@@ -12,7 +12,7 @@ use Rattle.lru_shard.proofs.Rows.{times_no, times-without_other, row_of_absent}
 use Rattle.lru_shard.proofs.Edits.{times-without-le, times-with_weight}
 use Rattle.lru_shard.proofs.Pulls.{row_key}
 use Rattle.lru_shard.proofs.EditsOf.{Edit, edits_admit}
-use Rattle.lru_rules.specs.Shards.{AreAtHome}
+use Rattle.lru_shard.specs.Shards.{AreAtHome}
 use Rattle.lru_locks.specs.declared.admission.Admission.{Admission}
 use Rattle.lru_locks.specs.declared.admission.Fate.{Fate}
 use Rattle.lru_locks.specs.declared.admission.Fate.TheVariants.{Waiting, Admitted, HandedBack}

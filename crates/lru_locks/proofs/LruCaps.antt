@@ -6,7 +6,7 @@ use Rattle.lru_shard.specs.declared.unit.Cause.{Cause}
 use Rattle.lru_shard.specs.Row.{Row, row, row_of, pair_of, last_row, weight_of, with_first, without}
 use Rattle.lru_shard.specs.Shard.{Shard, shard, IsShard}
 use Rattle.lru_shard.specs.Unit.{Admits, IncrementsRow, raised, started}
-use Rattle.lru_rules.specs.ShardCalls.{IncrementsTo}
+use Rattle.lru_shard.specs.ShardCalls.{IncrementsTo}
 use Rattle.lru_shard.proofs.Rows.{weight-cons}
 use Rattle.lru_shard.proofs.Edits.{at_row, weight-without}
 use Rattle.lru_shard.proofs.LastRows.{weight-without_last}

@@ -12,7 +12,7 @@ use Rattle.lru_shard.specs.Row.{Row, pair_of, times, weight_of, last_row, withou
 use Rattle.lru_shard.specs.Shard.{Shard, shard}
 use Rattle.lru_shard.proofs.Rows.{weight-cons, weight-append, times-append}
 use Rattle.lru_shard.proofs.LastRows.{last_of, last_split, length-without_last}
-use Rattle.lru_rules.specs.Limits.{is_past}
+use Rattle.lru_shard.specs.Limits.{is_past}
 use Rattle.lru_locks.specs.Sheds.{Sheds, VisitsLight}
 
 reverse_push : {A : Type 0} (x : A) (xs : List A) → reverse (x ∷ xs) ≡ reverse xs ++ x ∷ []

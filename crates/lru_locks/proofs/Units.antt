@@ -2,7 +2,7 @@
 use Rattle.std.proofs.Common.{◌≡◌, ℕ, zero, suc, List, [], ◌∷◌, ◌++◌, length, Some, None, refl, ap, subst, ◌⊎◌, inl, inr, ⊎_elim}
 use Rattle.std.specs.Prelude.{slice_get}
 use Rattle.lru_shard.specs.Shard.{Shard}
-use Rattle.lru_rules.specs.Shards.{IsOwn, AreOwn}
+use Rattle.lru_shard.specs.Shards.{IsOwn, AreOwn}
 
 some_same : {A : Type 0} (x y : A) → Some x ≡ Some y → x ≡ y
 some_same x y e = cc

@@ -2,8 +2,8 @@
 use Rattle.std.specs.Prelude.{◌≡◌, ℕ, ◌%◌, ◌≤◌, ◌==◌, ◌&&◌, max, Bool, true, false, MatchBool, List, [], ◌∷◌, Option, None, Some, Ok, Err}
 use Rattle.lru_shard.specs.declared.unit.Refused.{Refused}
 use Rattle.lru_shard.specs.Shard.{Shard}
-use Rattle.lru_rules.specs.Limits.{cap_of}
-use Rattle.lru_rules.specs.ShardCalls.{AdmitsRaised}
+use Rattle.lru_shard.specs.Limits.{cap_of}
+use Rattle.lru_shard.specs.ShardCalls.{AdmitsRaised}
 use Rattle.lru_locks.specs.declared.admission.Admission.{Admission}
 use Rattle.lru_locks.specs.declared.admission.Fate.{Fate}
 use Rattle.lru_locks.specs.declared.admission.Fate.TheVariants.{Waiting, Admitted, HandedBack}

@@ -4,8 +4,8 @@ use Rattle.lru_shard.specs.declared.unit.Refused.{Refused}
 use Rattle.lru_shard.specs.declared.unit.Cause.TheVariants.{Weight}
 use Rattle.lru_shard.specs.Shard.{Shard}
 use Rattle.lru_shard.specs.Unit.{raised, started, InsertsTail}
-use Rattle.lru_rules.specs.Limits.{cap_of}
-use Rattle.lru_rules.specs.Shards.{AreAtHome}
+use Rattle.lru_shard.specs.Limits.{cap_of}
+use Rattle.lru_shard.specs.Shards.{AreAtHome}
 use Rattle.lru_locks.specs.declared.admission.Admission.{Admission}
 use Rattle.lru_locks.specs.Batches.{AdmitsEach}
 

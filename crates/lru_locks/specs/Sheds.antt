@@ -4,8 +4,8 @@ use Rattle.std.specs.List.{FoldsTo}
 use Rattle.lru_shard.specs.declared.unit.Refused.{Refused}
 use Rattle.lru_shard.specs.Row.{Row, pair_of, weight_of, last_row, without_last}
 use Rattle.lru_shard.specs.Shard.{Shard, shard}
-use Rattle.lru_rules.specs.Limits.{is_past}
-use Rattle.lru_rules.specs.ShardCalls.{AdmitsRaised}
+use Rattle.lru_shard.specs.Limits.{is_past}
+use Rattle.lru_shard.specs.ShardCalls.{AdmitsRaised}
 
 module _ {T : Type 0} where
   -- the longest front is kept that is within a weight and a length, and never less than the first row; a closure was called with each

@@ -1,13 +1,13 @@
 //! What lies behind the lock of a shard.
 ghost use Rattle.std.specs.Prelude.{◌≡◌, ℕ, ◌%◌, ◌<◌, ◌≤◌, max, not, length, IfOk, IfSome, OnOk};
-ghost use Rattle.lru_rules.specs.Limits.{cap_of};
-ghost use Rattle.lru_rules.specs.Shards.{AreAtHome, IsOwn};
+ghost use Rattle.lru_shard.specs.Limits.{cap_of};
+ghost use Rattle.lru_shard.specs.Shards.{AreAtHome, IsOwn};
 
 use crate::look::Look;
 use crate::shed::{Room, shed};
 use crate::{Admission, admit_each};
 use lru_index::hashing::SeededHashes;
-use lru_rules::totals::Totals;
+use lru_shard::totals::Totals;
 use lru_shard::unit::{Cause, LruUnit, Refused};
 use std::alloc::{AllocError, Global};
 
@@ -128,7 +128,7 @@ impl<T: Drop, const N: usize> Locked<T, N> {
     ghost use Rattle.lru_shard.specs.Row.{pair_of, row_of, is_held, without, last_row, without_last};
     ghost use Rattle.lru_shard.specs.Shard.{shard};
     ghost use Rattle.lru_shard.specs.Unit.{InsertsTail, Updates, accessed};
-    ghost use Rattle.lru_rules.specs.ShardCalls.{AdmitsRaised, SetsRaised, IncrementsTo, UpdatesFrom};
+    ghost use Rattle.lru_shard.specs.ShardCalls.{AdmitsRaised, SetsRaised, IncrementsTo, UpdatesFrom};
     ghost use Rattle.lru_locks.specs.Batches.{AdmitsEach};
     ghost use Rattle.lru_locks.specs.Sheds.{Sheds, AdmitsAndSheds, EvictsBesides, VisitsLight};
 

@@ -1,8 +1,8 @@
 //! N shards under one limit on their weight, shared by threads: each shard behind a lock of its own.
 ghost use Rattle.std.specs.Prelude.{◌≡◌, ℕ, ◌+◌, ◌-◌, ◌%◌, ◌^◌, ◌<◌, ◌≤◌, min, max, not, length, vec_len, IfOk, IfErr, IfSome, OnOk, Ok, None, All};
 ghost use Rattle.std.specs.Sync.Mutex.{mutex_guard_value};
-ghost use Rattle.lru_rules.specs.Limits.{cap_of};
-ghost use Rattle.lru_rules.specs.Shards.{IsOwn, AreOwn};
+ghost use Rattle.lru_shard.specs.Limits.{cap_of};
+ghost use Rattle.lru_shard.specs.Shards.{IsOwn, AreOwn};
 
 use crate::locked::Locked;
 use crate::look::Look;
@@ -10,9 +10,9 @@ use crate::shed::Room;
 use crossbeam_utils::CachePadded;
 use crate::Admission;
 use lru_index::hashing::SeededHashes;
-use lru_rules::counters::{growth, shift};
-use lru_rules::eviction::{EvictError, Readings, drawn_shards, longer_of, shard_after};
-use lru_rules::totals::{Totals, Units};
+use lru_shard::counters::{growth, shift};
+use lru_shard::eviction::{EvictError, Readings, drawn_shards, longer_of, shard_after};
+use lru_shard::totals::{Totals, Units};
 use lru_shard::unit::{Cause, LruUnit, Refused};
 use lru_short_locks::ShortMutex;
 use rand_core::Rng;

@@ -1,11 +1,11 @@
 //! How much a shard may hold by what the others hold, and what it evicts to hold no more.
 ghost use Rattle.std.specs.Prelude.{◌≡◌, ℕ, ◌+◌, ◌-◌, ◌<◌, length, option_map};
 ghost use Rattle.lru_shard.specs.Row.{weight_of};
-ghost use Rattle.lru_rules.specs.Limits.{is_past};
+ghost use Rattle.lru_shard.specs.Limits.{is_past};
 ghost use Rattle.lru_locks.specs.Sheds.{Sheds};
 
-use lru_rules::eviction::{Readings, is_past};
-use lru_rules::totals::Totals;
+use lru_shard::eviction::{Readings, is_past};
+use lru_shard::totals::Totals;
 use lru_shard::unit::LruUnit;
 
 // How heavy and how long one shard may be.

@@ -1,6 +1,6 @@
 //! What an `Lru` leaves after the calls of two threads: the counters are the sums over its shards.
 use lru_locks::lru::Lru;
-use lru_rules::totals::{Totals, Units};
+use lru_shard::totals::{Totals, Units};
 use lru_shard::unit::LruUnit;
 use rand::rngs::StdRng;
 use rand_core::{Rng, SeedableRng};

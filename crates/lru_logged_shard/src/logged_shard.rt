@@ -2,7 +2,7 @@
 ghost use Rattle.std.specs.Prelude.{◌≡◌, ◌≤◌, ◌<◌, [], ◌∷◌, length, take, nat_eq, IfOk, IsSome};
 ghost use Rattle.std.specs.Option.{ForSome};
 ghost use Rattle.std.specs.HashMap as hash_map;
-ghost use Rattle.lru_rules.specs.Limits.{cap_of};
+ghost use Rattle.lru_shard.specs.Limits.{cap_of};
 ghost use Rattle.lru_logs.specs.Logs.{front, of_fronts};
 ghost use Rattle.lru_inbox.specs.Inboxes.{shown, taken_in};
 ghost use Rattle.lru_logged_shard.specs.Accounts.{IsKept};

@@ -1,7 +1,7 @@
 //! What a shard with a log came to.
 ghost use Rattle.std.specs.Prelude.{◌≡◌, [], ◌∷◌, Some, IsSome};
 ghost use Rattle.std.specs.Option.{ForSome};
-ghost use Rattle.lru_rules.specs.Limits.{cap_of};
+ghost use Rattle.lru_shard.specs.Limits.{cap_of};
 ghost use Rattle.lru_logs.specs.Logs.{Begins, accepted, hand, log_of, seen_of};
 ghost use Rattle.lru_inbox.specs.Inboxes.{log_in};
 ghost use Rattle.lru_logged_shard.specs.Accounts.{IsAccount};

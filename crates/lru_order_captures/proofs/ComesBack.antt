@@ -15,7 +15,7 @@ use Rattle.lru_shard.specs.Row as order
 use Rattle.lru_shard.specs.Shard.{Shard, IsShard, MayRefuse, Size, size_of, refusal, most_rows, shard}
 use Rattle.lru_shard.specs.Unit.{tailed, InsertsTail}
 use Rattle.lru_shard.proofs.Rows.{times-append, times-cons, row_of_absent}
-use Rattle.lru_rules.specs.Limits.{cap_of}
+use Rattle.lru_shard.specs.Limits.{cap_of}
 use Rattle.lru_cores.specs.Core.{Core, ActsOn, list_at, IsCore}
 use Rattle.lru_order_captures.specs.Captures.{AreCopies, PutsRow, PutsEach, PutsShards, ArePlaced, order_row}
 

@@ -5,7 +5,7 @@ use Rattle.lru_frames.specs.declared.row.Row.{Row}
 use Rattle.lru_frames.specs.Copies.{AreEach}
 use Rattle.lru_shard.specs.declared.unit.Refused.{Refused}
 use Rattle.lru_shard.specs.Row as order
-use Rattle.lru_rules.specs.Shards.{AreAtHome}
+use Rattle.lru_shard.specs.Shards.{AreAtHome}
 use Rattle.lru_locks.specs.LruCalls.{MayInsertTail}
 use Rattle.lru_cores.specs.Core.{Core, list_at}
 use Rattle.lru_cores.specs.CoreCalls.{CoreInsertsTail}

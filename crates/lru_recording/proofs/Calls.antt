@@ -9,7 +9,7 @@ use Rattle.lru_shard.specs.declared.unit.Cause.TheVariants.{Memory, Weight as He
 use Rattle.lru_shard.specs.Row.{Row, row, row_of, pair_of, is_held, with_first, without, with_weight, last_row, without_last, weight_of}
 use Rattle.lru_shard.specs.Shard.{Shard, shard, Size, size_of, and_row, refusal, MayRefuse, most_rows, is_full, IsShard, Accepts, Declines}
 use Rattle.lru_shard.specs.Unit.{Admits, InsertsTail, SetsWeight, IncrementsWeight, IncrementsRow, UpdatesOrAdmits, UpdatesRow, RefusesNew, weight_at, tailed, grown, raised, started, accessed}
-use Rattle.lru_rules.specs.ShardCalls.{promoted_past}
+use Rattle.lru_shard.specs.ShardCalls.{promoted_past}
 use Rattle.lru_journal.specs.declared.entry.Call.{Call}
 use Rattle.lru_journal.specs.declared.entry.Call.TheVariants.{Admit, InsertTail, IncrementWeight, IncrementWeightUpTo, UpdateOrAdmit, SetWeight, Promote, PromoteTopN, EvictShard, EvictToLimit, Remove, Peek, PeekWeight, PeekLru}
 use Rattle.lru_journal.specs.declared.entry.Reply.{Reply}

@@ -6,7 +6,7 @@ use Rattle.std.specs.Option.{option_map_or}
 use Rattle.lru_shard.specs.Row.{Row, row, row_of, is_held, weight_of, without, with_first, with_last, with_weight, with_value, last_row, without_last}
 use Rattle.lru_shard.specs.Shard.{Size, size_of}
 use Rattle.lru_shard.specs.Unit.{weight_at, tailed, accessed, needs_promote}
-use Rattle.lru_rules.specs.ShardCalls.{promoted_past}
+use Rattle.lru_shard.specs.ShardCalls.{promoted_past}
 use Rattle.lru_shard.proofs.Rows.{weight-cons}
 use Rattle.lru_recording.specs.Plain.{Plain, plain, forget}
 

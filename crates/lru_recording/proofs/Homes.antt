@@ -10,8 +10,8 @@ use Rattle.lru_shard.specs.Unit.{weight_at, grown, tailed, accessed, needs_promo
 use Rattle.lru_shard.proofs.Rows.{times-cons, times-append, times_no, times-without_other}
 use Rattle.lru_shard.proofs.Edits.{times-with_weight, times-without-le}
 use Rattle.lru_shard.proofs.Pulls.{row_key}
-use Rattle.lru_rules.specs.Shards.{AreAtHome}
-use Rattle.lru_rules.specs.ShardCalls.{promoted_past}
+use Rattle.lru_shard.specs.Shards.{AreAtHome}
+use Rattle.lru_shard.specs.ShardCalls.{promoted_past}
 use Rattle.lru_journal.specs.declared.entry.Entry.{Entry}
 use Rattle.lru_journal.specs.declared.entry.Call.{Call}
 use Rattle.lru_journal.specs.declared.entry.Call.TheVariants.{Admit, InsertTail, IncrementWeight, IncrementWeightUpTo, UpdateOrAdmit, SetWeight, Promote, PromoteTopN, EvictShard, EvictToLimit, Remove, Peek, PeekWeight, PeekLru}

@@ -1,6 +1,6 @@
 -- A call that is made and noted keeps the history legal.
 use Rattle.std.proofs.Common.{◌≡◌, ℕ, ◌%◌, ◌<◌, List, [], ◌∷◌, ◌++◌, map, Option, Some, None, refl, sym, ap, ◌∙◌, subst}
-use Rattle.lru_rules.specs.Limits.{cap_of}
+use Rattle.lru_shard.specs.Limits.{cap_of}
 use Rattle.lru_hands.proofs.Hands.{map_snoc}
 use Rattle.lru_journal.specs.declared.entry.Entry.{Entry}
 use Rattle.lru_journal.specs.declared.entry.Call.{Call}

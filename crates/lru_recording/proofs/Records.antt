@@ -1,7 +1,7 @@
 -- Histories of several shards, one more at the end.
 use Rattle.std.proofs.Common.{◌≡◌, ℕ, zero, suc, ◌+◌, List, [], ◌∷◌, ◌++◌, length, map, refl, sym, ap, ◌∙◌, subst, arith, Some}
 use Rattle.std.specs.Prelude.{slice_get}
-use Rattle.lru_rules.specs.Limits.{cap_of}
+use Rattle.lru_shard.specs.Limits.{cap_of}
 use Rattle.lru_journal.specs.declared.entry.Entry.{Entry}
 use Rattle.lru_journal.specs.declared.entry.Reply.{Reply}
 use Rattle.lru_hands.proofs.Hands.{some_same, none_some}

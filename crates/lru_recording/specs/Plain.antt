@@ -4,7 +4,7 @@ use Rattle.std.specs.Option.{option_map_or}
 use Rattle.lru_shard.specs.Row.{Row, row, row_of, is_held, with_first, without, with_weight, last_row, without_last}
 use Rattle.lru_shard.specs.Shard.{size_of, refusal}
 use Rattle.lru_shard.specs.Unit.{grown, weight_at, tailed, accessed}
-use Rattle.lru_rules.specs.ShardCalls.{promoted_past}
+use Rattle.lru_shard.specs.ShardCalls.{promoted_past}
 use Rattle.lru_journal.specs.declared.entry.Call.{Call}
 use Rattle.lru_journal.specs.declared.entry.Call.TheVariants.{Admit, InsertTail, IncrementWeight, IncrementWeightUpTo, UpdateOrAdmit, SetWeight, Promote, PromoteTopN, EvictShard, EvictToLimit, Remove, Peek, PeekWeight, PeekLru}
 use Rattle.lru_journal.specs.declared.entry.Reply.{Reply}

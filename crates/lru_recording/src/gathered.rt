@@ -1,7 +1,7 @@
 //! Shards taken out of their locks: each is put at the place of its number, and then all go in order.
 ghost use Rattle.std.specs.Prelude.{◌≡◌, ◌+◌, ◌<◌, ◌≤◌, [], ◌∷◌, ◌++◌, map, option_map, Some, vec_len, vec_capacity, IfOk};
-ghost use Rattle.lru_rules.specs.Limits.{cap_of};
-ghost use Rattle.lru_rules.specs.Shards.{IsOwn, AreOwn};
+ghost use Rattle.lru_shard.specs.Limits.{cap_of};
+ghost use Rattle.lru_shard.specs.Shards.{IsOwn, AreOwn};
 ghost use Rattle.lru_journal.specs.Stamps.{TurnsRise};
 ghost use Rattle.lru_journal.specs.Ties.{hand};
 ghost use Rattle.lru_journal.specs.Tied.{IsBook};

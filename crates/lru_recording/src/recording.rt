@@ -3,8 +3,8 @@ ghost use Rattle.std.specs.Prelude.{◌≡◌, ◌%◌, ◌<◌, [], ◌∷◌, 
 ghost use Rattle.lru_shard.specs.Row.{row, with_first, is_held, last_row, pair_of};
 ghost use Rattle.lru_shard.specs.Shard.{shard, size_of, refusal};
 ghost use Rattle.lru_shard.specs.Unit.{Updates};
-ghost use Rattle.lru_rules.specs.Limits.{cap_of};
-ghost use Rattle.lru_rules.specs.ShardCalls.{promoted_past};
+ghost use Rattle.lru_shard.specs.Limits.{cap_of};
+ghost use Rattle.lru_shard.specs.ShardCalls.{promoted_past};
 ghost use Rattle.lru_journal.specs.Stamps.{GetsReceipt};
 ghost use Rattle.lru_journal.specs.Ties.{hand};
 ghost use Rattle.lru_recording.specs.Plain.{forget};

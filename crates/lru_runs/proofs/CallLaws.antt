@@ -10,7 +10,7 @@ use Rattle.lru_runs.specs.declared.calls.Reply.{Reply}
 use Rattle.lru_shard.specs.Row.{Row, row_of}
 use Rattle.lru_shard.specs.Shard.{Shard}
 use Rattle.lru_shard.specs.Unit.{AdmitsMade, IncrementsRow, RefusesNew, AdmitsGiven, UpdatesRow}
-use Rattle.lru_rules.specs.ShardCalls.{IncrementsTo, told, UpdatesFrom}
+use Rattle.lru_shard.specs.ShardCalls.{IncrementsTo, told, UpdatesFrom}
 use Rattle.rand_core.specs.Stream.{Stream}
 use Rattle.lru_cores.specs.Core.{Core, ActsOn}
 use Rattle.lru_cores.specs.CoreCalls.{CoreIncrements, CoreUpdates}

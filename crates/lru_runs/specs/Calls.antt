@@ -9,7 +9,7 @@ use Rattle.lru_shard.specs.Row.{row_of, is_held, pair_of, last_row, without}
 use Rattle.lru_shard.specs.Unit.{accessed}
 use Rattle.lru_cores.specs.Core.{Core, list_at, with_list, home, core_len, core_weight}
 use Rattle.lru_cores.specs.CoreCalls.{CoreAdmits, CoreInsertsTail, CoreIncrements, CoreUpdates, CoreSetsWeight}
-use Rattle.lru_rules.specs.ShardCalls.{promoted_past}
+use Rattle.lru_shard.specs.ShardCalls.{promoted_past}
 use Rattle.rand_core.specs.Stream.{Stream}
 use Rattle.lru_cores.specs.Eviction.{EvictsFrom, EvictsWhereOver, EvictsToLimit, IsCutShort}
 

@@ -7,7 +7,7 @@ use Rattle.lru_mailbox.specs.Mail.{Post, Mail, mail_of, empty, served, left, Pus
 use Rattle.lru_dispatch.specs.Queue.{Queue, dispatched}
 use Rattle.lru_shard.specs.Row.{Row, weight_of, times}
 use Rattle.lru_shard.specs.Shard.{shard}
-use Rattle.lru_rules.specs.Victims.{longer_of}
+use Rattle.lru_shard.specs.Victims.{longer_of}
 use Rattle.lru_actors.specs.declared.message.LruMsg.{LruMsg}
 use Rattle.lru_actors.specs.declared.message.LruMsg.TheVariants.{Evict}
 use Rattle.lru_actors.specs.declared.effect.Effect.{Effect}

@@ -9,3 +9,5 @@ pub mod EditsOf
 pub mod Places
 pub mod UnitCalls
 pub mod Pulls
+pub mod Circle
+pub mod Told

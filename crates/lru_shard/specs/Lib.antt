@@ -3,3 +3,8 @@ pub mod Shard
 pub mod Unit
 pub mod Representation
 pub mod Causes
+pub mod Limits
+pub mod Draws
+pub mod Victims
+pub mod ShardCalls
+pub mod Shards

@@ -4,4 +4,7 @@
 //! rows (`lru_rows`).
 #![tactic(auto)]
 
+pub mod counters;
+pub mod eviction;
+pub mod totals;
 pub mod unit;

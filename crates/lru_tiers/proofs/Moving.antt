@@ -8,7 +8,7 @@ use Rattle.lru_shard.specs.Shard.{Shard, shard}
 use Rattle.lru_shard.specs.Unit.{PullsRow}
 use Rattle.lru_shard.proofs.Rows.{times-without_same, times-without_other}
 use Rattle.lru_shard.proofs.Pulls.{row_key}
-use Rattle.lru_rules.specs.Limits.{cap_of}
+use Rattle.lru_shard.specs.Limits.{cap_of}
 use Rattle.lru_cores.specs.Core.{Core, list_at, with_list, home, shard_at}
 use Rattle.lru_cores.specs.CoreCalls.{CorePulls}
 use Rattle.lru_tiers.specs.Tiers.{row_in, core_without, times_in, IsTier}

@@ -8,7 +8,7 @@ use Rattle.lru_shard.specs.Row.{Row, times, without}
 use Rattle.lru_shard.proofs.Edits.{at_row, length-without}
 use Rattle.lru_shard.proofs.UnitCalls.{times_none}
 use Rattle.rand_core.specs.Stream.{Stream}
-use Rattle.lru_rules.specs.Draws.{drawn_shards}
+use Rattle.lru_shard.specs.Draws.{drawn_shards}
 use Rattle.lru_cores.specs.Core.{Core, core_len, list_at, home}
 use Rattle.lru_cores.specs.CoreCalls.{CorePulls}
 use Rattle.lru_cores.specs.Eviction.{is_over, NamesVictim}

@@ -5,7 +5,7 @@ use Rattle.lru_shard.specs.declared.unit.Cause.{Cause}
 use Rattle.lru_shard.specs.declared.unit.Cause.TheVariants.{Memory}
 use Rattle.lru_shard.specs.Row.{Row}
 use Rattle.lru_shard.specs.Unit.{accessed}
-use Rattle.lru_rules.specs.Draws.{drawn_shards}
+use Rattle.lru_shard.specs.Draws.{drawn_shards}
 use Rattle.rand_core.specs.Stream.{Stream}
 use Rattle.lru_cores.specs.Core.{Core, home, list_at, with_list}
 use Rattle.lru_cores.specs.CoreCalls.{CoreAdmits, CorePulls}

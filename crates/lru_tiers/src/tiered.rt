@@ -5,7 +5,7 @@ ghost use Rattle.lru_tiers.specs.TierRuns.{Event, Runs, IsAccounted};
 
 use lru_cores::lru_core::LruCore;
 use lru_index::hashing::SeededHashes;
-use lru_rules::eviction::drawn_shards;
+use lru_shard::eviction::drawn_shards;
 use lru_shard::unit::{Cause, Refused};
 use rand_core::Rng;
 use std::alloc::{AllocError, Global};

@@ -4,7 +4,7 @@ use Rattle.std.proofs.Math.Nat.{mul-le-mul_left}
 use Rattle.std.specs.Prelude.{Option, All, sum, nat_lt}
 use Rattle.std.proofs.lemmas.Bool.{ltb-true, lt-ltb, or_cases, or_left, or_right}
 use Rattle.std.proofs.lemmas.List.Sums.{sum_by-le}
-use Rattle.lru_rules.specs.Limits.{is_past, is_above}
+use Rattle.lru_shard.specs.Limits.{is_past, is_above}
 
 lt_more : (limit w w' : ℕ) → w ≤ w' → nat_lt limit w ≡ true → nat_lt limit w' ≡ true
 lt_more limit w w' le h = lt-ltb limit w' (let lt : limit < w = ltb-true limit w h in omega arith)

@@ -1,10 +1,10 @@
 //! Whether one more eviction may be asked for. Nobody knows what a row weighs that is still to be evicted, so each is counted
 //! as the heaviest there is: then none is asked for that the limits would not want.
 ghost use Rattle.std.specs.Prelude.{◌≡◌, ℕ, ◌+◌, ◌-◌, ◌*◌, ◌%◌, ◌^◌, ◌≤◌, List, All, length, sum, IsTrue, Some, None, if◌then◌else◌};
-ghost use Rattle.lru_rules.specs.Limits.{is_past};
+ghost use Rattle.lru_shard.specs.Limits.{is_past};
 
 use crate::world::Limits;
-use lru_rules::eviction::is_past;
+use lru_shard::eviction::is_past;
 
 /// What an order holds.
 #[derive(Clone, Copy, Debug)]

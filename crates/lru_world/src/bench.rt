@@ -4,7 +4,7 @@ ghost use Rattle.std.specs.List.{zip};
 ghost use Rattle.std.specs.HashMap as hash;
 ghost use Rattle.lru_actors.specs.Processing.{ProcessesAll};
 ghost use Rattle.lru_inbox.specs.Inboxes.{messages_of, taken_in};
-ghost use Rattle.lru_rules.specs.Limits.{cap_of};
+ghost use Rattle.lru_shard.specs.Limits.{cap_of};
 ghost use Rattle.std.specs.Option.{ForSome};
 ghost use Rattle.lru_world.specs.Replying.{AreReplies, Gains};
 ghost use Rattle.lru_logged_shard.specs.Seats.{slips_at};

@@ -1,6 +1,6 @@
 //! The loops of eviction workers and callback workers.
 ghost use Rattle.std.specs.Prelude.{◌≡◌, ◌<◌, vec_len};
-ghost use Rattle.lru_rules.specs.Victims.{longer_of};
+ghost use Rattle.lru_shard.specs.Victims.{longer_of};
 
 use crate::callback::AsyncEvictionCallback;
 use crate::outlet::Taken;

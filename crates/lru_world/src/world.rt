@@ -6,7 +6,7 @@ ghost use Rattle.lru_logs.specs.Logs.{log, hand, of_log, blank_logs, blank_front
 ghost use Rattle.lru_inbox.specs.Inboxes.{taken_in};
 ghost use Rattle.lru_logged_shard.specs.Looking.{LearnsWeight};
 ghost use Rattle.lru_logged_shard.specs.Seats.{slips_at};
-ghost use Rattle.lru_rules.specs.Limits.{cap_of};
+ghost use Rattle.lru_shard.specs.Limits.{cap_of};
 ghost use Rattle.lru_world.specs.Replying.{HasNothing, AreTakers};
 ghost use Rattle.lru_world.specs.Places.{is_logged};
 
@@ -20,8 +20,8 @@ use lru_letters::Letter;
 use lru_logged_shard::LoggedShard;
 use lru_logs::tie::Archive;
 use lru_logs::voice::Voice;
-use lru_rules::counters::shift;
-use lru_rules::eviction::is_past;
+use lru_shard::counters::shift;
+use lru_shard::eviction::is_past;
 use lru_shared_inbox::SharedInbox;
 use lru_shared_ledger::{PutSeat, Registry};
 use lru_short_locks::{ShortLock, ShortMutex};

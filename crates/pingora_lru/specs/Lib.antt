@@ -8,10 +8,10 @@ pub use Rattle.lru_cores.specs.CoreCalls
 pub use Rattle.lru_cores.specs.Eviction
 pub use Rattle.lru_runs.specs.Calls
 pub use Rattle.lru_runs.specs.Inclusion
-pub use Rattle.lru_rules.specs.Limits
-pub use Rattle.lru_rules.specs.Draws
-pub use Rattle.lru_rules.specs.ShardCalls
-pub use Rattle.lru_rules.specs.Shards
+pub use Rattle.lru_shard.specs.Limits
+pub use Rattle.lru_shard.specs.Draws
+pub use Rattle.lru_shard.specs.ShardCalls
+pub use Rattle.lru_shard.specs.Shards
 pub use Rattle.lru_locks.specs.Batches
 pub use Rattle.lru_locks.specs.LruCalls
 pub use Rattle.lru_journal.specs.Ties

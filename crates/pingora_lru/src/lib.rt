@@ -11,7 +11,7 @@
 pub use lru_list::linked_list;
 pub use lru_locks::lru;
 pub use lru_locks::lru::Lru;
-pub use lru_rules::totals;
+pub use lru_shard::totals;
 pub use lru_runs::{calls, inclusion};
 pub use lru_shard::unit;
 pub use lru_tiers::tiered;

@@ -2,7 +2,7 @@
 use Rattle.std.specs.Prelude.{◌≡◌, ℕ, ◌<◌, ◌%◌, List, [], slice_index_or, length, map, All, sum_by}
 use Rattle.lru_shard.specs.Row.{Row, weight_of, times}
 use Rattle.lru_shard.specs.Shard.{Shard, IsShard}
-use Rattle.lru_rules.specs.Limits.{cap_of}
+use Rattle.lru_shard.specs.Limits.{cap_of}
 
 abbrev pub lists_of : {T : Type 0} → List (Shard T) → List (List (Row T))
 lists_of units = map (λ u. u.rows) units

@@ -1,6 +1,6 @@
 use Rattle.std.proofs.Common.{◌≡◌, ◌≤◌, map, vec_len}
 use Rattle.std.specs.Prelude.{vec_capacity}
-use Rattle.lru_rules.specs.Limits.{cap_of}
+use Rattle.lru_shard.specs.Limits.{cap_of}
 use Rattle.lru_accounts.specs.Accounts.{Accounts}
 use Rattle.lru_accounts.proofs.ending.end_all.Given as goal
 

@@ -1,6 +1,6 @@
 use Rattle.std.proofs.Common.{of_calls, ◌≡◌, ◌<◌, length, true, sym, ◌∙◌, arith}
 use Rattle.lru_shard.specs.Row.{weight_of}
-use Rattle.lru_rules.specs.Limits.{is_past}
+use Rattle.lru_shard.specs.Limits.{is_past}
 use Rattle.lru_locks.proofs.Sheds.{sheds_last}
 use Rattle.lru_locks.proofs.shed.shed.Goals as goal
 

@@ -5,7 +5,7 @@ use Rattle.lru_journal.specs.declared.entry.Stamp.{Stamp}
 use Rattle.lru_journal.specs.declared.entry.Hand.{Hand}
 use Rattle.lru_hands.specs.Hands.{times, up}
 use Rattle.lru_recording.proofs.Gathering.{gathered_more, one_less}
-use Rattle.lru_rules.specs.Limits.{cap_of}
+use Rattle.lru_shard.specs.Limits.{cap_of}
 use Rattle.lru_recording.proofs.Homes.{home_of}
 use Rattle.lru_recording.proofs.gathered.place.Goals as goal
 

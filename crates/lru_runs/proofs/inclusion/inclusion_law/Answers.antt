@@ -11,7 +11,7 @@ use Rattle.lru_runs.specs.declared.calls.Reply.TheVariants.{Shard, Was, Left, Ev
 use Rattle.lru_shard.specs.Row.{Row, row, weight_of, with_first, without, with_weight}
 use Rattle.lru_cores.specs.Core.{Core, list_at, with_list, home}
 use Rattle.rand_core.specs.Stream.{Stream}
-use Rattle.lru_rules.specs.Limits.{is_above}
+use Rattle.lru_shard.specs.Limits.{is_above}
 use Rattle.lru_cores.specs.Eviction.{is_over, EvictionRun, KeepsLongestFront}
 use Rattle.lru_runs.specs.Calls.{Gives, Run}
 use Rattle.lru_runs.specs.Inclusion.{IsFrontOf, IsNoHigher, IsInclusionCall, IsGranted}

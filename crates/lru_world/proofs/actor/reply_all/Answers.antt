@@ -1,5 +1,5 @@
 use Rattle.std.proofs.Common.{◌≡◌, ◌+◌, ◌<◌, ◌%◌, ◌^◌, length, sym, ap, ◌∙◌, arith}
-use Rattle.lru_rules.specs.Limits.{cap_of}
+use Rattle.lru_shard.specs.Limits.{cap_of}
 use Rattle.lru_world.proofs.Replying.{replies_fewer, reply_last, number_is}
 use Rattle.lru_world.proofs.actor.reply_all.Goals as goal
 

@@ -1,6 +1,6 @@
 use Rattle.std.proofs.Common.{◌≡◌, map, vec_len}
 use Rattle.std.specs.Option.{ForSome}
-use Rattle.lru_rules.specs.Limits.{cap_of}
+use Rattle.lru_shard.specs.Limits.{cap_of}
 use Rattle.lru_inbox.specs.Inboxes.{taken_in}
 use Rattle.lru_world.specs.Replying.{AreReplies, TookPast}
 use Rattle.lru_world.proofs.actor.reply_all.Given as goal

@@ -1,5 +1,5 @@
 use Rattle.std.proofs.Common.{◌≡◌, map, length, sym, ap, ◌∙◌, subst, arith}
-use Rattle.lru_rules.specs.Limits.{cap_of}
+use Rattle.lru_shard.specs.Limits.{cap_of}
 use Rattle.lru_world.specs.Batch.{answers}
 use Rattle.lru_world.specs.Replying.{AreReplies}
 use Rattle.lru_world.proofs.Counted.{answers_length}

@@ -1,6 +1,6 @@
 use Rattle.std.proofs.Common.{◌≡◌, ◌-◌, ◌*◌, sym, ◌∙◌, arith}
 use Rattle.std.proofs.lemmas.Grind.{common_steps}
-use Rattle.lru_rules.specs.Limits.{is_past}
+use Rattle.lru_shard.specs.Limits.{is_past}
 use Rattle.lru_world.proofs.PastLimits.{past_whatever_goes}
 use Rattle.lru_world.proofs.asking.may_ask.Goals as goal
 

@@ -1,5 +1,5 @@
 use Rattle.std.proofs.Common.{◌%◌, ◌<◌, Ok, Err, refl, arith}
-use Rattle.lru_rules.specs.ShardCalls.{IncrementsTo}
+use Rattle.lru_shard.specs.ShardCalls.{IncrementsTo}
 use Rattle.lru_cores.proofs.Units.{fits, kept_by, acts}
 use Rattle.lru_shard.proofs.EditsOf.{edits_increment}
 use Rattle.lru_cores.proofs.lru_core.LruCore.increment_weight.Goals as goal

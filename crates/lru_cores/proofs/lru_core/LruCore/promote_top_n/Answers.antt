@@ -1,7 +1,7 @@
 use Rattle.std.proofs.Common.{◌%◌, ◌<◌, [], length, get_or, refl, sym, ap, ◌∙◌, arith}
 use Rattle.lru_shard.specs.Row.{is_held}
 use Rattle.lru_shard.specs.Shard.{Shard}
-use Rattle.lru_rules.specs.ShardCalls.{promoted_past}
+use Rattle.lru_shard.specs.ShardCalls.{promoted_past}
 use Rattle.lru_cores.specs.Representation.Units.{lists_of}
 use Rattle.lru_cores.proofs.Units.{leaves, home_list, x_valid, same_units, kept_as, leaves_as}
 use Rattle.lru_shard.proofs.EditsOf.{edits_access}

@@ -1,6 +1,6 @@
 use Rattle.std.proofs.Common.{◌%◌, ◌<◌, Ok, Err, refl, arith}
-use Rattle.lru_rules.specs.ShardCalls.{UpdatesFrom}
-use Rattle.lru_rules.proofs.Told.{untold_from}
+use Rattle.lru_shard.specs.ShardCalls.{UpdatesFrom}
+use Rattle.lru_shard.proofs.Told.{untold_from}
 use Rattle.lru_cores.proofs.Units.{fits, kept_by, acts}
 use Rattle.lru_shard.proofs.EditsOf.{edits_update}
 use Rattle.lru_cores.proofs.lru_core.LruCore.update_or_admit.Goals as goal

@@ -6,7 +6,7 @@ use Rattle.lru_cores.proofs.Units.{core, list_is}
 use Rattle.lru_cores.proofs.Evicting.{empty_under}
 use Rattle.std.proofs.lemmas.List.{length-map}
 use Rattle.std.proofs.lemmas.Bool.{false≢true}
-use Rattle.lru_rules.specs.Victims.{longer_of}
+use Rattle.lru_shard.specs.Victims.{longer_of}
 use Rattle.lru_cores.proofs.lru_core.LruCore.victim.Goals as goal
 
 pub unreachable-requires : goal.unreachable-requires

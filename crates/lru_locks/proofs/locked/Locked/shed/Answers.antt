@@ -1,6 +1,6 @@
 use Rattle.std.proofs.Common.{◌≤◌, arith}
 use Rattle.lru_shard.specs.Row.{weight_of}
-use Rattle.lru_rules.specs.Limits.{cap_of}
+use Rattle.lru_shard.specs.Limits.{cap_of}
 use Rattle.lru_locks.proofs.Homes.{home_fewer}
 use Rattle.lru_locks.proofs.Sheds.{shed_times, sheds_light}
 use Rattle.lru_locks.proofs.locked.Locked.shed.Goals as goal

@@ -1,4 +1,4 @@
-use Rattle.lru_rules.proofs.Told.{untold_from}
+use Rattle.lru_shard.proofs.Told.{untold_from}
 use Rattle.lru_shard.proofs.EditsOf.{edits_update}
 use Rattle.lru_locks.proofs.Homes.{home_edit}
 use Rattle.lru_locks.proofs.locked.Locked.update_or_admit.Goals as goal

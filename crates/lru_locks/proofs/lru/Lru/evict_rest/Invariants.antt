@@ -1,5 +1,5 @@
 use denote.Param.Always.{always_mut}
-use Rattle.lru_rules.specs.Limits.{cap_of}
+use Rattle.lru_shard.specs.Limits.{cap_of}
 use Rattle.lru_locks.specs.Sheds.{VisitsLight}
 use Rattle.lru_locks.proofs.lru.Lru.evict_rest.Given as goal
 

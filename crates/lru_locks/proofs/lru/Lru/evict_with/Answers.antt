@@ -1,5 +1,5 @@
 use Rattle.std.proofs.Common.{of_calls, ◌∙◌}
-use Rattle.lru_rules.specs.Limits.{cap_of}
+use Rattle.lru_shard.specs.Limits.{cap_of}
 use Rattle.lru_locks.proofs.Sheds.{light_push}
 use Rattle.lru_locks.proofs.lru.Lru.evict_with.Goals as goal
 

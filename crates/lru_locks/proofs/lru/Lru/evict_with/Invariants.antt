@@ -1,6 +1,6 @@
 use Rattle.std.proofs.Common.{◌≡◌}
 use denote.Param.Always.{always_mut}
-use Rattle.lru_rules.specs.Limits.{cap_of}
+use Rattle.lru_shard.specs.Limits.{cap_of}
 use Rattle.lru_locks.specs.Sheds.{VisitsLight}
 use Rattle.lru_locks.proofs.lru.Lru.evict_with.Given as goal
 

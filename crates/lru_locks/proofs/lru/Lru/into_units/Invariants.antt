@@ -1,5 +1,5 @@
 use Rattle.std.proofs.Common.{◌≡◌, ◌≤◌, length, vec_len, vec_capacity}
-use Rattle.lru_rules.specs.Shards.{AreOwn}
+use Rattle.lru_shard.specs.Shards.{AreOwn}
 use Rattle.lru_locks.proofs.lru.Lru.into_units.Given as goal
 
 abbrev pub invariant-loop-shard : goal.invariant-loop-shard

@@ -1,5 +1,5 @@
 use Rattle.std.proofs.Common.{◌≡◌, ◌∙◌, subst}
-use Rattle.lru_rules.specs.Shards.{AreAtHome}
+use Rattle.lru_shard.specs.Shards.{AreAtHome}
 use Rattle.lru_locks.proofs.lru.Lru.look_at.Goals as goal
 
 pub returns : goal.returns

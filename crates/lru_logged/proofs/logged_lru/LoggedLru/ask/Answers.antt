@@ -1,7 +1,7 @@
 use Rattle.std.proofs.Common.{sym, subst}
 use Rattle.std.specs.Prelude.{IfOk}
 use Rattle.std.specs.Option.{ForSome}
-use Rattle.lru_rules.specs.Limits.{cap_of}
+use Rattle.lru_shard.specs.Limits.{cap_of}
 use Rattle.lru_inbox.specs.Inboxes.{Learns, Sends}
 use Rattle.lru_logged.specs.Logged.{fronts_of, Learned}
 use Rattle.lru_logged.proofs.Logged.{asked, learned_more, more_then, sent_more}

@@ -1,7 +1,7 @@
 use Rattle.std.proofs.Common.{String, Global, ◌≡◌, ◌<◌, sym, subst, ◌∙◌, arith}
 use Rattle.std.specs.Prelude.{Result}
 use Rattle.std.specs.Option.{ForSome}
-use Rattle.lru_rules.specs.Limits.{cap_of}
+use Rattle.lru_shard.specs.Limits.{cap_of}
 use Rattle.lru_actors.specs.declared.message.LruMsg.TheVariants.{Snapshot}
 use Rattle.lru_async.specs.declared.async_lru.ShardData.{ShardData}
 use Rattle.lru_async.specs.Saving.{IsReport}

@@ -1,6 +1,6 @@
 use Rattle.std.proofs.Common.{◌≡◌, List}
 use Rattle.std.specs.Prelude.{Option, Result}
-use Rattle.lru_rules.specs.Limits.{cap_of}
+use Rattle.lru_shard.specs.Limits.{cap_of}
 use Rattle.lru_async.specs.Saving.{IsReport}
 use Rattle.lru_logged.specs.Logged.{IsRows, SeesMore}
 use Rattle.lru_logged.proofs.logged_lru.LoggedLru.save_report.Given as goal

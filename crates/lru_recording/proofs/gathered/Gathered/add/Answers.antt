@@ -1,7 +1,7 @@
 use Rattle.std.proofs.Common.{◌≡◌, ◌⊎◌, ◌+◌, [], ◌∷◌, ◌++◌, length, vec_len, map, List, ℕ, Some, rules, arith, sym, ap, ◌∙◌, subst, ⊎_elim}
 use Rattle.std.specs.Prelude.{slice_get}
-use Rattle.lru_rules.specs.Limits.{cap_of}
-use Rattle.lru_rules.specs.Shards.{IsOwn}
+use Rattle.lru_shard.specs.Limits.{cap_of}
+use Rattle.lru_shard.specs.Shards.{IsOwn}
 use Rattle.lru_journal.specs.declared.entry.Entry.{Entry}
 use Rattle.lru_journal.specs.Stamps.{TurnsRise}
 use Rattle.lru_journal.proofs.Lists.{get_snoc}

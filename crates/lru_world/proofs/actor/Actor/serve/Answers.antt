@@ -1,7 +1,7 @@
 use Rattle.std.proofs.Common.{◌≡◌, ◌++◌, length, map, vec_len, sym, ap, ◌∙◌, subst, arith}
 use Rattle.std.specs.Prelude.{option_map}
 use Rattle.std.specs.Option.{ForSome}
-use Rattle.lru_rules.specs.Limits.{cap_of}
+use Rattle.lru_shard.specs.Limits.{cap_of}
 use Rattle.lru_inbox.specs.Inboxes.{messages_of, taken_in}
 use Rattle.lru_world.specs.Batch.{answers, is_evict, asked_by}
 use Rattle.lru_world.specs.Replying.{AreReplies, Gains, TookPast}

@@ -1,8 +1,8 @@
 //! When an order is over its limits, which shards an eviction looks at, and what a refused growth leaves of one.
 ghost use Rattle.std.specs.Prelude.{◌≡◌, ◌+◌, ◌-◌, ◌%◌, ◌<◌, ◌≤◌, min};
-ghost use Rattle.lru_rules.specs.Draws.{drawn_shards};
-ghost use Rattle.lru_rules.specs.Limits.{is_past};
-ghost use Rattle.lru_rules.specs.Victims.{longer_of};
+ghost use Rattle.lru_shard.specs.Draws.{drawn_shards};
+ghost use Rattle.lru_shard.specs.Limits.{is_past};
+ghost use Rattle.lru_shard.specs.Victims.{longer_of};
 
 use rand::RngExt;
 use rand_core::Rng;

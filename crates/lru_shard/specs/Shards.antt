@@ -2,7 +2,7 @@
 use Rattle.std.specs.Prelude.{◌≡◌, ℕ, ◌%◌, ◌<◌, ◌≤◌, List, Some, slice_get}
 use Rattle.lru_shard.specs.Row.{Row, times, weight_of}
 use Rattle.lru_shard.specs.Shard.{Shard}
-use Rattle.lru_rules.specs.Limits.{cap_of}
+use Rattle.lru_shard.specs.Limits.{cap_of}
 
 module _ {T : Type 0} where
   -- each key that has a row is of shard s of n

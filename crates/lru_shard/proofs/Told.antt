@@ -5,7 +5,7 @@ use Rattle.lru_shard.specs.declared.unit.Refused.{Refused}
 use Rattle.lru_shard.specs.declared.unit.RefusedUpdate.{RefusedUpdate}
 use Rattle.lru_shard.specs.Shard.{Shard}
 use Rattle.lru_shard.specs.Unit.{UpdatesOrAdmits}
-use Rattle.lru_rules.specs.ShardCalls.{told, UpdatesFrom}
+use Rattle.lru_shard.specs.ShardCalls.{told, UpdatesFrom}
 
 module _ {T : Type 0} where
   pub told_again : (refused : RefusedUpdate T) (r : Refused (Option (T × ℕ))) → r.cause ≡ refused.cause → r.held ≡ refused.held → told r refused.weight ≡ refused
