@@ -3,3 +3,4 @@ pub mod Evicting
 pub mod EvictionRuns
 pub mod Sparing
 pub mod Units
+mod CallLaws

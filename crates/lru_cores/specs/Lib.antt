@@ -3,3 +3,5 @@ pub mod CoreCalls
 pub mod Eviction
 pub mod Sparing
 pub mod Representation
+pub mod Calls
+pub mod Inclusion

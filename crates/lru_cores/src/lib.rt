@@ -5,4 +5,6 @@
 //! (`lru_shard`).
 #![tactic(auto)]
 
+pub mod calls;
+pub mod inclusion;
 pub mod lru_core;

@@ -1,12 +1,12 @@
 //! Drawn calls on an `Lru` and on a core answer the same, and leave the same, by one thread and by two.
-ghost use Rattle.lru_runs.specs.Calls.{IsAllowed};
+ghost use Rattle.lru_cores.specs.Calls.{IsAllowed};
 
 use crate::shown::{tell_core_state, tell_state, text_of};
 use crate::steps::answer_of;
 use lru_cores::lru_core::LruCore;
 use lru_locks::lru::Lru;
-use lru_runs::calls;
-use lru_runs::calls::Call;
+use lru_cores::calls;
+use lru_cores::calls::Call;
 use rand::rngs::StdRng;
 use rand_core::{Rng, SeedableRng};
 use std::alloc::{AllocError, Global};

@@ -1,5 +1,5 @@
 //! Calls as they stand in a table.
-use lru_runs::calls::Call;
+use lru_cores::calls::Call;
 
 /// A call with what it is given, in the order of `Call`'s fields.
 #[derive(Clone, Copy, Debug)]

@@ -6,8 +6,8 @@ pub use Rattle.lru_list.specs.LinkedLends
 pub use Rattle.lru_cores.specs.Core
 pub use Rattle.lru_cores.specs.CoreCalls
 pub use Rattle.lru_cores.specs.Eviction
-pub use Rattle.lru_runs.specs.Calls
-pub use Rattle.lru_runs.specs.Inclusion
+pub use Rattle.lru_cores.specs.Calls
+pub use Rattle.lru_cores.specs.Inclusion
 pub use Rattle.lru_shard.specs.Limits
 pub use Rattle.lru_shard.specs.Draws
 pub use Rattle.lru_shard.specs.ShardCalls

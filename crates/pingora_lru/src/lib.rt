@@ -12,7 +12,7 @@ pub use lru_list::linked_list;
 pub use lru_locks::lru;
 pub use lru_locks::lru::Lru;
 pub use lru_shard::totals;
-pub use lru_runs::{calls, inclusion};
+pub use lru_cores::{calls, inclusion};
 pub use lru_shard::unit;
 pub use lru_tiers::tiered;
 
@@ -24,7 +24,7 @@ pub mod batch {
 /// N shards under one limit on their weight, of one owner, and the law of inclusion over two of them.
 pub mod lru_core {
     pub use lru_cores::lru_core::{EvictError, LruCore};
-    pub use lru_runs::inclusion::inclusion_law;
+    pub use lru_cores::inclusion::inclusion_law;
 }
 
 /// N shards for many threads, each of which keeps the history of its calls, with a receipt for each call.

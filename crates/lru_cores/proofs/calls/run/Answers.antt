@@ -2,9 +2,9 @@ use Rattle.std.proofs.Common.{◌++◌, ◌∷◌, [], length, refl, sym, ap, �
 use Rattle.std.specs.Prelude.{All}
 use Rattle.std.proofs.lemmas.List.{nil_from_length}
 use Rattle.std.specs.Vec.Iter.{into_iter_items}
-use Rattle.lru_runs.specs.Calls.{IsAllowed, Run}
-use Rattle.lru_runs.proofs.CallLaws.{run_on, all_first, all_rest}
-use Rattle.lru_runs.proofs.calls.run.Goals as goal
+use Rattle.lru_cores.specs.Calls.{IsAllowed, Run}
+use Rattle.lru_cores.proofs.CallLaws.{run_on, all_first, all_rest}
+use Rattle.lru_cores.proofs.calls.run.Goals as goal
 
 pub loop-call-init : goal.loop-call-init
 loop-call-init g c = (

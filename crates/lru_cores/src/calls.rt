@@ -1,9 +1,9 @@
 //! The calls of a core as values, and runs of them: what any list of calls answers and leaves.
 ghost use Rattle.std.specs.Prelude.{◌≡◌, ◌+◌, min, All, IfOk, OnErr};
 ghost use Rattle.lru_cores.specs.CoreCalls.{CoreIncrements, CoreUpdates};
-ghost use Rattle.lru_runs.specs.Calls.{IsAllowed, Overwrites, Gives, Run};
+ghost use Rattle.lru_cores.specs.Calls.{IsAllowed, Overwrites, Gives, Run};
 
-use lru_cores::lru_core::{EvictError, LruCore};
+use crate::lru_core::{EvictError, LruCore};
 use lru_shard::unit::{Cause, Refused};
 use rand_core::Rng;
 use std::alloc::{AllocError, Global};

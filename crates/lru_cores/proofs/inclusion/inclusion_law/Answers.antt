@@ -4,20 +4,20 @@ use Rattle.std.proofs.lemmas.Bool.{cases_lt, false≢true, ltb-false, le-ltb, or
 use Rattle.std.proofs.lemmas.List.{map-append, take-append-drop, take-append-le, length-set, get_or-set_same}
 use Rattle.std.proofs.lemmas.List.Elements.{filter-append}
 use Rattle.std.proofs.lemmas.List.Prefix.{front_fits}
-use Rattle.lru_runs.specs.declared.calls.Call.{Call}
-use Rattle.lru_runs.specs.declared.calls.Call.TheVariants.{Admit, SetWeight, Remove, EvictToLimit}
-use Rattle.lru_runs.specs.declared.calls.Reply.{Reply}
-use Rattle.lru_runs.specs.declared.calls.Reply.TheVariants.{Shard, Was, Left, Evicted}
+use Rattle.lru_cores.specs.declared.calls.Call.{Call}
+use Rattle.lru_cores.specs.declared.calls.Call.TheVariants.{Admit, SetWeight, Remove, EvictToLimit}
+use Rattle.lru_cores.specs.declared.calls.Reply.{Reply}
+use Rattle.lru_cores.specs.declared.calls.Reply.TheVariants.{Shard, Was, Left, Evicted}
 use Rattle.lru_shard.specs.Row.{Row, row, weight_of, with_first, without, with_weight}
 use Rattle.lru_cores.specs.Core.{Core, list_at, with_list, home}
 use Rattle.rand_core.specs.Stream.{Stream}
 use Rattle.lru_shard.specs.Limits.{is_above}
 use Rattle.lru_cores.specs.Eviction.{is_over, EvictionRun, KeepsLongestFront}
-use Rattle.lru_runs.specs.Calls.{Gives, Run}
-use Rattle.lru_runs.specs.Inclusion.{IsFrontOf, IsNoHigher, IsInclusionCall, IsGranted}
+use Rattle.lru_cores.specs.Calls.{Gives, Run}
+use Rattle.lru_cores.specs.Inclusion.{IsFrontOf, IsNoHigher, IsInclusionCall, IsGranted}
 use Rattle.lru_cores.proofs.EvictionRuns.{take_take, run_long, longest_front}
-use Rattle.lru_runs.proofs.CallLaws.{all_first, all_rest}
-use Rattle.lru_runs.proofs.inclusion.inclusion_law.Goals as goal
+use Rattle.lru_cores.proofs.CallLaws.{all_first, all_rest}
+use Rattle.lru_cores.proofs.inclusion.inclusion_law.Goals as goal
 
 -- the edits of a list keep a front
 front-cons : {X : Type 0} (x : X) (xs ys : List X) → IsFrontOf xs ys → IsFrontOf (x ∷ xs) (x ∷ ys)

@@ -1,8 +1,8 @@
 //! Inclusion: what a shard keeps under small limits is a beginning of what it keeps under greater ones.
 ghost use Rattle.std.specs.Prelude.{ℕ, ◌≤◌, List, Option, All};
-ghost use Rattle.lru_runs.specs.declared.calls.Call.{Call};
+ghost use Rattle.lru_cores.specs.declared.calls.Call.{Call};
 ghost use Rattle.lru_cores.specs.Core.{Core, list_at};
-ghost use Rattle.lru_runs.specs.Inclusion.{IsFrontOf, IsNoHigher, IsInclusionCall, LeadsTo};
+ghost use Rattle.lru_cores.specs.Inclusion.{IsFrontOf, IsNoHigher, IsInclusionCall, LeadsTo};
 
 /// A law of two runs of an `LruCore<T, 1>`. It does nothing when it is called: its contract is the law.
 ///

@@ -1,12 +1,12 @@
 -- Inclusion: of two runs of the same calls on one shard, the one with the smaller limits keeps a beginning of the other's rows.
 use Rattle.std.specs.Prelude.{◌≡◌, ℕ, ◌≤◌, List, [], ◌++◌, replicate, Option, Some, None, IsOk, All}
-use Rattle.lru_runs.specs.declared.calls.Call.{Call}
-use Rattle.lru_runs.specs.declared.calls.Call.TheVariants.{Admit, SetWeight, Remove, EvictToLimit}
-use Rattle.lru_runs.specs.declared.calls.Reply.{Reply}
-use Rattle.lru_runs.specs.declared.calls.Reply.TheVariants.{Shard, Inserted, Weight, Updated, Was, Evicted, Last}
+use Rattle.lru_cores.specs.declared.calls.Call.{Call}
+use Rattle.lru_cores.specs.declared.calls.Call.TheVariants.{Admit, SetWeight, Remove, EvictToLimit}
+use Rattle.lru_cores.specs.declared.calls.Reply.{Reply}
+use Rattle.lru_cores.specs.declared.calls.Reply.TheVariants.{Shard, Inserted, Weight, Updated, Was, Evicted, Last}
 use Rattle.rand_core.specs.Stream.{Stream}
 use Rattle.lru_cores.specs.Core.{Core}
-use Rattle.lru_runs.specs.Calls.{Run}
+use Rattle.lru_cores.specs.Calls.{Run}
 
 -- the first list is a beginning of the second
 abbrev pub IsFrontOf : {X : Type 0} → List X → List X → Type 0

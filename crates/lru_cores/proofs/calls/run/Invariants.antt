@@ -1,9 +1,9 @@
 use Rattle.std.proofs.Common.{◌≡◌, ◌+◌, ◌≤◌, ◌++◌, List, length}
 use Rattle.std.specs.Prelude.{All, vec_len, vec_capacity}
 use Rattle.std.specs.Vec.Iter.{into_iter_items, into_iter_len}
-use Rattle.lru_runs.specs.declared.calls.Call.{Call}
-use Rattle.lru_runs.specs.Calls.{IsAllowed, Run}
-use Rattle.lru_runs.proofs.calls.run.Given as goal
+use Rattle.lru_cores.specs.declared.calls.Call.{Call}
+use Rattle.lru_cores.specs.Calls.{IsAllowed, Run}
+use Rattle.lru_cores.proofs.calls.run.Given as goal
 
 -- the calls done so far are a run, and each reply that is still to come has its room
 abbrev pub invariant-loop-call : goal.invariant-loop-call

@@ -5,8 +5,8 @@ use Rattle.lru_shard.specs.declared.unit.Refused.{Refused}
 use Rattle.lru_shard.specs.declared.unit.RefusedUpdate.{RefusedUpdate}
 use Rattle.lru_shard.specs.declared.unit.Cause.{Cause}
 use Rattle.lru_shard.specs.declared.unit.Cause.TheVariants.{Memory, Weight, Length}
-use Rattle.lru_runs.specs.declared.calls.Call.{Call}
-use Rattle.lru_runs.specs.declared.calls.Reply.{Reply}
+use Rattle.lru_cores.specs.declared.calls.Call.{Call}
+use Rattle.lru_cores.specs.declared.calls.Reply.{Reply}
 use Rattle.lru_shard.specs.Row.{Row, row_of}
 use Rattle.lru_shard.specs.Shard.{Shard}
 use Rattle.lru_shard.specs.Unit.{AdmitsMade, IncrementsRow, RefusesNew, AdmitsGiven, UpdatesRow}
@@ -14,7 +14,7 @@ use Rattle.lru_shard.specs.ShardCalls.{IncrementsTo, told, UpdatesFrom}
 use Rattle.rand_core.specs.Stream.{Stream}
 use Rattle.lru_cores.specs.Core.{Core, ActsOn}
 use Rattle.lru_cores.specs.CoreCalls.{CoreIncrements, CoreUpdates}
-use Rattle.lru_runs.specs.Calls.{Gives, Run}
+use Rattle.lru_cores.specs.Calls.{Gives, Run}
 
 pub all_first : {X : Type 0} (P : X → Type 0) (x : X) (xs : List X) → All P (x ∷ xs) → P x
 all_first P x xs h = h 0 x (omega arith)

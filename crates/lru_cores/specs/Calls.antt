@@ -1,10 +1,10 @@
 -- Calls of a core with their replies, and whole runs, over the stream of random words that evictions draw from: each call is
 -- the shard's call on the key's own shard, an eviction, or a look.
 use Rattle.std.specs.Prelude.{◌≡◌, ℕ, ◌+◌, ◌<◌, length, min, List, [], ◌∷◌, option_map, Ok, Err}
-use Rattle.lru_runs.specs.declared.calls.Call.{Call}
-use Rattle.lru_runs.specs.declared.calls.Call.TheVariants.{Admit, InsertTail, IncrementWeight, UpdateOrAdmit, SetWeight, Promote, PromoteTopN, Remove, EvictShard, EvictStep, EvictToLimit, SetWeightLimit, Peek, PeekWeight, PeekLru, Totals}
-use Rattle.lru_runs.specs.declared.calls.Reply.{Reply}
-use Rattle.lru_runs.specs.declared.calls.Reply.TheVariants.{Shard, Inserted, Weight, Updated, Was, Held, Left, Evicted, Known, Last, Totals as Counts, Done}
+use Rattle.lru_cores.specs.declared.calls.Call.{Call}
+use Rattle.lru_cores.specs.declared.calls.Call.TheVariants.{Admit, InsertTail, IncrementWeight, UpdateOrAdmit, SetWeight, Promote, PromoteTopN, Remove, EvictShard, EvictStep, EvictToLimit, SetWeightLimit, Peek, PeekWeight, PeekLru, Totals}
+use Rattle.lru_cores.specs.declared.calls.Reply.{Reply}
+use Rattle.lru_cores.specs.declared.calls.Reply.TheVariants.{Shard, Inserted, Weight, Updated, Was, Held, Left, Evicted, Known, Last, Totals as Counts, Done}
 use Rattle.lru_shard.specs.Row.{row_of, is_held, pair_of, last_row, without}
 use Rattle.lru_shard.specs.Unit.{accessed}
 use Rattle.lru_cores.specs.Core.{Core, list_at, with_list, home, core_len, core_weight}
