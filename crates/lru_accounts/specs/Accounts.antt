@@ -1,7 +1,7 @@
 -- The account of an order that was closed.
 use Rattle.std.specs.Prelude.{◌≡◌, ℕ, ◌+◌, List, [], ◌∷◌}
 use Rattle.std.specs.declared.clone.Clone as clone
-use Rattle.lru_ledger.specs.declared.slip.Slip.{Slip}
+use Rattle.lru_mailbox.specs.declared.slip.Slip.{Slip}
 use Rattle.lru_logs.specs.declared.tie.Archive as archive
 use Rattle.lru_logs.specs.Logs.{log_of}
 use Rattle.lru_logged_shard.specs.declared.shard_end.ShardEnd.{ShardEnd}

@@ -1,14 +1,14 @@
 //! An order served by actors whose history is accounted for.
 ghost use Rattle.std.specs.Prelude.{◌≡◌, ◌<◌, ◌≤◌, [], vec_len, vec_capacity, IfOk};
 ghost use Rattle.lru_shard.specs.Limits.{cap_of};
-ghost use Rattle.lru_ledger.specs.Ledger.{slips_of};
-ghost use Rattle.lru_ledger.specs.Slips.{lists_of, IsSettled};
+ghost use Rattle.lru_mailbox.specs.Ledger.{slips_of};
+ghost use Rattle.lru_mailbox.specs.Slips.{lists_of, IsSettled};
 ghost use Rattle.lru_accounts.specs.Accounts.{Accounts};
 
 use crate::ending::end_all;
 use lru_async::async_lru::AsyncLru;
 use lru_async::seats_back::{all_puts, all_takes, sole};
-use lru_ledger::Settled;
+use lru_mailbox::Settled;
 use lru_logged::logged_lru::LoggedLru;
 use lru_logged_shard::ShardEnd;
 use lru_logs::tie::Archive;

@@ -1,7 +1,7 @@
 -- A message that the shard has served, or refused, is processed once the map and the queue have followed.
 use Rattle.std.proofs.Common.{◌≡◌, ℕ, ◌+◌, ◌%◌, ◌^◌, cond, eqb, Bool, true, List, [], ◌∷◌, ◌++◌, Some, None, refl, sym, ap, ◌∙◌, subst, inl, inr}
 use Rattle.std.specs.Prelude.{Option}
-use Rattle.lru_dispatch.specs.Queue.{Queue}
+use Rattle.lru_mailbox.specs.Queue.{Queue}
 use Rattle.lru_actors.specs.declared.message.LruMsg.{LruMsg}
 use Rattle.lru_actors.specs.declared.effect.Effect.{Effect}
 use Rattle.lru_actors.specs.Messages.{State, state_of, looks, quiet, measure, evicted_of, MayBeRefused, IsRefused, IsDone, Steps}

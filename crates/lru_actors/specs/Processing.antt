@@ -1,7 +1,7 @@
 -- A message processed with the map of weights by hash, and with the queue of evicted pairs.
 use Rattle.std.specs.Prelude.{◌≡◌, ℕ, ◌<◌, ◌⊎◌, cond, eqb, List, [], ◌∷◌, length, Option, Some, None}
 use Rattle.lru_shard.specs.Row.{Row}
-use Rattle.lru_dispatch.specs.Queue.{Queue, dispatched}
+use Rattle.lru_mailbox.specs.Queue.{Queue, dispatched}
 use Rattle.lru_actors.specs.declared.message.LruMsg.{LruMsg}
 use Rattle.lru_actors.specs.declared.message.LruMsg.TheVariants.{Admit, IncrementWeight, InsertTail, Evict}
 use Rattle.lru_actors.specs.declared.effect.Effect.{Effect}

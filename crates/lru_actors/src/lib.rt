@@ -3,7 +3,7 @@
 //!
 //! Each message's answer and all that it leaves are exact, and equal keys have equal hashes. No thread stands here:
 //! `lru_world` runs these functions on threads. It stands on one shard (`lru_shard`) and on what takes evicted pairs
-//! (`lru_dispatch`).
+//! (`lru_mailbox`).
 #![tactic(auto)]
 
 pub mod effect;

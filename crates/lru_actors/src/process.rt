@@ -8,7 +8,7 @@ ghost use Rattle.lru_actors.specs.Processing.{mapped, queued, MapHasRoom, HasPla
 use crate::effect::Effect;
 use crate::message::LruMsg;
 use crate::state::ShardState;
-use lru_dispatch::Dispatch;
+use lru_mailbox::Dispatch;
 use lru_shard::eviction::longer_of;
 use std::collections::HashMap;
 

@@ -1,7 +1,7 @@
 -- As many lists of slips as seats.
 use Rattle.std.proofs.Common.{◌≡◌, ℕ, List, length, map, ap, arith}
-use Rattle.lru_ledger.specs.declared.slip.Slip.{Slip}
-use Rattle.lru_ledger.specs.Slips.{lists_of}
+use Rattle.lru_mailbox.specs.declared.slip.Slip.{Slip}
+use Rattle.lru_mailbox.specs.Slips.{lists_of}
 use Rattle.std.specs.Prelude.{Vec}
 use Rattle.std.specs.declared.alloc.Global.{Global}
 use Rattle.lru_hands.specs.Hands.{up}

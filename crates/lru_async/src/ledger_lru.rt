@@ -1,11 +1,11 @@
 //! An order served by actors, whose evicted pairs are counted.
 ghost use Rattle.std.specs.Prelude.{◌≡◌, length};
-ghost use Rattle.lru_ledger.specs.Ledger.{slips_of};
-ghost use Rattle.lru_ledger.specs.Slips.{lists_of, IsSettled};
+ghost use Rattle.lru_mailbox.specs.Ledger.{slips_of};
+ghost use Rattle.lru_mailbox.specs.Slips.{lists_of, IsSettled};
 
 use crate::async_lru::AsyncLru;
 use crate::seats_back::{all_puts, all_takes, sole};
-use lru_ledger::Settled;
+use lru_mailbox::Settled;
 use lru_logs::tie::Archive;
 use lru_shared_ledger::{LedgerBox, PutSeat, Registry, TakeSeat};
 use std::alloc::Global;

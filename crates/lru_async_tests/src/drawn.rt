@@ -3,7 +3,7 @@ ghost use Rattle.std.specs.Prelude.{◌≡◌, ◌+◌, ◌%◌, ◌^◌, ℕ, v
 ghost use Rattle.rand_core.specs.Steps.{stream_of, steps_u32};
 
 use crate::callbacks::LOOKS;
-use lru_shared_mailbox::Mailbox;
+use lru_mailbox::Mailbox;
 use lru_world::outlet::Outlet;
 use lru_world::workers::evict;
 use lru_world::world::{Change, Limits, World};

@@ -3,7 +3,7 @@ ghost use Rattle.std.specs.Prelude.{◌≡◌};
 
 use crate::callbacks::{Counting, Holding, LOOKS, Meeting, Quiet, gated_order, is_raised};
 use lru_async::async_lru::{AsyncLru, Closed};
-use lru_ledger::Settled;
+use lru_mailbox::Settled;
 use lru_logs::tie::Archive;
 use lru_shared_ledger::{Blanks, Registry};
 use std::alloc::Global;

@@ -6,7 +6,7 @@ use lru_actors::effect::Reply;
 use lru_actors::message::LruMsg;
 use lru_inbox::{Taker, Told};
 use lru_letters::{Letter, ReplyCell};
-use lru_shared_mailbox::Mailbox;
+use lru_mailbox::Mailbox;
 use lru_world::actor::Actor;
 use lru_world::callback::{Gate, NoGate};
 use lru_world::outlet::Outlet;

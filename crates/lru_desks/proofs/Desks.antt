@@ -2,10 +2,10 @@
 use Rattle.std.proofs.Common.{◌≡◌, ◌⊎◌, ℕ, zero, suc, ◌+◌, ◌<◌, ◌≤◌, List, [], ◌∷◌, ◌++◌, length, map, refl, sym, ap, ◌∙◌, subst, inl, inr, arith, append-nil}
 use Rattle.std.specs.Prelude.{slice_get, slice_set, Option, Some, Ok}
 use Rattle.atomic_table.specs.Table.{Me}
-use Rattle.lru_ledger.specs.declared.slip.Slip.{Slip}
-use Rattle.lru_ledger.specs.Slips.{Every, Share}
-use Rattle.lru_ledger.specs.Ledger.{Book, Stock, book_of, seats_of, slip_put, put, shut, left, empty, Takes, IsTied}
-use Rattle.lru_ledger.proofs.TieLaws.{put_tied, take_tied, shut_tied, left_tied, fresh_tied}
+use Rattle.lru_mailbox.specs.declared.slip.Slip.{Slip}
+use Rattle.lru_mailbox.specs.Slips.{Every, Share}
+use Rattle.lru_mailbox.specs.Ledger.{Book, Stock, book_of, seats_of, slip_put, put, shut, left, empty, Takes, IsTied}
+use Rattle.lru_mailbox.proofs.TieLaws.{put_tied, take_tied, shut_tied, left_tied, fresh_tied}
 use Rattle.lru_desks.specs.declared.hand.Kept.{Kept}
 use Rattle.lru_desks.specs.declared.hand.Hand.{Hand}
 use Rattle.lru_hands.specs.Hands.{up, Among}

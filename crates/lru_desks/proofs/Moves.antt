@@ -8,7 +8,7 @@ use native.Mathlib.Decide.{ℕ_discrete}
 use lib.ListN.{get_elem?}
 use Rattle.atomic_table.specs.Table.{State, Me, keeps, step, Allows, Splits, Joins}
 use Rattle.atomic_table.proofs.Lists.{at_set, at_snoc, set_else, set_again}
-use Rattle.lru_ledger.specs.declared.slip.Slip.{Slip}
+use Rattle.lru_mailbox.specs.declared.slip.Slip.{Slip}
 use Rattle.lru_desks.specs.declared.hand.Kept.{Kept}
 use Rattle.lru_desks.specs.declared.hand.Hand.{Hand}
 use Rattle.lru_hands.specs.Hands.{total, Among, Held}

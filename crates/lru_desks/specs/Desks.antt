@@ -1,8 +1,8 @@
 -- A box whose slips stand with its seats.
 use Rattle.std.specs.Prelude.{◌≡◌, ℕ, List, [], ◌∷◌, map, length}
 use Rattle.atomic_table.specs.Table.{Me}
-use Rattle.lru_ledger.specs.declared.slip.Slip.{Slip}
-use Rattle.lru_ledger.specs.Ledger.{Book, Seats, Stock, seats_of, IsTied}
+use Rattle.lru_mailbox.specs.declared.slip.Slip.{Slip}
+use Rattle.lru_mailbox.specs.Ledger.{Book, Seats, Stock, seats_of, IsTied}
 use Rattle.lru_desks.specs.declared.hand.Hand.{Hand}
 use Rattle.lru_desks.specs.Ties.{of_desk, known}
 

@@ -2,7 +2,7 @@
 use Rattle.std.specs.Prelude.{◌≡◌, ℕ, zero, suc, ◌+◌, ◌≤◌, ◌==◌, if◌then◌else◌, List, [], ◌∷◌, ◌++◌, length, map, slice_get, slice_set, Some, ◌⊎◌}
 use Rattle.atomic_table.specs.Table.{Me, Step}
 use Rattle.lru_hands.specs.Hands.{total, up, Among, Held}
-use Rattle.lru_ledger.specs.declared.slip.Slip.{Slip}
+use Rattle.lru_mailbox.specs.declared.slip.Slip.{Slip}
 use Rattle.lru_desks.specs.declared.hand.Kept.{Kept}
 use Rattle.lru_desks.specs.declared.hand.Hand.{Hand}
 

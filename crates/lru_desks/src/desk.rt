@@ -1,13 +1,13 @@
 //! A desk.
 ghost use Rattle.std.specs.Prelude.{◌≡◌, ℕ, ◌<◌, ◌≤◌, ◌++◌, ◌∷◌, [], IsOk, IsErr, IfOk, OnOk, All, map, length, min, vec_len, vec_capacity};
-ghost use Rattle.lru_ledger.specs.Ledger.{slips_of};
-ghost use Rattle.lru_ledger.specs.Slips.{lists_of, IsSettled};
+ghost use Rattle.lru_mailbox.specs.Ledger.{slips_of};
+ghost use Rattle.lru_mailbox.specs.Slips.{lists_of, IsSettled};
 ghost use Rattle.lru_hands.specs.Hands.{up};
 ghost use Rattle.lru_desks.specs.Ties.{hand, of_desk, known};
 
 use crate::seats::{PutSeat, TakeSeat, put_seats, take_seats};
 use crate::tie::{Blank, Blanks, Registry, Tie, Token};
-use lru_ledger::{LedgerState, Settled, Slip};
+use lru_mailbox::{LedgerState, Settled, Slip};
 use lru_mailbox::MailError;
 use std::alloc::{AllocError, Global};
 use std::marker::{Model, PhantomData};
@@ -27,7 +27,7 @@ pub struct Desk<K: Drop, B: Registry> {
 
 impl<K: Drop, B: Registry> Model for Desk<K, B> {
     ghost use Rattle.std.specs.Prelude.{◌≡◌};
-    ghost use Rattle.lru_ledger.specs.Ledger.{Stock};
+    ghost use Rattle.lru_mailbox.specs.Ledger.{Stock};
     ghost use Rattle.lru_desks.specs.Desks.{IsDesk};
 
     ghost Value = { Stock K };
@@ -38,7 +38,7 @@ impl<K: Drop, B: Registry> Model for Desk<K, B> {
 }
 
 impl<K: Drop, B: Registry> Desk<K, B> {
-    ghost use Rattle.lru_ledger.specs.Ledger.{slip_put, put, shut, left, empty, Puts, Takes};
+    ghost use Rattle.lru_mailbox.specs.Ledger.{slip_put, put, shut, left, empty, Puts, Takes};
 
     /// An open desk where nothing waits, and its seats, which are numbered in order.
     pub fn new(

@@ -2,7 +2,7 @@
 use crate::desk::Desk;
 use crate::seats::PutSeat;
 use crate::tie::Registry;
-use lru_dispatch::Dispatch;
+use lru_mailbox::Dispatch;
 use std::alloc::AllocError;
 
 /// A desk that is lent, and the seat of one who puts. What the seat is afterwards is known, since it is no reference.
@@ -16,7 +16,7 @@ pub struct DeskPutter<'a, K: Drop, B: Registry> {
 
 impl<'a, K: Drop, B: Registry> Dispatch<K> for DeskPutter<'a, K, B> {
     ghost use Rattle.std.specs.Prelude.{◌≡◌, ◌<◌, min};
-    ghost use Rattle.lru_dispatch.specs.Dispatching.{queue_of_book, IsPut};
+    ghost use Rattle.lru_mailbox.specs.Dispatching.{queue_of_book, IsPut};
 
     ghost queue = { λ s. queue_of_book s.desk.now.book };
 

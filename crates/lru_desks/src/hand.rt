@@ -1,5 +1,5 @@
 //! What a token knows.
-use lru_ledger::Slip;
+use lru_mailbox::Slip;
 use std::collections::LinkedList;
 
 /// A seat's number, and its slips. No value of it is made.

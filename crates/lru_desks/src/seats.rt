@@ -1,11 +1,11 @@
 //! Seats at a box.
 ghost use Rattle.std.specs.Prelude.{◌≡◌, ◌↔◌, IsTrue, [], ◌∷◌, map, All, IfOk, OnOk};
-ghost use Rattle.lru_ledger.specs.declared.slip.Slip.{Slip};
+ghost use Rattle.lru_mailbox.specs.declared.slip.Slip.{Slip};
 ghost use Rattle.lru_hands.specs.Hands.{up};
 ghost use Rattle.lru_desks.specs.Ties.{hand, of_seat, of_desk, blank_lists, blank_seats};
 
 use crate::tie::{Registry, Tie, Token};
-use lru_ledger::{PutShare, Slip, TakeShare};
+use lru_mailbox::{PutShare, Slip, TakeShare};
 use std::alloc::{AllocError, Global};
 use std::marker::PhantomData;
 

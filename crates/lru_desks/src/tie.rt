@@ -6,7 +6,7 @@ ghost use Rattle.lru_desks.specs.Ties.{hand, of_desk, of_seat, known, own, blank
 
 use crate::hand::Hand;
 use atomic_table::{Join, Play, Seat, Split, Table, TableRule};
-use lru_ledger::Slip;
+use lru_mailbox::Slip;
 use std::alloc::{AllocError, Global};
 use std::marker::{Brand, PhantomData};
 
@@ -36,13 +36,13 @@ impl Registry for Brand {
 
 // Says which slip a step notes.
 trait Saying {
-    ghost use Rattle.lru_ledger.specs.declared.slip.Slip.{Slip};
+    ghost use Rattle.lru_mailbox.specs.declared.slip.Slip.{Slip};
 
     ghost said: { Slip };
 }
 
 impl Saying for Brand {
-    ghost use Rattle.lru_ledger.specs.Slips.{slip_of};
+    ghost use Rattle.lru_mailbox.specs.Slips.{slip_of};
 
     ghost said = { slip_of 0 0 0 };
 }

@@ -4,10 +4,10 @@ use Rattle.std.specs.Prelude.{Option, fold, count_by, option_map, option_to_list
 use Rattle.std.specs.Option.{ForSome, option_map_or}
 use Rattle.std.proofs.lemmas.Bool.{cond-true, cond-false}
 use Rattle.std.proofs.lemmas.List.Sums.{sum_by-append}
-use Rattle.lru_dispatch.specs.Queue.{Queue}
+use Rattle.lru_mailbox.specs.Queue.{Queue}
 use Rattle.lru_shard.specs.Row.{Row, last_row, times, pair_of, HasDistinctKeys}
 use Rattle.lru_shard.specs.Shard.{Shard, shard}
-use Rattle.lru_ledger.specs.declared.slip.Slip.{Slip}
+use Rattle.lru_mailbox.specs.declared.slip.Slip.{Slip}
 use Rattle.lru_actors.specs.declared.message.LruMsg.{LruMsg}
 use Rattle.lru_actors.specs.declared.message.LruMsg.TheVariants.{Admit, IncrementWeight, Promote, Remove, InsertTail, Evict, PeekLru, Snapshot, QueryWeight}
 use Rattle.lru_actors.specs.declared.effect.Effect.{Effect}

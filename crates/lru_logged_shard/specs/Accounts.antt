@@ -3,7 +3,7 @@ use Rattle.std.specs.Prelude.{◌≡◌, ℕ, ◌+◌, ◌%◌, ◌^◌, ◌==�
 use Rattle.std.specs.Option.{ForSome}
 use Rattle.lru_shard.specs.Row.{Row, last_row, times}
 use Rattle.lru_shard.specs.Shard.{shard}
-use Rattle.lru_ledger.specs.declared.slip.Slip.{Slip}
+use Rattle.lru_mailbox.specs.declared.slip.Slip.{Slip}
 use Rattle.lru_actors.specs.declared.message.LruMsg.{LruMsg}
 use Rattle.lru_actors.specs.declared.message.LruMsg.TheVariants.{Evict}
 use Rattle.lru_actors.specs.Messages.{State, state_of}

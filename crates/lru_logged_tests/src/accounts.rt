@@ -6,7 +6,7 @@ use lru_actors::key::hash_key;
 use lru_actors::message::LruMsg;
 use lru_async::async_lru::AsyncLru;
 use lru_inbox::Caller;
-use lru_ledger::Slip;
+use lru_mailbox::Slip;
 use lru_logged::logged_lru::LoggedLru;
 use lru_logs::tie::{Archive, Blank};
 use lru_shared_ledger::{Blanks, Registry};

@@ -4,10 +4,10 @@ use Rattle.std.specs.Prelude.{Option, Result}
 use Rattle.std.specs.declared.alloc.AllocError.{AllocError}
 use Rattle.lru_mailbox.specs.declared.mail_error.MailError.{MailError}
 use Rattle.lru_mailbox.specs.declared.mail_error.MailError.TheVariants.{Memory, Closed, Waiting}
-use Rattle.lru_ledger.specs.declared.slip.Slip.{Slip}
-use Rattle.lru_ledger.specs.Slips.{Share}
-use Rattle.lru_ledger.specs.Ledger.{Book, Stock, Puts, Takes, IsTied, book_of, put}
-use Rattle.lru_ledger.proofs.TieLaws.{put_tied, take_tied}
+use Rattle.lru_mailbox.specs.declared.slip.Slip.{Slip}
+use Rattle.lru_mailbox.specs.Slips.{Share}
+use Rattle.lru_mailbox.specs.Ledger.{Book, Stock, Puts, Takes, IsTied, book_of, put}
+use Rattle.lru_mailbox.proofs.TieLaws.{put_tied, take_tied}
 
 tied_by : (b c : Book ℕ) (xs ys us vs : List Slip) → c ≡ b → ys ≡ xs → vs ≡ us → IsTied b (xs ∷ []) (us ∷ []) → IsTied c (ys ∷ []) (vs ∷ [])
 tied_by b c xs ys us vs e f h t = subst (λ z. IsTied z (ys ∷ []) (vs ∷ [])) (sym e) (subst (λ z. IsTied b (z ∷ []) (vs ∷ [])) (sym f) (subst (λ z. IsTied b (xs ∷ []) (z ∷ [])) (sym h) t))

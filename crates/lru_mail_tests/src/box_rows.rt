@@ -1,6 +1,6 @@
 //! A box by its worked row.
 use crate::single::Single;
-use lru_ledger::{LedgerState, PutShare, Settled, Slip, TakeShare};
+use lru_mailbox::{LedgerState, PutShare, Settled, Slip, TakeShare};
 use std::alloc::Global;
 use std::test::Fail;
 

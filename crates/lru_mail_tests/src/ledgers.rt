@@ -1,7 +1,7 @@
 //! A box by its worked row, by its seats, and by threads.
 ghost use Rattle.std.specs.Prelude.{◌≡◌};
 
-use lru_ledger::{Settled, Slip};
+use lru_mailbox::{Settled, Slip};
 use lru_shared_ledger::{Blanks, LedgerBox, PutSeat, Registry, TakeSeat};
 use std::alloc::{AllocError, Global};
 use std::marker::Brand;

@@ -1,7 +1,7 @@
 //! A box for tests, with its one putter and its one taker: so it can be settled at any time.
 ghost use Rattle.std.specs.Prelude.{◌≡◌};
 
-use lru_ledger::{LedgerState, PutShare, Settled, Slip, TakeShare};
+use lru_mailbox::{LedgerState, PutShare, Settled, Slip, TakeShare};
 use lru_mailbox::MailError;
 use std::alloc::{AllocError, Global};
 use std::marker::Model;
@@ -15,7 +15,7 @@ pub struct Single {
 
 impl Model for Single {
     ghost use Rattle.std.specs.Prelude.{◌≡◌, ℕ, ◌∷◌, []};
-    ghost use Rattle.lru_ledger.specs.Ledger.{Book, IsTied, seats_of};
+    ghost use Rattle.lru_mailbox.specs.Ledger.{Book, IsTied, seats_of};
 
     ghost Value = { Book ℕ };
 

@@ -7,7 +7,7 @@ use Rattle.std.proofs.Math.Nat.{mod-add-mod}
 use Rattle.lru_mailbox.specs.declared.mail_error.MailError.{MailError}
 use Rattle.lru_mailbox.specs.declared.mail_error.MailError.TheVariants.{Memory, Closed, Waiting}
 use Rattle.lru_mailbox.specs.Mail.{Post, Mail, mail_of, served, left, Pushes, PushesEvict}
-use Rattle.lru_dispatch.specs.Queue.{Queue}
+use Rattle.lru_mailbox.specs.Queue.{Queue}
 use Rattle.lru_shard.specs.Row.{Row, times, HasDistinctKeys}
 use Rattle.lru_shard.specs.Shard.{shard}
 use Rattle.lru_actors.specs.declared.message.LruMsg.{LruMsg}

@@ -6,7 +6,7 @@ use Rattle.std.proofs.lemmas.List.{map-append}
 use Rattle.std.proofs.lemmas.List.Sums.{sum_by-cons}
 use Rattle.std.proofs.lemmas.List.Elements.{filter-append}
 use Rattle.std.proofs.Math.Nat.{mod-add-mod}
-use Rattle.lru_dispatch.specs.Queue.{Queue, dispatched}
+use Rattle.lru_mailbox.specs.Queue.{Queue, dispatched}
 use Rattle.lru_actors.specs.declared.effect.Effect.{Effect}
 use Rattle.lru_actors.specs.Messages.{State, evicted_of}
 use Rattle.lru_actors.specs.Processing.{queued, Processes}

@@ -4,7 +4,7 @@ use Rattle.std.specs.Prelude.{◌≡◌, ℕ, ◌+◌, ◌-◌, ◌≤◌, ◌%�
 use Rattle.std.specs.List.{flat_map}
 use Rattle.lru_mailbox.specs.declared.mail_error.MailError.{MailError}
 use Rattle.lru_mailbox.specs.Mail.{Post, Mail, mail_of, empty, served, left, Pushes, PushesEvict}
-use Rattle.lru_dispatch.specs.Queue.{Queue, dispatched}
+use Rattle.lru_mailbox.specs.Queue.{Queue, dispatched}
 use Rattle.lru_shard.specs.Row.{Row, weight_of, times}
 use Rattle.lru_shard.specs.Shard.{shard}
 use Rattle.lru_shard.specs.Victims.{longer_of}

@@ -2,7 +2,7 @@
 ghost use Rattle.std.specs.Prelude.{◌≡◌, ◌<◌, ℕ, List, Some, slice_get};
 ghost use Rattle.lru_schedules.specs.World.{Actor, World, Event, Runs, IsKept, IsWhole, BatchIsConsumes, IsAsPlain, PutsPair, IsSameQueue, itself, AtAnyTime, start};
 
-use lru_dispatch::Dispatch;
+use lru_mailbox::Dispatch;
 
 /// Whatever happens, in whatever order, from the start on, of each shard that there was: its messages are consumed in the
 /// order in which they were put, and those of one sender are what it put, in its order; its rows, its map, its length and its

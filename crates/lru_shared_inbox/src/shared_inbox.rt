@@ -4,7 +4,7 @@ ghost use Rattle.std.specs.Option.{ForSome};
 ghost use Rattle.std.specs.Sync.Mutex.{mutex_guard_value};
 ghost use Rattle.lru_logs.specs.Logs.{log, of_log, seen_of};
 ghost use Rattle.lru_inbox.specs.Inboxes.{Sends, taken_in};
-ghost use Rattle.lru_shared_mailbox.specs.Sending.{HandsBack};
+ghost use Rattle.lru_mailbox.specs.Sending.{HandsBack};
 ghost use Rattle.lru_shared_inbox.specs.Taking.{IsHandedBack, Takes};
 
 use lru_actors::message::LruMsg;
@@ -13,7 +13,7 @@ use lru_letters::Letter;
 use lru_logs::tie::Archive;
 use lru_logs::voice::Voice;
 use lru_mailbox::MailError;
-use lru_shared_mailbox::{Queued, Shared};
+use lru_mailbox::{Queued, Shared};
 use std::alloc::{AllocError, Global};
 use std::collections::VecDeque;
 use std::sync::{MutexGuard, Wait};

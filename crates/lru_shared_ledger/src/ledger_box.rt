@@ -1,14 +1,14 @@
 //! A box that threads share.
 ghost use Rattle.std.specs.Prelude.{◌≡◌, [], map, All, IfOk};
-ghost use Rattle.lru_ledger.specs.Ledger.{slips_of};
-ghost use Rattle.lru_ledger.specs.Slips.{lists_of, IsSettled};
+ghost use Rattle.lru_mailbox.specs.Ledger.{slips_of};
+ghost use Rattle.lru_mailbox.specs.Slips.{lists_of, IsSettled};
 ghost use Rattle.lru_hands.specs.Hands.{up};
 ghost use Rattle.lru_shared_ledger.specs.Putting.{PutsSlip, TakesSlip};
 
 use lru_desks::desk::Desk;
 use lru_desks::seats::{PutSeat, TakeSeat};
 use lru_desks::tie::{Blanks, Registry};
-use lru_ledger::{Settled, Slip};
+use lru_mailbox::{Settled, Slip};
 use lru_mailbox::MailError;
 use std::alloc::{AllocError, Global};
 use std::sync::{Condvar, Mutex, MutexGuard, Wait};

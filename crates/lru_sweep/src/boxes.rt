@@ -1,5 +1,5 @@
 //! Pairs put into a box and taken from it, where a refused call leaves the pair and the slips as they were.
-use lru_ledger::{LedgerState, PutShare, TakeShare};
+use lru_mailbox::{LedgerState, PutShare, TakeShare};
 use lru_mailbox::MailError;
 use std::alloc::{AllocError, Global};
 use std::io;

@@ -8,7 +8,7 @@ use Rattle.std.proofs.lemmas.List.{length-map, take_all}
 use Rattle.std.proofs.lemmas.Slice.Zip.{length-zip, get_or-zip}
 use Rattle.std.proofs.Math.Nat.{mod-add-mod}
 use Rattle.std.proofs.lemmas.List.Sums.{sum_by-cons, sum_by-append, sum_by_more}
-use Rattle.lru_dispatch.specs.Queue.{Queue}
+use Rattle.lru_mailbox.specs.Queue.{Queue}
 use Rattle.lru_shard.specs.Row.{Row, pair_of, weight_of, last_row, without_last}
 use Rattle.lru_shard.proofs.LastRows.{weight-without_last, length-without_last, held_last}
 use Rattle.lru_actors.specs.declared.message.LruMsg.{LruMsg}

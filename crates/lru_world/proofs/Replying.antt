@@ -19,7 +19,7 @@ use Rattle.lru_inbox.specs.Inboxes.{messages_of, taken_in}
 use Rattle.lru_inbox.specs.Replies.{IsLeft, IsReply, refused_in}
 use Rattle.lru_inbox.proofs.Steps.{by_turns, left_all, reply_at, turns_by}
 use Rattle.lru_inbox.proofs.Counting.{refusals_are, refusals_both, refusals_few, refused_both}
-use Rattle.lru_ledger.specs.declared.slip.Slip.{Slip}
+use Rattle.lru_mailbox.specs.declared.slip.Slip.{Slip}
 use Rattle.lru_logged_shard.specs.Accounts.{IsKept}
 use Rattle.lru_logged_shard.proofs.Accounts.{kept_more}
 use Rattle.lru_schedules.specs.Turns.{Turn, refusals}

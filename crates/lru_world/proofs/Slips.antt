@@ -9,9 +9,9 @@ use Rattle.lru_desks.specs.declared.seats.PutSeat.{PutSeat}
 use Rattle.lru_desks.specs.declared.tie.Registry.{Ghosts}
 use Rattle.lru_logged_shard.specs.Seats.{slips_at}
 use Rattle.lru_shard.specs.Row.{Row}
-use Rattle.lru_ledger.specs.declared.slip.Slip.{Slip}
-use Rattle.lru_ledger.specs.Ledger.{Book, slip_put}
-use Rattle.lru_dispatch.specs.Dispatching.{IsPut}
+use Rattle.lru_mailbox.specs.declared.slip.Slip.{Slip}
+use Rattle.lru_mailbox.specs.Ledger.{Book, slip_put}
+use Rattle.lru_mailbox.specs.Dispatching.{IsPut}
 use Rattle.lru_actors.specs.declared.message.LruMsg.{LruMsg}
 use Rattle.lru_actors.specs.declared.message.LruMsg.TheVariants.{Admit, IncrementWeight, Promote, Remove, InsertTail, Evict, PeekLru, Snapshot, QueryWeight}
 use Rattle.lru_actors.specs.declared.effect.Effect.{Effect}

@@ -1,7 +1,7 @@
 -- A batch that was processed with any queue of evicted pairs was processed so with the plain queue that it is.
 use Rattle.std.proofs.Common.{◌≡◌, ℕ, List, [], ◌∷◌, ap, ◌∙◌, inl, inr}
 use Rattle.std.specs.Prelude.{Option}
-use Rattle.lru_dispatch.specs.Queue.{Queue}
+use Rattle.lru_mailbox.specs.Queue.{Queue}
 use Rattle.lru_actors.specs.declared.message.LruMsg.{LruMsg}
 use Rattle.lru_actors.specs.declared.effect.Effect.{Effect}
 use Rattle.lru_actors.specs.Messages.{State}

@@ -7,9 +7,9 @@ use Rattle.lru_actors.specs.declared.effect.Effect.{Effect}
 use Rattle.lru_actors.specs.declared.effect.Reply.{Reply}
 use Rattle.lru_actors.specs.Messages.{State}
 use Rattle.lru_actors.specs.Processing.{ProcessesAll}
-use Rattle.lru_dispatch.specs.Queue.{Queue}
+use Rattle.lru_mailbox.specs.Queue.{Queue}
 use Rattle.lru_inbox.specs.Replies.{refused_in}
-use Rattle.lru_ledger.specs.declared.slip.Slip.{Slip}
+use Rattle.lru_mailbox.specs.declared.slip.Slip.{Slip}
 use Rattle.lru_letters.specs.declared.letter.Letter.{Letter}
 use Rattle.lru_logged_shard.specs.Accounts.{row_of_slip, rows_evicted}
 use Rattle.lru_schedules.specs.Turns.{sent, turns_of, evictions}

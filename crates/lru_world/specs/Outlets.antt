@@ -1,7 +1,7 @@
 -- Where evicted pairs go.
 use Rattle.std.specs.Prelude.{ℕ, Bool, true, false, Option, Some, None, Result, Ok, Err}
 use Rattle.std.specs.declared.alloc.AllocError.{AllocError}
-use Rattle.lru_ledger.specs.declared.slip.Slip.{Slip}
+use Rattle.lru_mailbox.specs.declared.slip.Slip.{Slip}
 use Rattle.lru_world.specs.declared.outlet.Outlet.{Outlet}
 use Rattle.lru_world.specs.declared.outlet.Outlet.TheVariants.{Mailbox, Ledger}
 use Rattle.lru_world.specs.declared.outlet.Taken.{Taken}

@@ -18,7 +18,7 @@ use lru_actors::message::LruMsg;
 use lru_actors::process::process_batch;
 use lru_actors::state::ShardState;
 use lru_desks::DeskPutter;
-use lru_dispatch::Dispatch;
+use lru_mailbox::Dispatch;
 use lru_inbox::Taker;
 use lru_letters::{Letter, ReplyCell};
 use lru_logged_shard::LoggedShard;

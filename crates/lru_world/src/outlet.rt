@@ -2,9 +2,9 @@
 ghost use Rattle.std.specs.Prelude.{◌≡◌};
 ghost use Rattle.lru_world.specs.Outlets.{is_ledger, taken_by_pair, taken_by_slip, pair_in};
 
-use lru_ledger::Slip;
+use lru_mailbox::Slip;
 use lru_shared_ledger::{LedgerBox, Registry, TakeSeat};
-use lru_shared_mailbox::Mailbox;
+use lru_mailbox::Mailbox;
 use std::alloc::{AllocError, Global};
 use std::marker::Brand;
 use std::sync::{Arc, Wait};

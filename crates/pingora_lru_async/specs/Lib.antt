@@ -1,8 +1,8 @@
 pub use Rattle.lru_mailbox.specs.Mail
-pub use Rattle.lru_ledger.specs.Slips
-pub use Rattle.lru_ledger.specs.Ledger
-pub use Rattle.lru_dispatch.specs.Queue
-pub use Rattle.lru_dispatch.specs.Dispatching
+pub use Rattle.lru_mailbox.specs.Slips
+pub use Rattle.lru_mailbox.specs.Ledger
+pub use Rattle.lru_mailbox.specs.Queue
+pub use Rattle.lru_mailbox.specs.Dispatching
 pub use Rattle.lru_actors.specs.Keys
 pub use Rattle.lru_actors.specs.Messages
 pub use Rattle.lru_actors.specs.Processing

@@ -26,7 +26,7 @@ pub use lru_async::saving::SaveReport;
 /// Why a message was not sent, and why nothing was built.
 pub use lru_sends::refusals::{BuildError, SendRefused};
 /// Where evicted pairs go.
-pub use lru_dispatch::{Dispatch, Putter};
+pub use lru_mailbox::{Dispatch, Putter};
 /// Who calls an order with logs; and the law that an answer is exact where no message was refused.
 pub use lru_inbox::{Caller, exact_law};
 /// One whose whole history is accounted for once it is closed, how it is made, and what it came to.

@@ -1,5 +1,5 @@
 use Rattle.std.proofs.Common.{◌≡◌, [], ◌∷◌, length, map, vec_len, vec_capacity}
-use Rattle.lru_ledger.specs.Slips.{lists_of}
+use Rattle.lru_mailbox.specs.Slips.{lists_of}
 use Rattle.lru_desks.specs.Ties.{kept, hand, known}
 use Rattle.lru_desks.proofs.desk.gather_puts.Given as goal
 

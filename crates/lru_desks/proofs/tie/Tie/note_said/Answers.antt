@@ -1,7 +1,7 @@
 use Rattle.std.proofs.Common.{[], ◌∷◌, ◌++◌, List, ℕ, inl, refl, arith, sym, ap, ◌∙◌, subst}
 use Rattle.std.specs.Prelude.{slice_set}
 use Rattle.atomic_table.specs.Table.{Me}
-use Rattle.lru_ledger.specs.declared.slip.Slip.{Slip}
+use Rattle.lru_mailbox.specs.declared.slip.Slip.{Slip}
 use Rattle.lru_desks.specs.declared.hand.Hand.{Hand}
 use Rattle.lru_desks.specs.Ties.{hand, kept, of_desk, of_seat, known, own, noted, Shows}
 use Rattle.lru_desks.proofs.Moves.{splits, joins, notes, cuts_lend, cuts_parts, together}

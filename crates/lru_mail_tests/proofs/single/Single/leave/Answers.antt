@@ -1,6 +1,6 @@
 use Rattle.std.proofs.Common.{◌∙◌, ◌∷◌, [], sym, subst}
-use Rattle.lru_ledger.specs.Ledger.{IsTied}
-use Rattle.lru_ledger.proofs.TieLaws.{left_tied}
+use Rattle.lru_mailbox.specs.Ledger.{IsTied}
+use Rattle.lru_mailbox.proofs.TieLaws.{left_tied}
 use Rattle.lru_mail_tests.proofs.single.Single.leave.Goals as goal
 
 pub invariant_of-self : goal.invariant_of-self

@@ -1,6 +1,0 @@
-use Rattle.std.proofs.Common.{rules}
-use Rattle.lru_ledger.proofs.TieLaws.{makes}
-use Rattle.lru_ledger.proofs.ledger_state.LedgerState.new.Goals as goal
-
-pub returns : goal.returns
-returns g c = makes _ _ _ _ _ (search rules) (search rules) c.in_ok-puts.ensures c.in_ok-takes.ensures
