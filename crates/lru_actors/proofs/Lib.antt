@@ -2,3 +2,11 @@ pub mod Done
 pub mod Rows
 pub mod Served
 pub mod Listing
+pub mod TurnLaws
+pub mod MessageLaws
+pub mod PostLaws
+pub mod SenderLaws
+pub mod ActorKeeps
+pub mod WorldKeeps
+pub mod LawKeeps
+pub mod Batches

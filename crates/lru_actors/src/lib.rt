@@ -9,6 +9,9 @@
 pub mod effect;
 pub mod iter;
 pub mod key;
+mod law;
+mod letter;
 pub mod message;
 pub mod process;
+mod reply_cell;
 pub mod state;

@@ -9,7 +9,7 @@ use crate::plain::Plain;
 use crate::saving::{SaveReport, save_all};
 use log::Log;
 use lru_actors::key::hash_key;
-use lru_letters::ReplyCell;
+use lru_actors::ReplyCell;
 use lru_logs::tie::Archive;
 use lru_sends::line;
 use lru_sends::refusals::SendRefused;

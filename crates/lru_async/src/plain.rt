@@ -4,7 +4,7 @@ ghost use Rattle.lru_sends.specs.Refusals.{held_in};
 
 use crate::async_lru::AsyncLru;
 use lru_actors::message::LruMsg;
-use lru_letters::Letter;
+use lru_actors::Letter;
 use lru_logs::tie::Archive;
 use lru_sends::cells::cell_of_question;
 use lru_sends::line::Line;

@@ -4,7 +4,7 @@
 ghost use Rattle.std.specs.Prelude.{◌≡◌, ◌<◌, vec_len};
 ghost use Rattle.std.specs.Arc.{arc_value};
 
-use lru_letters::ReplyCell;
+use lru_actors::ReplyCell;
 use lru_logs::tie::Archive;
 use lru_sends::refusals::BuildError;
 use lru_shared_ledger::{PutSeat, Registry, TakeSeat};

@@ -10,7 +10,7 @@ use Rattle.lru_actors.specs.declared.message.LruMsg.{LruMsg}
 use Rattle.lru_actors.specs.declared.effect.Effect.{Effect}
 use Rattle.lru_actors.specs.declared.effect.Reply.{Reply}
 use Rattle.lru_actors.specs.Messages.{consumed}
-use Rattle.lru_schedules.specs.Turns.{Turn, sent, turn, rows_after, rows_left, refusals, weight_in}
+use Rattle.lru_actors.specs.Turns.{Turn, sent, turn, rows_after, rows_left, refusals, weight_in}
 use Rattle.lru_inbox.specs.Replies.{Tells, IsWeight, IsReply, WeightsAreExact, RepliesAreExact, refused_in, rows_by}
 use Rattle.lru_inbox.proofs.Steps.{turns_by}
 

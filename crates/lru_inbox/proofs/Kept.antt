@@ -7,7 +7,7 @@ use Rattle.std.proofs.Common.{map}
 use Rattle.std.proofs.lemmas.Bool.{cond-false}
 use Rattle.lru_mailbox.specs.Mail.{Post, served, counted, posted, posted_or_lost}
 use Rattle.lru_actors.specs.declared.message.LruMsg.{LruMsg}
-use Rattle.lru_letters.specs.declared.letter.Letter.{Letter}
+use Rattle.lru_actors.specs.declared.letter.Letter.{Letter}
 use Rattle.lru_logs.specs.declared.hand.Log.{Log}
 use Rattle.lru_logs.specs.declared.hand.Front.{Front}
 use Rattle.lru_logs.specs.declared.hand.Hand.{Hand}

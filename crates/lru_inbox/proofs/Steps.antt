@@ -15,10 +15,10 @@ use Rattle.lru_actors.specs.declared.effect.Reply.TheVariants as reply
 use Rattle.lru_actors.specs.Messages.{State, state_of, consumed, put_of, cleared_of, refusal_of, MayBeRefused, Replies}
 use Rattle.lru_actors.specs.Processing.{mapped, MayWantRoom, IsServed, IsTurnedAway, Processes, ProcessesAll}
 use Rattle.lru_actors.proofs.Served.{mapped_same}
-use Rattle.lru_schedules.specs.Turns.{Turn, sent, turn, turns_of, rows_after, rows_left, refusals, weight_in, AreAllowed}
-use Rattle.lru_schedules.specs.World.{PutsPair, IsSameQueue, itself, AtAnyTime}
-use Rattle.lru_schedules.proofs.MessageLaws.{follows, wants_same}
-use Rattle.lru_schedules.proofs.TurnLaws.{rows_more, refusals_more, allowed_more}
+use Rattle.lru_actors.specs.Turns.{Turn, sent, turn, turns_of, rows_after, rows_left, refusals, weight_in, AreAllowed}
+use Rattle.lru_actors.specs.World.{PutsPair, IsSameQueue, itself, AtAnyTime}
+use Rattle.lru_actors.proofs.MessageLaws.{follows, wants_same}
+use Rattle.lru_actors.proofs.TurnLaws.{rows_more, refusals_more, allowed_more}
 use Rattle.lru_inbox.specs.Replies.{IsLeft, Tells, IsReply, refused_in}
 
 no_some : {A : Type 0} (x : A) → Some x ≡ None → ⊥

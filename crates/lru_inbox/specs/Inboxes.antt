@@ -7,7 +7,7 @@ use Rattle.lru_mailbox.specs.declared.mail_error.MailError.TheVariants.{Memory, 
 use Rattle.lru_actors.specs.declared.message.LruMsg.{LruMsg}
 use Rattle.lru_actors.specs.declared.message.LruMsg.TheVariants.{Evict}
 use Rattle.lru_actors.specs.declared.effect.Reply.{Reply}
-use Rattle.lru_letters.specs.declared.letter.Letter.{Letter}
+use Rattle.lru_actors.specs.declared.letter.Letter.{Letter}
 use Rattle.lru_logs.specs.declared.voice.Voice.{Voice}
 use Rattle.lru_logs.specs.declared.tie.Archive.{Ghosts}
 use Rattle.lru_logs.specs.declared.hand.Log.{Log}

@@ -7,7 +7,7 @@ use Rattle.lru_actors.specs.declared.effect.Effect.{Effect}
 use Rattle.lru_actors.specs.declared.effect.Reply.{Reply}
 use Rattle.lru_actors.specs.declared.effect.Reply.TheVariants as reply
 use Rattle.lru_actors.specs.Messages.{State, state_of, consumed, IsCloneOf, AreClones}
-use Rattle.lru_schedules.specs.Turns.{Turn, rows_left, refusals, weight_in, AreAllowed}
+use Rattle.lru_actors.specs.Turns.{Turn, rows_left, refusals, weight_in, AreAllowed}
 
 module _ {K : Type 0} where
   -- a shard, and the map of its rows' weights, are what these messages leave, one after the other. One was refused only where it

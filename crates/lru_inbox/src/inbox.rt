@@ -9,7 +9,7 @@ use crate::caller::Caller;
 use crate::taker::Taker;
 use crate::told::Told;
 use lru_actors::message::LruMsg;
-use lru_letters::Letter;
+use lru_actors::Letter;
 use lru_logs::tie::Archive;
 use lru_logs::voice::Voice;
 use lru_mailbox::{MailError, MailState};

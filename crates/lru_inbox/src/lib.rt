@@ -2,7 +2,7 @@
 //! and who asked learns of which beginning of the log the reply tells.
 //!
 //! Its calls are exact. `exact_law`: where no message was refused, an answer is that of the rows which the messages leave. It
-//! stands on logs (`lru_logs`) and on the law of the actors (`lru_schedules`).
+//! stands on logs (`lru_logs`) and on the law of the actors (`lru_actors`).
 #![tactic(auto)]
 
 mod caller;

@@ -19,7 +19,7 @@ use lru_async::async_lru::{AsyncLru, ShardData};
 use lru_async::builder::AsyncLruBuilder;
 use lru_async::saving::SaveReport;
 use lru_inbox::Caller;
-use lru_letters::Letter;
+use lru_actors::Letter;
 use lru_logs::tie::{Archive, Blank};
 use lru_sends::cells::cell_of_question;
 use lru_sends::refusals::{BuildError, SendRefused};

@@ -13,9 +13,9 @@ use Rattle.lru_actors.specs.declared.message.LruMsg.TheVariants.{Admit, Incremen
 use Rattle.lru_actors.specs.declared.effect.Effect.{Effect}
 use Rattle.lru_actors.specs.Messages.{State, state_of, consumed, evicted_of, cleared_of}
 use Rattle.lru_actors.specs.Processing.{IsKept as IsRoom, HandsOver, IsServed, IsTurnedAway, Processes, ProcessesAll}
-use Rattle.lru_schedules.specs.Turns.{Turn, sent, turn, rows_after, rows_left, brings, removes, evicts, times_done}
-use Rattle.lru_schedules.specs.World.{PutsPair, IsSameQueue, itself, AtAnyTime}
-use Rattle.lru_schedules.proofs.MessageLaws.{follows}
+use Rattle.lru_actors.specs.Turns.{Turn, sent, turn, rows_after, rows_left, brings, removes, evicts, times_done}
+use Rattle.lru_actors.specs.World.{PutsPair, IsSameQueue, itself, AtAnyTime}
+use Rattle.lru_actors.proofs.MessageLaws.{follows}
 use Rattle.lru_inbox.specs.Replies.{IsLeft}
 use Rattle.lru_inbox.proofs.Steps.{by_turns, is_left, turns_by, left_all}
 use Rattle.lru_logged_shard.specs.Accounts.{evicted_row, row_leaving, rows_evicted, row_of_slip, IsKept, IsAccount}

@@ -7,7 +7,7 @@ use Rattle.lru_mailbox.specs.declared.slip.Slip.{Slip}
 use Rattle.lru_actors.specs.declared.message.LruMsg.{LruMsg}
 use Rattle.lru_actors.specs.declared.message.LruMsg.TheVariants.{Evict}
 use Rattle.lru_actors.specs.Messages.{State, state_of}
-use Rattle.lru_schedules.specs.Turns.{Turn, rows_after, rows_left, refusals, brings, removes, times_done, AreAllowed}
+use Rattle.lru_actors.specs.Turns.{Turn, rows_after, rows_left, refusals, brings, removes, times_done, AreAllowed}
 use Rattle.lru_inbox.specs.Replies.{IsLeft}
 
 -- what a slip says of its row

@@ -1,5 +1,5 @@
 //! The first to fill a cell decides, and who waits for it is woken.
-use lru_letters::ReplyCell;
+use lru_actors::ReplyCell;
 use std::sync::Wait;
 use std::test::Fail;
 use std::thread;

@@ -6,7 +6,7 @@ use Rattle.lru_actors.specs.declared.message.LruMsg.{LruMsg}
 use Rattle.lru_actors.specs.declared.message.LruMsg.TheVariants.{Admit, IncrementWeight, InsertTail}
 use Rattle.lru_actors.specs.declared.effect.Reply.{Reply}
 use Rattle.lru_actors.specs.declared.effect.Reply.TheVariants as reply
-use Rattle.lru_letters.specs.declared.letter.Letter.{Letter}
+use Rattle.lru_actors.specs.declared.letter.Letter.{Letter}
 use Rattle.lru_sends.specs.declared.sends.Addressed.{Addressed}
 use Rattle.lru_sends.specs.declared.sends.Heard.{Heard}
 use Rattle.lru_sends.specs.declared.refusals.SendRefused.{SendRefused}

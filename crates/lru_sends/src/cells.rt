@@ -4,7 +4,7 @@ ghost use Rattle.std.specs.Arc.{arc_value};
 ghost use Rattle.lru_sends.specs.declared.refusals.SendRefused.TheVariants.{Memory};
 
 use crate::refusals::SendRefused;
-use lru_letters::ReplyCell;
+use lru_actors::ReplyCell;
 use std::alloc::{AllocError, Global};
 use std::sync::Arc;
 

@@ -3,7 +3,7 @@ use Rattle.std.specs.Prelude.{◌≡◌, ℕ, List, ◌++◌, length, Option, op
 use Rattle.lru_mailbox.specs.declared.mail_error.MailError.{MailError}
 use Rattle.lru_mailbox.specs.declared.mail_error.MailError.TheVariants.{Memory, Closed, Waiting}
 use Rattle.lru_actors.specs.declared.message.LruMsg.{LruMsg}
-use Rattle.lru_letters.specs.declared.letter.Letter.{Letter}
+use Rattle.lru_actors.specs.declared.letter.Letter.{Letter}
 use Rattle.lru_inbox.specs.Inboxes.{messages_of}
 
 module _ {K T : Type 0} where

@@ -9,7 +9,7 @@ ghost use Rattle.lru_shared_inbox.specs.Taking.{IsHandedBack, Takes};
 
 use lru_actors::message::LruMsg;
 use lru_inbox::{Caller, Inbox, Taker, Told};
-use lru_letters::Letter;
+use lru_actors::Letter;
 use lru_logs::tie::Archive;
 use lru_logs::voice::Voice;
 use lru_mailbox::MailError;

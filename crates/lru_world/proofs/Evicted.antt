@@ -18,9 +18,9 @@ use Rattle.lru_actors.specs.declared.effect.Reply.{Reply}
 use Rattle.lru_actors.specs.Messages.{State, consumed, evicted_of}
 use Rattle.lru_world.proofs.Counted.{answers_length}
 use Rattle.lru_actors.specs.Processing.{Processes, ProcessesAll}
-use Rattle.lru_schedules.specs.Turns.{sent, turn, turns_of, rows_after, leaving, evictions}
+use Rattle.lru_actors.specs.Turns.{sent, turn, turns_of, rows_after, leaving, evictions}
 use Rattle.lru_world.specs.declared.bench.Asked.{Asked}
-use Rattle.lru_letters.specs.declared.letter.Letter.{Letter}
+use Rattle.lru_actors.specs.declared.letter.Letter.{Letter}
 use Rattle.lru_world.specs.Batch.{answers, is_evict, asked_by, replied, weight_taken, rows_taken, pairs_evicted}
 
 module _ {K T : Type 0} where

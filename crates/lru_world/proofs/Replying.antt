@@ -11,7 +11,7 @@ use Rattle.lru_actors.specs.declared.message.LruMsg.{LruMsg}
 use Rattle.lru_actors.specs.declared.effect.Effect.{Effect}
 use Rattle.lru_actors.specs.declared.effect.Reply.{Reply}
 use Rattle.lru_actors.specs.Messages.{State}
-use Rattle.lru_letters.specs.declared.letter.Letter.{Letter}
+use Rattle.lru_actors.specs.declared.letter.Letter.{Letter}
 use Rattle.lru_logs.specs.declared.voice.Voice.{Voice}
 use Rattle.lru_logs.specs.declared.tie.Archive.{Ghosts}
 use Rattle.lru_logs.specs.Logs.{taken_by}
@@ -22,8 +22,8 @@ use Rattle.lru_inbox.proofs.Counting.{refusals_are, refusals_both, refusals_few,
 use Rattle.lru_mailbox.specs.declared.slip.Slip.{Slip}
 use Rattle.lru_logged_shard.specs.Accounts.{IsKept}
 use Rattle.lru_logged_shard.proofs.Accounts.{kept_more}
-use Rattle.lru_schedules.specs.Turns.{Turn, refusals}
-use Rattle.lru_schedules.specs.World.{PutsPair, IsSameQueue, itself, AtAnyTime}
+use Rattle.lru_actors.specs.Turns.{Turn, refusals}
+use Rattle.lru_actors.specs.World.{PutsPair, IsSameQueue, itself, AtAnyTime}
 use Rattle.lru_world.specs.declared.bench.Asked.{Asked}
 use Rattle.lru_world.specs.Batch.{answers, fewer, replied, AddsSlips, StepsFrom}
 use Rattle.lru_world.proofs.Evicted.{as_many}

@@ -15,7 +15,7 @@ use Rattle.lru_mailbox.specs.Dispatching.{IsPut}
 use Rattle.lru_actors.specs.declared.message.LruMsg.{LruMsg}
 use Rattle.lru_actors.specs.declared.message.LruMsg.TheVariants.{Admit, IncrementWeight, Promote, Remove, InsertTail, Evict, PeekLru, Snapshot, QueryWeight}
 use Rattle.lru_actors.specs.declared.effect.Effect.{Effect}
-use Rattle.lru_schedules.specs.Turns.{turn, sent, rows_after}
+use Rattle.lru_actors.specs.Turns.{turn, sent, rows_after}
 use Rattle.lru_inbox.proofs.Steps.{turns_by}
 use Rattle.lru_logged_shard.specs.Accounts.{evicted_row, row_leaving, rows_evicted, row_of_slip}
 use Rattle.lru_world.specs.Batch.{evicts_none, AddsSlips}

@@ -6,8 +6,8 @@ use Rattle.lru_actors.specs.declared.message.LruMsg.{LruMsg}
 use Rattle.lru_actors.specs.declared.effect.Effect.{Effect}
 use Rattle.lru_actors.specs.Messages.{State}
 use Rattle.lru_actors.specs.Processing.{Processes, ProcessesAll}
-use Rattle.lru_schedules.specs.World.{PutsPair, IsSameQueue, itself, AtAnyTime}
-use Rattle.lru_schedules.proofs.Batches.{as_plain}
+use Rattle.lru_actors.specs.World.{PutsPair, IsSameQueue, itself, AtAnyTime}
+use Rattle.lru_actors.proofs.Batches.{as_plain}
 use Rattle.lru_world.specs.Batch.{StepsAll, StepsFrom}
 
 module _ {K : Type 0} (IsClone : K → K → Type 0) {D : Type 0} (Puts : D → ℕ → K → ℕ → D → Type 0) (IsSame : D → D → Type 0) (queue : D → Queue K) (MayRefuse : D → Type 0) where

@@ -15,7 +15,7 @@ use crate::world::{ShardPlace, Weights, World};
 use lru_actors::effect::{Effect, Reply};
 use lru_actors::state::ShardState;
 use lru_inbox::{Taker, Told};
-use lru_letters::{Letter, ReplyCell};
+use lru_actors::{Letter, ReplyCell};
 use lru_logged_shard::LoggedShard;
 use lru_logs::tie::Archive;
 use lru_shared_ledger::{PutSeat, Registry};

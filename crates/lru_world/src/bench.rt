@@ -20,7 +20,7 @@ use lru_actors::state::ShardState;
 use lru_desks::DeskPutter;
 use lru_mailbox::Dispatch;
 use lru_inbox::Taker;
-use lru_letters::{Letter, ReplyCell};
+use lru_actors::{Letter, ReplyCell};
 use lru_logged_shard::LoggedShard;
 use lru_logs::tie::Archive;
 use lru_mailbox::MailState;

@@ -16,7 +16,7 @@ use crate::rest::Rest;
 use crate::trigger::Trigger;
 use lru_actors::message::LruMsg;
 use lru_inbox::{Caller, Inbox, Taker};
-use lru_letters::Letter;
+use lru_actors::Letter;
 use lru_logged_shard::LoggedShard;
 use lru_logs::tie::Archive;
 use lru_logs::voice::Voice;

@@ -6,5 +6,5 @@ pub use Rattle.lru_mailbox.specs.Dispatching
 pub use Rattle.lru_actors.specs.Keys
 pub use Rattle.lru_actors.specs.Messages
 pub use Rattle.lru_actors.specs.Processing
-pub use Rattle.lru_schedules.specs.Turns
-pub use Rattle.lru_schedules.specs.World
+pub use Rattle.lru_actors.specs.Turns
+pub use Rattle.lru_actors.specs.World

@@ -38,8 +38,8 @@ pub use lru_logged::logged_lru::LoggedLru;
 /// What names the logs of an order, and a blank to build one from.
 pub use lru_logs::tie::{Archive, Blank as LogBlank};
 /// Messages on their way, with the cells for their replies.
-pub use lru_letters::{Letter, ReplyCell};
+pub use lru_actors::{Letter, ReplyCell};
 /// The law over every schedule, and that a batch is so many of its events.
-pub use lru_schedules::{batch_law, schedule_law};
+pub use lru_actors::{batch_law, schedule_law};
 /// What is called with each evicted pair, and what actors call before each message.
 pub use lru_world::callback::{AsyncEvictionCallback, Gate, NoGate};

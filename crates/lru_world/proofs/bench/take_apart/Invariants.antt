@@ -1,6 +1,6 @@
 use Rattle.std.proofs.Common.{◌≡◌, ◌≤◌, ◌+◌, ◌++◌, map, vec_len, vec_capacity}
 use Rattle.std.specs.Prelude.{reverse}
-use Rattle.lru_letters.specs.declared.letter.Letter.{Letter}
+use Rattle.lru_actors.specs.declared.letter.Letter.{Letter}
 use Rattle.lru_world.specs.Batch.{asked_by}
 use Rattle.lru_world.proofs.bench.take_apart.Given as goal
 

@@ -14,7 +14,7 @@ use Rattle.lru_actors.specs.declared.message.LruMsg.TheVariants.{Admit, Incremen
 use Rattle.lru_actors.specs.Messages.{consumed, kept, put_of, cleared_of}
 use Rattle.lru_actors.specs.Processing.{mapped, MayWantRoom}
 use Rattle.lru_actors.proofs.Rows.{no_last}
-use Rattle.lru_schedules.specs.Turns.{weight_in, brings, removes, evicts}
+use Rattle.lru_actors.specs.Turns.{weight_in, brings, removes, evicts}
 
 both_no : (b : Bool) → (b && false) ≡ false
 both_no true = refl

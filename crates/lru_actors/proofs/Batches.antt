@@ -7,8 +7,8 @@ use Rattle.lru_actors.specs.declared.message.LruMsg.{LruMsg}
 use Rattle.lru_actors.specs.declared.message.LruMsg.TheVariants.{Admit, IncrementWeight, Promote, Remove, InsertTail, Evict, PeekLru, Snapshot, QueryWeight}
 use Rattle.lru_actors.specs.Messages.{evicted_of}
 use Rattle.lru_actors.specs.Processing.{queued, MayWantRoom, HandsOver, Processes}
-use Rattle.lru_schedules.specs.Turns.{turn, turns_of, leaving}
-use Rattle.lru_schedules.specs.World.{Actor, World, PutsPair, IsSameQueue, itself, AtAnyTime, rows_of, advanced, followed, BatchIsConsumes, IsAsPlain}
+use Rattle.lru_actors.specs.Turns.{turn, turns_of, leaving}
+use Rattle.lru_actors.specs.World.{Actor, World, PutsPair, IsSameQueue, itself, AtAnyTime, rows_of, advanced, followed, BatchIsConsumes, IsAsPlain}
 
 get_set : {A : Type 0} (xs : List A) (s : ℕ) (a b : A) → slice_get xs s ≡ Some a → slice_get (slice_set xs s b) s ≡ Some b
 get_set [] s a b e = cc

@@ -1,6 +1,6 @@
 //! The law.
 ghost use Rattle.std.specs.Prelude.{◌≡◌, ◌<◌, ℕ, List, Some, slice_get};
-ghost use Rattle.lru_schedules.specs.World.{Actor, World, Event, Runs, IsKept, IsWhole, BatchIsConsumes, IsAsPlain, PutsPair, IsSameQueue, itself, AtAnyTime, start};
+ghost use Rattle.lru_actors.specs.World.{Actor, World, Event, Runs, IsKept, IsWhole, BatchIsConsumes, IsAsPlain, PutsPair, IsSameQueue, itself, AtAnyTime, start};
 
 use lru_mailbox::Dispatch;
 

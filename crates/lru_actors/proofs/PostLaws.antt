@@ -4,7 +4,7 @@ use Rattle.std.specs.Prelude.{◌⊎◌, slice_get}
 use Rattle.std.proofs.lemmas.Bool.{cond-false, le-ltb}
 use Rattle.lru_mailbox.specs.Mail.{Post, posted, urged, served, moved_up}
 use Rattle.lru_actors.specs.declared.message.LruMsg.TheVariants.{Evict}
-use Rattle.lru_schedules.specs.Turns.{Sent}
+use Rattle.lru_actors.specs.Turns.{Sent}
 
 module _ {A : Type 0} where
   -- an item of a list with one item more

@@ -1,6 +1,6 @@
 //! A place for one reply.
 ghost use Rattle.std.specs.Prelude.{◌≡◌};
-ghost use Rattle.lru_letters.specs.Answering.{decided, given_in, waits};
+ghost use Rattle.lru_actors.specs.Answering.{decided, given_in, waits};
 
 use std::mem;
 use std::sync::{Condvar, Mutex, Wait};

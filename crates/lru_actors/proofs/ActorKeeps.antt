@@ -16,12 +16,12 @@ use Rattle.lru_actors.specs.declared.effect.Effect.{Effect}
 use Rattle.lru_actors.specs.Messages.{State, state_of, consumed, put_of, cleared_of, refusal_of, MayBeRefused, IsMeasured}
 use Rattle.lru_actors.specs.Processing.{mapped, IsServed, IsTurnedAway, Processes}
 use Rattle.lru_actors.proofs.Served.{mapped_same}
-use Rattle.lru_schedules.specs.Turns.{Sent, Turn, sent, turn, sent_of, messages_of, rows_after, rows_left, refusals, brings, removes, evicts, times_done, weight_in, IsAllowed, AreAllowed, IsAnswered, AreAnswered}
-use Rattle.lru_schedules.specs.World.{Actor, Send, PutsPair, IsSameQueue, itself, AtAnyTime, rows_of, accepted_by, advanced, put_by, Sends, Urges, Takes, Stops}
-use Rattle.lru_schedules.proofs.TurnLaws.{rows_more, refusals_more, once, done_more, allowed_more, answered_more}
-use Rattle.lru_schedules.proofs.MessageLaws.{one_if, follows, wants_same}
-use Rattle.lru_schedules.proofs.PostLaws.{IsKnown, known_posted, known_urged, known_served}
-use Rattle.lru_schedules.proofs.SenderLaws.{of_both, own_sent, none_sent}
+use Rattle.lru_actors.specs.Turns.{Sent, Turn, sent, turn, sent_of, messages_of, rows_after, rows_left, refusals, brings, removes, evicts, times_done, weight_in, IsAllowed, AreAllowed, IsAnswered, AreAnswered}
+use Rattle.lru_actors.specs.World.{Actor, Send, PutsPair, IsSameQueue, itself, AtAnyTime, rows_of, accepted_by, advanced, put_by, Sends, Urges, Takes, Stops}
+use Rattle.lru_actors.proofs.TurnLaws.{rows_more, refusals_more, once, done_more, allowed_more, answered_more}
+use Rattle.lru_actors.proofs.MessageLaws.{one_if, follows, wants_same}
+use Rattle.lru_actors.proofs.PostLaws.{IsKnown, known_posted, known_urged, known_served}
+use Rattle.lru_actors.proofs.SenderLaws.{of_both, own_sent, none_sent}
 
 off : true ≡ false → ⊥
 off e = cc

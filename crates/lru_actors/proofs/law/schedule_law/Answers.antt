@@ -1,5 +1,5 @@
-use Rattle.lru_schedules.proofs.LawKeeps.{shard_law, whole_law}
-use Rattle.lru_schedules.proofs.law.schedule_law.Goals as goal
+use Rattle.lru_actors.proofs.LawKeeps.{shard_law, whole_law}
+use Rattle.lru_actors.proofs.law.schedule_law.Goals as goal
 
 pub returns-clause-shards : goal.returns-clause-shards
 returns-clause-shards g c n cap events w = shard_law g.K.Clone.is_clone cap n events w

@@ -10,8 +10,8 @@ use Rattle.lru_mailbox.specs.Queue.{Queue, dispatched}
 use Rattle.lru_actors.specs.declared.effect.Effect.{Effect}
 use Rattle.lru_actors.specs.Messages.{State, evicted_of}
 use Rattle.lru_actors.specs.Processing.{queued, Processes}
-use Rattle.lru_schedules.specs.Turns.{Sent, turn, leaving}
-use Rattle.lru_schedules.specs.World.{Actor, PutsPair, IsSameQueue, itself, AtAnyTime, rows_of}
+use Rattle.lru_actors.specs.Turns.{Sent, turn, leaving}
+use Rattle.lru_actors.specs.World.{Actor, PutsPair, IsSameQueue, itself, AtAnyTime, rows_of}
 
 pub not_both : true ≡ false → ⊥
 not_both e = cc

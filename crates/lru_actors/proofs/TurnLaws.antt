@@ -3,7 +3,7 @@ use Rattle.std.proofs.Common.{◌≡◌, ℕ, ◌+◌, ◌&&◌, not, cond, Bool
 use Rattle.std.proofs.lemmas.List.Sums.{fold-append, sum_by-append}
 use Rattle.lru_shard.specs.Row.{Row}
 use Rattle.lru_actors.specs.declared.message.LruMsg.{LruMsg}
-use Rattle.lru_schedules.specs.Turns.{Turn, rows_after, rows_left, refusals, leaving, evictions, times_done, IsAllowed, AreAllowed, IsAnswered, AreAnswered}
+use Rattle.lru_actors.specs.Turns.{Turn, rows_after, rows_left, refusals, leaving, evictions, times_done, IsAllowed, AreAllowed, IsAnswered, AreAnswered}
 
 module _ {K : Type 0} where
   pub rows_more : (rows : List (Row K)) (ts : List (Turn K)) (t : Turn K) → rows_left rows (ts ++ t ∷ []) ≡ rows_after (rows_left rows ts) t

@@ -1,7 +1,7 @@
 -- What a cell for one reply holds.
 use Rattle.std.specs.Prelude.{Bool, true, false, Option, Some, None}
-use Rattle.lru_letters.specs.declared.reply_cell.Answer.{Answer}
-use Rattle.lru_letters.specs.declared.reply_cell.Answer.TheVariants.{Waiting, Given, Left}
+use Rattle.lru_actors.specs.declared.reply_cell.Answer.{Answer}
+use Rattle.lru_actors.specs.declared.reply_cell.Answer.TheVariants.{Waiting, Given, Left}
 
 module _ {T : Type 0} where
   -- the first to fill it decides

@@ -8,8 +8,8 @@ use Rattle.std.proofs.lemmas.List.Elements.{filter-append}
 use Rattle.std.proofs.lemmas.Grind.{flat_map-append}
 use Rattle.lru_mailbox.specs.declared.mail_error.MailError.{MailError}
 use Rattle.lru_actors.specs.declared.message.LruMsg.{LruMsg}
-use Rattle.lru_schedules.specs.Turns.{Sent, sent, messages_of}
-use Rattle.lru_schedules.specs.World.{Event, Send, accepted_by, put_by, all_put_by}
+use Rattle.lru_actors.specs.Turns.{Sent, sent, messages_of}
+use Rattle.lru_actors.specs.World.{Event, Send, accepted_by, put_by, all_put_by}
 
 module _ {K : Type 0} where
   -- whether a message is of this sender

@@ -9,13 +9,13 @@ use Rattle.lru_mailbox.specs.Queue.{Queue}
 use Rattle.lru_shard.specs.Row.{weight_of}
 use Rattle.lru_actors.specs.Messages.{State}
 use Rattle.lru_actors.specs.declared.message.LruMsg.{LruMsg}
-use Rattle.lru_schedules.specs.Turns.{turn, messages_of, leaving, evictions}
-use Rattle.lru_schedules.specs.World.{Actor, World, Event, Send, Take, Consume, Look, Call, Leave, StopWorkers, StopMailbox, rows_of, At, Calls, left_alone, Consumes, Happens, Runs, put_by, all_put_by, IsKept, IsWhole, fresh, start}
-use Rattle.lru_schedules.proofs.TurnLaws.{evictions_more}
-use Rattle.lru_schedules.proofs.PostLaws.{one_place}
-use Rattle.lru_schedules.proofs.SenderLaws.{of_both, put_more, elsewhere}
-use Rattle.lru_schedules.proofs.ActorKeeps.{messages, Good, Quiet, sends, urges, takes, stops, advances, consumed_one, good_consumed}
-use Rattle.lru_schedules.proofs.WorldKeeps.{not_both, the_same, set_cases, length_set, at_place, sum_set, pairs_of, of_shard, tagged, of_more, of_own, of_other, untagged, length_tagged, weight_tagged, Joins, leaving_follow}
+use Rattle.lru_actors.specs.Turns.{turn, messages_of, leaving, evictions}
+use Rattle.lru_actors.specs.World.{Actor, World, Event, Send, Take, Consume, Look, Call, Leave, StopWorkers, StopMailbox, rows_of, At, Calls, left_alone, Consumes, Happens, Runs, put_by, all_put_by, IsKept, IsWhole, fresh, start}
+use Rattle.lru_actors.proofs.TurnLaws.{evictions_more}
+use Rattle.lru_actors.proofs.PostLaws.{one_place}
+use Rattle.lru_actors.proofs.SenderLaws.{of_both, put_more, elsewhere}
+use Rattle.lru_actors.proofs.ActorKeeps.{messages, Good, Quiet, sends, urges, takes, stops, advances, consumed_one, good_consumed}
+use Rattle.lru_actors.proofs.WorldKeeps.{not_both, the_same, set_cases, length_set, at_place, sum_set, pairs_of, of_shard, tagged, of_more, of_own, of_other, untagged, length_tagged, weight_tagged, Joins, leaving_follow}
 
 module _ {K : Type 0} (IsClone : K → K → Type 0) (cap : ℕ) where
   record Kept (n : ℕ) (events : List (Event K)) (w : World K) : Type 0 where

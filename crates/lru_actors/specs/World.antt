@@ -13,7 +13,7 @@ use Rattle.lru_actors.specs.declared.message.LruMsg.TheVariants.{Evict}
 use Rattle.lru_actors.specs.declared.effect.Effect.{Effect}
 use Rattle.lru_actors.specs.Messages.{State, state_of}
 use Rattle.lru_actors.specs.Processing.{Processes, ProcessesAll}
-use Rattle.lru_schedules.specs.Turns.{Sent, Turn, sent, turn, sent_of, turns_of, messages_of, rows_left, refusals, leaving, evictions, brings, removes, evicts, times_done, weight_in, AreAllowed, AreAnswered}
+use Rattle.lru_actors.specs.Turns.{Sent, Turn, sent, turn, sent_of, turns_of, messages_of, rows_left, refusals, leaving, evictions, brings, removes, evicts, times_done, weight_in, AreAllowed, AreAnswered}
 
 -- one shard with its mailbox and its actor. `accepted` are all messages that were ever put, `turns` those that were
 -- consumed, `hand` those that the actor took and has still to consume, `behind` those that waited when the mailbox was stopped
