@@ -12,7 +12,7 @@ use lru_mailbox::Settled;
 use lru_logged::logged_lru::LoggedLru;
 use lru_logged_shard::ShardEnd;
 use lru_logs::tie::Archive;
-use lru_shared_ledger::{LedgerBox, PutSeat, Registry, TakeSeat};
+use lru_desks::{LedgerBox, PutSeat, Registry, TakeSeat};
 use std::alloc::{AllocError, Global};
 use std::sync::{Arc, Wait};
 

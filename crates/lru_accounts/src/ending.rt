@@ -8,7 +8,7 @@ ghost use Rattle.lru_accounts.specs.Accounts.{Accounts};
 
 use lru_logged_shard::ShardEnd;
 use lru_logs::tie::Archive;
-use lru_shared_ledger::{PutSeat, Registry};
+use lru_desks::{PutSeat, Registry};
 use lru_world::world::ShardPlace;
 use std::sync::Wait;
 use std::thread;

@@ -2,7 +2,7 @@
 //! the slips of those that were evicted agree.
 //!
 //! `close` hands out one account of it all. The order beneath is a `LoggedLru` (`lru_logged`), and the slips are those of a
-//! box that threads share (`lru_shared_ledger`).
+//! box that threads share (`lru_desks`).
 #![tactic(auto)]
 
 mod accounted_lru;

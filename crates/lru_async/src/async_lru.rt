@@ -14,7 +14,7 @@ use lru_logs::tie::Archive;
 use lru_sends::line;
 use lru_sends::refusals::SendRefused;
 use lru_sends::sends::shard_of;
-use lru_shared_ledger::{PutSeat, Registry, TakeSeat};
+use lru_desks::{PutSeat, Registry, TakeSeat};
 use lru_world::callback::NoGate;
 use lru_world::world::World;
 use std::alloc::Global;

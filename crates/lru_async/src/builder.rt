@@ -12,7 +12,7 @@ use lru_actors::message::LruMsg;
 use lru_logs::tie::{Archive, Blank};
 use lru_logs::voice::Voice;
 use lru_sends::refusals::BuildError;
-use lru_shared_ledger::{Blanks, LedgerBox, PutSeat, Registry, TakeSeat};
+use lru_desks::{Blanks, LedgerBox, PutSeat, Registry, TakeSeat};
 use lru_mailbox::Mailbox;
 use lru_world::callback::{AsyncEvictionCallback, Gate, NoGate};
 use lru_world::outlet::Outlet;

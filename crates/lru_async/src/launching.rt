@@ -17,7 +17,7 @@ use lru_logs::tie::Archive;
 use lru_logs::voice::Voice;
 use lru_sends::cells::cell_and_clone;
 use lru_sends::refusals::BuildError;
-use lru_shared_ledger::{PutSeat, Registry, TakeSeat};
+use lru_desks::{PutSeat, Registry, TakeSeat};
 use lru_world::actor::Actor;
 use lru_world::callback::{AsyncEvictionCallback, Gate};
 use lru_world::outlet::Outlet;

@@ -7,7 +7,7 @@ use crate::async_lru::AsyncLru;
 use crate::seats_back::{all_puts, all_takes, sole};
 use lru_mailbox::Settled;
 use lru_logs::tie::Archive;
-use lru_shared_ledger::{LedgerBox, PutSeat, Registry, TakeSeat};
+use lru_desks::{LedgerBox, PutSeat, Registry, TakeSeat};
 use std::alloc::Global;
 use std::marker::Brand;
 use std::sync::{Arc, Wait};

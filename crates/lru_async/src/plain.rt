@@ -10,7 +10,7 @@ use lru_sends::cells::cell_of_question;
 use lru_sends::line::Line;
 use lru_sends::refusals::SendRefused;
 use lru_sends::sends::{Addressed, Heard, heard_in, refusal_of};
-use lru_shared_ledger::Registry;
+use lru_desks::Registry;
 use std::sync::Wait;
 
 /// The line to the actors of an order without logs. What a call does behind a lock is known nowhere, so it says nothing of it.

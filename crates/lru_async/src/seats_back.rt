@@ -3,7 +3,7 @@ ghost use Rattle.std.specs.Prelude.{◌≡◌, map};
 ghost use Rattle.std.specs.Arc.{arc_value};
 ghost use Rattle.lru_hands.specs.Hands.{up};
 
-use lru_shared_ledger::{PutSeat, Registry, TakeSeat};
+use lru_desks::{PutSeat, Registry, TakeSeat};
 use std::alloc::Global;
 use std::sync::{Arc, Wait};
 use std::thread;

@@ -5,7 +5,7 @@ use crate::callbacks::{Counting, Holding, LOOKS, Meeting, Quiet, gated_order, is
 use lru_async::async_lru::{AsyncLru, Closed};
 use lru_mailbox::Settled;
 use lru_logs::tie::Archive;
-use lru_shared_ledger::{Blanks, Registry};
+use lru_desks::{Blanks, Registry};
 use std::alloc::Global;
 use std::marker::Brand;
 use std::sync::atomic::Ordering;

@@ -8,6 +8,7 @@
 pub mod desk;
 mod desk_putter;
 pub mod hand;
+mod ledger_box;
 pub mod seats;
 pub mod tie;
 

@@ -27,7 +27,7 @@ use lru_sends::sends::{
     Addressed, admission, answer_of, increment, key_back, promotion, refusal_of, removal, shard_of,
     tail_row,
 };
-use lru_shared_ledger::Registry;
+use lru_desks::Registry;
 use lru_world::callback::{AsyncEvictionCallback, Gate};
 use std::alloc::AllocError;
 use std::hash::Hash;

@@ -9,7 +9,7 @@ use lru_inbox::Caller;
 use lru_mailbox::Slip;
 use lru_logged::logged_lru::LoggedLru;
 use lru_logs::tie::{Archive, Blank};
-use lru_shared_ledger::{Blanks, Registry};
+use lru_desks::{Blanks, Registry};
 use lru_world::callback::AsyncEvictionCallback;
 use std::alloc::Global;
 use std::collections::VecDeque;

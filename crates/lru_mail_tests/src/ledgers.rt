@@ -2,7 +2,7 @@
 ghost use Rattle.std.specs.Prelude.{◌≡◌};
 
 use lru_mailbox::{Settled, Slip};
-use lru_shared_ledger::{Blanks, LedgerBox, PutSeat, Registry, TakeSeat};
+use lru_desks::{Blanks, LedgerBox, PutSeat, Registry, TakeSeat};
 use std::alloc::{AllocError, Global};
 use std::marker::Brand;
 use std::sync::Wait;

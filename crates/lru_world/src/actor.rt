@@ -18,7 +18,7 @@ use lru_inbox::{Taker, Told};
 use lru_actors::{Letter, ReplyCell};
 use lru_logged_shard::LoggedShard;
 use lru_logs::tie::Archive;
-use lru_shared_ledger::{PutSeat, Registry};
+use lru_desks::{PutSeat, Registry};
 use lru_short_locks::ShortMutex;
 use std::alloc::{AllocError, Global};
 use std::marker::Brand;

@@ -24,7 +24,7 @@ use lru_actors::{Letter, ReplyCell};
 use lru_logged_shard::LoggedShard;
 use lru_logs::tie::Archive;
 use lru_mailbox::MailState;
-use lru_shared_ledger::{PutSeat, Registry};
+use lru_desks::{PutSeat, Registry};
 use lru_short_locks::ShortLock;
 use std::alloc::{AllocError, Global};
 use std::collections::HashMap;

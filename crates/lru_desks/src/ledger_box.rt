@@ -3,11 +3,11 @@ ghost use Rattle.std.specs.Prelude.{◌≡◌, [], map, All, IfOk};
 ghost use Rattle.lru_mailbox.specs.Ledger.{slips_of};
 ghost use Rattle.lru_mailbox.specs.Slips.{lists_of, IsSettled};
 ghost use Rattle.lru_hands.specs.Hands.{up};
-ghost use Rattle.lru_shared_ledger.specs.Putting.{PutsSlip, TakesSlip};
+ghost use Rattle.lru_desks.specs.Putting.{PutsSlip, TakesSlip};
 
-use lru_desks::desk::Desk;
-use lru_desks::seats::{PutSeat, TakeSeat};
-use lru_desks::tie::{Blanks, Registry};
+use crate::desk::Desk;
+use crate::seats::{PutSeat, TakeSeat};
+use crate::tie::{Blanks, Registry};
 use lru_mailbox::{Settled, Slip};
 use lru_mailbox::MailError;
 use std::alloc::{AllocError, Global};
