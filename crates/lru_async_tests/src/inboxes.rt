@@ -2,7 +2,7 @@
 
 use lru_actors::message::LruMsg;
 use lru_actors::Letter;
-use lru_shared_inbox::SharedInbox;
+use lru_inbox::SharedInbox;
 use std::alloc::Global;
 use std::marker::Brand;
 use std::sync::Wait;

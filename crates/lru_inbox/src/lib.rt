@@ -8,6 +8,7 @@
 mod caller;
 mod inbox;
 mod law;
+mod shared_inbox;
 mod taker;
 mod told;
 

@@ -22,7 +22,7 @@ use lru_logs::tie::Archive;
 use lru_logs::voice::Voice;
 use lru_shard::counters::shift;
 use lru_shard::eviction::is_past;
-use lru_shared_inbox::SharedInbox;
+use lru_inbox::SharedInbox;
 use lru_desks::{PutSeat, Registry};
 use lru_short_locks::{ShortLock, ShortMutex};
 use std::alloc::{AllocError, Global};

@@ -5,10 +5,10 @@ ghost use Rattle.std.specs.Sync.Mutex.{mutex_guard_value};
 ghost use Rattle.lru_logs.specs.Logs.{log, of_log, seen_of};
 ghost use Rattle.lru_inbox.specs.Inboxes.{Sends, taken_in};
 ghost use Rattle.lru_mailbox.specs.Sending.{HandsBack};
-ghost use Rattle.lru_shared_inbox.specs.Taking.{IsHandedBack, Takes};
+ghost use Rattle.lru_inbox.specs.Taking.{IsHandedBack, Takes};
 
 use lru_actors::message::LruMsg;
-use lru_inbox::{Caller, Inbox, Taker, Told};
+use crate::{Caller, Inbox, Taker, Told};
 use lru_actors::Letter;
 use lru_logs::tie::Archive;
 use lru_logs::voice::Voice;
