@@ -10,7 +10,7 @@ use lru_async::async_lru::AsyncLru;
 use lru_async::seats_back::{all_puts, all_takes, sole};
 use lru_mailbox::Settled;
 use lru_logged::logged_lru::LoggedLru;
-use lru_logged_shard::ShardEnd;
+use lru_world::ShardEnd;
 use lru_logs::tie::Archive;
 use lru_desks::{LedgerBox, PutSeat, Registry, TakeSeat};
 use std::alloc::{AllocError, Global};

@@ -3,10 +3,10 @@ ghost use Rattle.std.specs.Prelude.{◌≡◌, ◌≤◌, [], map, vec_len, vec_
 ghost use Rattle.std.specs.Option.{ForSome};
 ghost use Rattle.lru_shard.specs.Limits.{cap_of};
 ghost use Rattle.lru_logs.specs.Logs.{log_of};
-ghost use Rattle.lru_logged_shard.specs.Accounts.{IsAccount};
+ghost use Rattle.lru_world.specs.Accounts.{IsAccount};
 ghost use Rattle.lru_accounts.specs.Accounts.{Accounts};
 
-use lru_logged_shard::ShardEnd;
+use lru_world::ShardEnd;
 use lru_logs::tie::Archive;
 use lru_desks::{PutSeat, Registry};
 use lru_world::world::ShardPlace;

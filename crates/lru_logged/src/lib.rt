@@ -2,7 +2,7 @@
 //! what it saw of them.
 //!
 //! Where no message was refused an answer is exact for what the caller had seen and asked. It stands on `lru_async` with
-//! mailboxes that keep logs (`lru_inbox`), and on the shard that knows its messages (`lru_logged_shard`).
+//! mailboxes that keep logs (`lru_inbox`), and on the shard that knows its messages (`lru_world`).
 #![tactic(auto)]
 
 pub mod logged_lru;

@@ -6,3 +6,5 @@ mod PastLimits
 pub mod Replying
 mod Stepping
 mod Slips
+pub mod Meeting
+pub mod Accounts

@@ -20,8 +20,8 @@ use Rattle.lru_inbox.specs.Replies.{IsLeft, IsReply, refused_in}
 use Rattle.lru_inbox.proofs.Steps.{by_turns, left_all, reply_at, turns_by}
 use Rattle.lru_inbox.proofs.Counting.{refusals_are, refusals_both, refusals_few, refused_both}
 use Rattle.lru_mailbox.specs.declared.slip.Slip.{Slip}
-use Rattle.lru_logged_shard.specs.Accounts.{IsKept}
-use Rattle.lru_logged_shard.proofs.Accounts.{kept_more}
+use Rattle.lru_world.specs.Accounts.{IsKept}
+use Rattle.lru_world.proofs.Accounts.{kept_more}
 use Rattle.lru_actors.specs.Turns.{Turn, refusals}
 use Rattle.lru_actors.specs.World.{PutsPair, IsSameQueue, itself, AtAnyTime}
 use Rattle.lru_world.specs.declared.bench.Asked.{Asked}

@@ -7,7 +7,7 @@ use Rattle.std.specs.Option.{ForSome}
 use Rattle.lru_hands.proofs.Hands.{none_some, some_same}
 use Rattle.lru_desks.specs.declared.seats.PutSeat.{PutSeat}
 use Rattle.lru_desks.specs.declared.tie.Registry.{Ghosts}
-use Rattle.lru_logged_shard.specs.Seats.{slips_at}
+use Rattle.lru_world.specs.Seats.{slips_at}
 use Rattle.lru_shard.specs.Row.{Row}
 use Rattle.lru_mailbox.specs.declared.slip.Slip.{Slip}
 use Rattle.lru_mailbox.specs.Ledger.{Book, slip_put}
@@ -17,7 +17,7 @@ use Rattle.lru_actors.specs.declared.message.LruMsg.TheVariants.{Admit, Incremen
 use Rattle.lru_actors.specs.declared.effect.Effect.{Effect}
 use Rattle.lru_actors.specs.Turns.{turn, sent, rows_after}
 use Rattle.lru_inbox.proofs.Steps.{turns_by}
-use Rattle.lru_logged_shard.specs.Accounts.{evicted_row, row_leaving, rows_evicted, row_of_slip}
+use Rattle.lru_world.specs.Accounts.{evicted_row, row_leaving, rows_evicted, row_of_slip}
 use Rattle.lru_world.specs.Batch.{evicts_none, AddsSlips}
 
 same_cond : {A : Type 0} (b : Bool) → cond {A = List A} b [] [] ≡ []

@@ -11,7 +11,7 @@ use Rattle.lru_mailbox.specs.Queue.{Queue}
 use Rattle.lru_inbox.specs.Replies.{refused_in}
 use Rattle.lru_mailbox.specs.declared.slip.Slip.{Slip}
 use Rattle.lru_actors.specs.declared.letter.Letter.{Letter}
-use Rattle.lru_logged_shard.specs.Accounts.{row_of_slip, rows_evicted}
+use Rattle.lru_world.specs.Accounts.{row_of_slip, rows_evicted}
 use Rattle.lru_actors.specs.Turns.{sent, turns_of, evictions}
 use Rattle.lru_actors.specs.World.{PutsPair, IsSameQueue, itself, AtAnyTime}
 use Rattle.lru_world.specs.declared.bench.Asked.{Asked}

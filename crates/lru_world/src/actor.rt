@@ -16,7 +16,7 @@ use lru_actors::effect::{Effect, Reply};
 use lru_actors::state::ShardState;
 use lru_inbox::{Taker, Told};
 use lru_actors::{Letter, ReplyCell};
-use lru_logged_shard::LoggedShard;
+use crate::LoggedShard;
 use lru_logs::tie::Archive;
 use lru_desks::{PutSeat, Registry};
 use lru_short_locks::ShortMutex;

@@ -7,7 +7,7 @@ ghost use Rattle.lru_inbox.specs.Inboxes.{messages_of, taken_in};
 ghost use Rattle.lru_shard.specs.Limits.{cap_of};
 ghost use Rattle.std.specs.Option.{ForSome};
 ghost use Rattle.lru_world.specs.Replying.{AreReplies, Gains};
-ghost use Rattle.lru_logged_shard.specs.Seats.{slips_at};
+ghost use Rattle.lru_world.specs.Seats.{slips_at};
 ghost use Rattle.lru_world.specs.Outlets.{is_ledger};
 ghost use Rattle.lru_world.specs.Batch.{AddsSlips, answers, StepsAll, StepsFrom, fewer, is_evict, evicts_none, stays_inside, asked_by, replied, weight_taken, rows_taken, weight_put, heaviest_put, IsChange};
 
@@ -21,7 +21,7 @@ use lru_desks::DeskPutter;
 use lru_mailbox::Dispatch;
 use lru_inbox::Taker;
 use lru_actors::{Letter, ReplyCell};
-use lru_logged_shard::LoggedShard;
+use crate::LoggedShard;
 use lru_logs::tie::Archive;
 use lru_mailbox::MailState;
 use lru_desks::{PutSeat, Registry};

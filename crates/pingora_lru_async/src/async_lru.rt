@@ -32,7 +32,7 @@ pub use lru_inbox::{Caller, exact_law};
 /// One whose whole history is accounted for once it is closed, how it is made, and what it came to.
 pub use lru_accounts::{Account, AccountedLru, build_accounted};
 /// What a shard came to, with its log.
-pub use lru_logged_shard::ShardEnd;
+pub use lru_world::ShardEnd;
 /// One that keeps logs.
 pub use lru_logged::logged_lru::LoggedLru;
 /// What names the logs of an order, and a blank to build one from.

@@ -1,4 +1,4 @@
-use Rattle.lru_logged_shard.specs.Seats.{slips_at}
+use Rattle.lru_world.specs.Seats.{slips_at}
 use Rattle.lru_world.proofs.Apart.{all_inside_hold}
 use Rattle.lru_world.proofs.Slips.{none_added}
 use Rattle.lru_world.proofs.bench.Bench.process.Goals as goal

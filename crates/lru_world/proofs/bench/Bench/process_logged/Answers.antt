@@ -9,8 +9,8 @@ use Rattle.std.proofs.Common.{Some, None, refl, ◌≡◌}
 use Rattle.std.proofs.Math.Logic.{∥∥₁_map}
 use Rattle.lru_desks.specs.declared.seats.PutSeat.{PutSeat}
 use Rattle.lru_desks.specs.declared.tie.Registry.{Ghosts}
-use Rattle.lru_logged_shard.specs.Accounts.{IsKept}
-use Rattle.lru_logged_shard.specs.Seats.{slips_at}
+use Rattle.lru_world.specs.Accounts.{IsKept}
+use Rattle.lru_world.specs.Seats.{slips_at}
 use Rattle.lru_world.specs.Outlets.{is_ledger}
 use Rattle.lru_world.proofs.Replying.{adds, batch_kept, batch_replies, counted_in, take_all}
 use Rattle.lru_world.proofs.bench.Bench.process_logged.Goals as goal

@@ -1,8 +1,8 @@
 use Rattle.std.proofs.Common.{map, sym, ap, ◌∙◌}
 use Rattle.lru_hands.proofs.Hands.{some_same}
-use Rattle.lru_logged_shard.specs.Accounts.{row_of_slip}
-use Rattle.lru_logged_shard.specs.Seats.{slips_at}
-use Rattle.lru_logged_shard.proofs.Accounts.{slips_all}
+use Rattle.lru_world.specs.Accounts.{row_of_slip}
+use Rattle.lru_world.specs.Seats.{slips_at}
+use Rattle.lru_world.proofs.Accounts.{slips_all}
 use Rattle.lru_world.proofs.Slips.{none_added, put_slip}
 use Rattle.lru_world.proofs.bench.Bench.process_with.Goals as goal
 

@@ -4,8 +4,8 @@ use Rattle.lru_logs.specs.Logs.{of_fronts, joined, Shows}
 use Rattle.lru_inbox.specs.Inboxes.{shown}
 use Rattle.lru_inbox.proofs.Counting.{refusals_fit}
 use Rattle.lru_actors.specs.Messages.{State}
-use Rattle.lru_logged_shard.proofs.Meeting.{seen_with}
-use Rattle.lru_logged_shard.proofs.logged_shard.LoggedShard.look.Goals as goal
+use Rattle.lru_world.proofs.Meeting.{seen_with}
+use Rattle.lru_world.proofs.logged_shard.LoggedShard.look.Goals as goal
 
 pub returns-clause-told : goal.returns-clause-told
 returns-clause-told g c =

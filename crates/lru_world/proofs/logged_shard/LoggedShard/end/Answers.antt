@@ -5,11 +5,11 @@ use Rattle.lru_hands.proofs.Hands.{some_same}
 use Rattle.lru_shard.specs.Limits.{cap_of}
 use Rattle.lru_logs.specs.Logs.{hand, log_of, front_of}
 use Rattle.lru_inbox.specs.Inboxes.{shown}
-use Rattle.lru_logged_shard.specs.Accounts.{IsKept, IsAccount}
-use Rattle.lru_logged_shard.specs.Seats.{slips_at}
-use Rattle.lru_logged_shard.proofs.Accounts.{account}
-use Rattle.lru_logged_shard.proofs.Meeting.{same_taken}
-use Rattle.lru_logged_shard.proofs.logged_shard.LoggedShard.end.Goals as goal
+use Rattle.lru_world.specs.Accounts.{IsKept, IsAccount}
+use Rattle.lru_world.specs.Seats.{slips_at}
+use Rattle.lru_world.proofs.Accounts.{account}
+use Rattle.lru_world.proofs.Meeting.{same_taken}
+use Rattle.lru_world.proofs.logged_shard.LoggedShard.end.Goals as goal
 
 pub seen-whole-requires : goal.seen-whole-requires
 seen-whole-requires g c = ap (λ m. m.1) (c.args.inbox.kept c.in-Some.log c.in-Some.is).speaks

@@ -18,7 +18,7 @@ use Rattle.lru_actors.specs.World.{PutsPair, IsSameQueue, itself, AtAnyTime}
 use Rattle.lru_actors.proofs.MessageLaws.{follows}
 use Rattle.lru_inbox.specs.Replies.{IsLeft}
 use Rattle.lru_inbox.proofs.Steps.{by_turns, is_left, turns_by, left_all}
-use Rattle.lru_logged_shard.specs.Accounts.{evicted_row, row_leaving, rows_evicted, row_of_slip, IsKept, IsAccount}
+use Rattle.lru_world.specs.Accounts.{evicted_row, row_leaving, rows_evicted, row_of_slip, IsKept, IsAccount}
 
 -- of each hash
 abbrev counted : ℕ → List (ℕ × ℕ) → ℕ

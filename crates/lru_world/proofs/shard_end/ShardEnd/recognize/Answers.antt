@@ -1,7 +1,7 @@
 use Rattle.std.proofs.Common.{[], ◌∷◌, ◌++◌, map, refl, sym, ap, ◌∙◌, subst}
 use Rattle.lru_logs.specs.Logs.{Begins, Shows, accepted, front_of, hand, joined, log_of, seen_of}
-use Rattle.lru_logged_shard.proofs.Meeting.{seen_begins_with}
-use Rattle.lru_logged_shard.proofs.shard_end.ShardEnd.recognize.Goals as goal
+use Rattle.lru_world.proofs.Meeting.{seen_begins_with}
+use Rattle.lru_world.proofs.shard_end.ShardEnd.recognize.Goals as goal
 
 pub invariant_of-self : goal.invariant_of-self
 invariant_of-self g c =

@@ -4,7 +4,7 @@ ghost use Rattle.std.specs.Option.{ForSome};
 ghost use Rattle.lru_shard.specs.Limits.{cap_of};
 ghost use Rattle.lru_logs.specs.Logs.{Begins, accepted, hand, log_of, seen_of};
 ghost use Rattle.lru_inbox.specs.Inboxes.{log_in};
-ghost use Rattle.lru_logged_shard.specs.Accounts.{IsAccount};
+ghost use Rattle.lru_world.specs.Accounts.{IsAccount};
 
 use crate::logged_shard::LoggedShard;
 use lru_actors::message::LruMsg;

@@ -5,9 +5,9 @@ ghost use Rattle.std.specs.HashMap as hash_map;
 ghost use Rattle.lru_shard.specs.Limits.{cap_of};
 ghost use Rattle.lru_logs.specs.Logs.{front, of_fronts};
 ghost use Rattle.lru_inbox.specs.Inboxes.{shown, taken_in};
-ghost use Rattle.lru_logged_shard.specs.Accounts.{IsKept};
-ghost use Rattle.lru_logged_shard.specs.Seats.{slips_at};
-ghost use Rattle.lru_logged_shard.specs.Looking.{LearnsWeight};
+ghost use Rattle.lru_world.specs.Accounts.{IsKept};
+ghost use Rattle.lru_world.specs.Seats.{slips_at};
+ghost use Rattle.lru_world.specs.Looking.{LearnsWeight};
 
 use lru_actors::message::LruMsg;
 use lru_actors::state::ShardState;

@@ -4,10 +4,10 @@ use Rattle.std.specs.Map.{lookup}
 use Rattle.lru_shard.specs.Limits.{cap_of}
 use Rattle.lru_logs.specs.Logs.{front, of_fronts}
 use Rattle.lru_inbox.specs.Inboxes.{shown}
-use Rattle.lru_logged_shard.specs.Accounts.{IsKept}
-use Rattle.lru_logged_shard.specs.Seats.{slips_at}
-use Rattle.lru_logged_shard.proofs.Accounts.{kept_first}
-use Rattle.lru_logged_shard.proofs.logged_shard.LoggedShard.new.Goals as goal
+use Rattle.lru_world.specs.Accounts.{IsKept}
+use Rattle.lru_world.specs.Seats.{slips_at}
+use Rattle.lru_world.proofs.Accounts.{kept_first}
+use Rattle.lru_world.proofs.logged_shard.LoggedShard.new.Goals as goal
 
 pub invariant_of-result : goal.invariant_of-result
 invariant_of-result g c =

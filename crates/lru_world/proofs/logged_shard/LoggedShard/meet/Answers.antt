@@ -3,8 +3,8 @@ use Rattle.lru_hands.proofs.Hands.{some_same}
 use Rattle.lru_logs.specs.Logs.{taken_by}
 use Rattle.lru_inbox.specs.Inboxes.{shown, taken_in}
 use Rattle.lru_inbox.proofs.Kept.{shown_is, length_take}
-use Rattle.lru_logged_shard.proofs.Meeting.{same_seen}
-use Rattle.lru_logged_shard.proofs.logged_shard.LoggedShard.meet.Goals as goal
+use Rattle.lru_world.proofs.Meeting.{same_seen}
+use Rattle.lru_world.proofs.logged_shard.LoggedShard.meet.Goals as goal
 
 pub returns-in-Some-clause-met : goal.returns-in-Some-clause-met
 returns-in-Some-clause-met g c = λ taken e.

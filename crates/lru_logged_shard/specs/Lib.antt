@@ -1,3 +1,0 @@
-pub mod Looking
-pub mod Seats
-pub mod Accounts
