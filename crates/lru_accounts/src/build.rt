@@ -8,7 +8,7 @@ use crate::accounted_lru::{AccountedLru, Room};
 use lru_actors::message::LruMsg;
 use lru_async::builder::AsyncLruBuilder;
 use lru_logs::tie::{Archive, Blank};
-use lru_sends::refusals::BuildError;
+use lru_async::refusals::BuildError;
 use lru_desks::{Blanks, Registry};
 use lru_world::callback::{AsyncEvictionCallback, Gate};
 use std::hash::Hash;

@@ -1,2 +1,4 @@
 pub mod Orders
 pub mod Saving
+pub mod Refusals
+pub mod Sends

@@ -2,7 +2,7 @@
 ghost use Rattle.std.specs.Prelude.{◌≡◌, ◌+◌, ◌%◌, ◌<◌, ◌≤◌, vec_len, IfOk, IfErr, Ok, Some, None};
 ghost use Rattle.std.specs.Arc.{arc_value};
 ghost use Rattle.lru_actors.specs.Keys.{hash_of};
-ghost use Rattle.lru_sends.specs.Refusals.{held_in};
+ghost use Rattle.lru_async.specs.Refusals.{held_in};
 
 use crate::builder::AsyncLruBuilder;
 use crate::plain::Plain;
@@ -11,9 +11,9 @@ use log::Log;
 use lru_actors::key::hash_key;
 use lru_actors::ReplyCell;
 use lru_logs::tie::Archive;
-use lru_sends::line;
-use lru_sends::refusals::SendRefused;
-use lru_sends::sends::shard_of;
+use crate::line;
+use crate::refusals::SendRefused;
+use crate::sends::shard_of;
 use lru_desks::{PutSeat, Registry, TakeSeat};
 use lru_world::callback::NoGate;
 use lru_world::world::World;

@@ -2,7 +2,7 @@
 ghost use Rattle.std.specs.Prelude.{◌≡◌, ◌<◌, [], All, Err, Some, IfOk};
 ghost use Rattle.std.specs.Arc.{arc_value};
 ghost use Rattle.lru_async.specs.Orders.{HasWorkers, limits_of, limits_told, order_of, untold};
-ghost use Rattle.lru_sends.specs.declared.refusals.BuildError.TheVariants.{NoCallbackWorkers};
+ghost use Rattle.lru_async.specs.declared.refusals.BuildError.TheVariants.{NoCallbackWorkers};
 
 use crate::async_lru::AsyncLru;
 use crate::launching::launch;
@@ -11,7 +11,7 @@ use crate::receiver::EvictionReceiver;
 use lru_actors::message::LruMsg;
 use lru_logs::tie::{Archive, Blank};
 use lru_logs::voice::Voice;
-use lru_sends::refusals::BuildError;
+use crate::refusals::BuildError;
 use lru_desks::{Blanks, LedgerBox, PutSeat, Registry, TakeSeat};
 use lru_mailbox::Mailbox;
 use lru_world::callback::{AsyncEvictionCallback, Gate, NoGate};

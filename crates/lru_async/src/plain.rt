@@ -1,15 +1,15 @@
 //! The line to the actors of an order.
 ghost use Rattle.std.specs.Prelude.{◌≡◌, ◌<◌, OnOk, IfOk, IfErr};
-ghost use Rattle.lru_sends.specs.Refusals.{held_in};
+ghost use Rattle.lru_async.specs.Refusals.{held_in};
 
 use crate::async_lru::AsyncLru;
 use lru_actors::message::LruMsg;
 use lru_actors::Letter;
 use lru_logs::tie::Archive;
-use lru_sends::cells::cell_of_question;
-use lru_sends::line::Line;
-use lru_sends::refusals::SendRefused;
-use lru_sends::sends::{Addressed, Heard, heard_in, refusal_of};
+use crate::cells::cell_of_question;
+use crate::line::Line;
+use crate::refusals::SendRefused;
+use crate::sends::{Addressed, Heard, heard_in, refusal_of};
 use lru_desks::Registry;
 use std::sync::Wait;
 

@@ -7,7 +7,7 @@ ghost use Rattle.lru_async.specs.Saving.{IsReport};
 
 use crate::async_lru::ShardData;
 use log::{Log, error};
-use lru_sends::line::{Line, counted_snapshot};
+use crate::line::{Line, counted_snapshot};
 
 /// What a save did with the shards. Each is counted once.
 #[derive(Clone, Copy, Debug, PartialEq, Eq)]

@@ -6,7 +6,7 @@ ghost use Rattle.std.specs.Arc.{arc_value};
 
 use lru_actors::ReplyCell;
 use lru_logs::tie::Archive;
-use lru_sends::refusals::BuildError;
+use crate::refusals::BuildError;
 use lru_desks::{PutSeat, Registry, TakeSeat};
 use lru_world::actor::Actor;
 use lru_world::callback::{AsyncEvictionCallback, Gate};

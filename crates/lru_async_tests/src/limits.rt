@@ -2,7 +2,7 @@
 use crate::callbacks::{Quiet, quiet_order};
 use lru_actors::key::hash_key;
 use lru_async::async_lru::AsyncLru;
-use lru_sends::refusals::SendRefused;
+use lru_async::refusals::SendRefused;
 use std::alloc::Global;
 use std::sync::{Arc, Wait};
 use std::test::Fail;

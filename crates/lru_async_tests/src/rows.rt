@@ -4,7 +4,7 @@ ghost use Rattle.std.specs.Prelude.{◌≡◌, [], refl};
 use crate::callbacks::{Quiet, quiet_order};
 use log::sink;
 use lru_async::async_lru::{AsyncLru, ShardData};
-use lru_sends::refusals::{BuildError, SendRefused};
+use lru_async::refusals::{BuildError, SendRefused};
 use std::alloc::{AllocError, Global};
 use std::hash::{Hash, Hasher};
 use std::sync::{Arc, Wait};

@@ -16,7 +16,7 @@ use Rattle.lru_inbox.specs.Inboxes.{Sends, Learns}
 use Rattle.lru_inbox.specs.Replies.{IsReply}
 use Rattle.lru_logs.specs.declared.tie.Archive as archive
 use Rattle.lru_inbox.specs.declared.caller.Caller.{Caller}
-use Rattle.lru_sends.specs.Sends.{answered_by}
+use Rattle.lru_async.specs.Sends.{answered_by}
 use Rattle.lru_async.specs.declared.async_lru.ShardData.{ShardData}
 use Rattle.lru_logged.specs.Logged.{fronts_of, seen, IsRows, Learned, SeesMore}
 use Rattle.lru_inbox.proofs.Lists.{seen_first}

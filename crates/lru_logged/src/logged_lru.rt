@@ -7,7 +7,7 @@ ghost use Rattle.lru_actors.specs.Keys.{hash_of};
 ghost use Rattle.lru_actors.specs.declared.message.LruMsg.TheVariants.{Admit, InsertTail, Promote, Remove, IncrementWeight, PeekLru, Snapshot, QueryWeight};
 ghost use Rattle.lru_actors.specs.declared.effect.Reply.TheVariants.{Weight, Lru, Rows};
 ghost use Rattle.lru_inbox.specs.Inboxes.{Sends};
-ghost use Rattle.lru_sends.specs.Refusals.{held_in};
+ghost use Rattle.lru_async.specs.Refusals.{held_in};
 ghost use Rattle.lru_async.specs.Saving.{IsReport, IsWritten};
 ghost use Rattle.lru_logged.specs.Logged.{fronts_of, Found, Grew, IsRows, Learned, Looked, SeesMore};
 
@@ -21,9 +21,9 @@ use lru_async::saving::SaveReport;
 use lru_inbox::Caller;
 use lru_actors::Letter;
 use lru_logs::tie::{Archive, Blank};
-use lru_sends::cells::cell_of_question;
-use lru_sends::refusals::{BuildError, SendRefused};
-use lru_sends::sends::{
+use lru_async::cells::cell_of_question;
+use lru_async::refusals::{BuildError, SendRefused};
+use lru_async::sends::{
     Addressed, admission, answer_of, increment, key_back, promotion, refusal_of, removal, shard_of,
     tail_row,
 };
@@ -83,7 +83,7 @@ impl<
 > LoggedLru<K, N, B> {
     ghost use Rattle.lru_async.specs.Orders.{HasWorkers, limits_of, limits_told};
     ghost use Rattle.lru_logged.specs.Orders.{logged_order};
-    ghost use Rattle.lru_sends.specs.declared.refusals.BuildError.TheVariants.{NoCallbackWorkers};
+    ghost use Rattle.lru_async.specs.declared.refusals.BuildError.TheVariants.{NoCallbackWorkers};
 
     /// Starts the threads of a builder's order, which keeps a log of each shard's messages, by a blank for N shards: who calls it
     /// by a `Caller` learns what its answers saw. Without callback workers it is refused.

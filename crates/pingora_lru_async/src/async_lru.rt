@@ -24,7 +24,7 @@ pub use lru_async::receiver::EvictionReceiver;
 /// What a save did with the shards.
 pub use lru_async::saving::SaveReport;
 /// Why a message was not sent, and why nothing was built.
-pub use lru_sends::refusals::{BuildError, SendRefused};
+pub use lru_async::refusals::{BuildError, SendRefused};
 /// Where evicted pairs go.
 pub use lru_mailbox::{Dispatch, Putter};
 /// Who calls an order with logs; and the law that an answer is exact where no message was refused.

@@ -1,9 +1,9 @@
 -- The refusals of an order served by actors.
 use Rattle.std.specs.Prelude.{◌≡◌, ℕ, List, codes}
-use Rattle.lru_sends.specs.declared.refusals.SendRefused.{SendRefused}
-use Rattle.lru_sends.specs.declared.refusals.SendRefused.TheVariants.{Memory, Closed}
-use Rattle.lru_sends.specs.declared.refusals.BuildError.{BuildError}
-use Rattle.lru_sends.specs.declared.refusals.BuildError.TheVariants as build
+use Rattle.lru_async.specs.declared.refusals.SendRefused.{SendRefused}
+use Rattle.lru_async.specs.declared.refusals.SendRefused.TheVariants.{Memory, Closed}
+use Rattle.lru_async.specs.declared.refusals.BuildError.{BuildError}
+use Rattle.lru_async.specs.declared.refusals.BuildError.TheVariants as build
 
 abbrev pub number_of : {T : Type 0} → SendRefused T → ℕ
 number_of (Memory _) = 1

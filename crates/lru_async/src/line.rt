@@ -4,7 +4,7 @@ ghost use Rattle.std.specs.Option.{ForSome};
 ghost use Rattle.lru_actors.specs.Keys.{hash_of};
 ghost use Rattle.lru_actors.specs.declared.message.LruMsg.TheVariants.{Admit, IncrementWeight, Promote, Remove, InsertTail, PeekLru, Snapshot, QueryWeight};
 ghost use Rattle.lru_actors.specs.declared.effect.Reply.TheVariants.{Weight, Lru, Rows};
-ghost use Rattle.lru_sends.specs.Refusals.{held_in};
+ghost use Rattle.lru_async.specs.Refusals.{held_in};
 
 use crate::refusals::SendRefused;
 use crate::sends::{

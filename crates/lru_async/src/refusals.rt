@@ -1,6 +1,6 @@
 //! Why a message was not sent, and why nothing was built.
 ghost use Rattle.std.specs.Prelude.{◌≡◌};
-ghost use Rattle.lru_sends.specs.Refusals.{number_of, number_of_build, SameCause};
+ghost use Rattle.lru_async.specs.Refusals.{number_of, number_of_build, SameCause};
 
 use std::error::Error;
 use std::fmt;
@@ -17,7 +17,7 @@ pub enum SendRefused<T> {
 
 impl<T> Display for SendRefused<T> {
     ghost use Rattle.std.specs.Prelude.{Some};
-    ghost use Rattle.lru_sends.specs.Refusals.{text_of};
+    ghost use Rattle.lru_async.specs.Refusals.{text_of};
 
     ghost output = { λ refused. Some (text_of refused) };
 
@@ -66,7 +66,7 @@ pub enum BuildError {
 
 impl Display for BuildError {
     ghost use Rattle.std.specs.Prelude.{Some};
-    ghost use Rattle.lru_sends.specs.Refusals.{text_of_build};
+    ghost use Rattle.lru_async.specs.Refusals.{text_of_build};
 
     ghost output = { λ error. Some (text_of_build error) };
 
@@ -95,7 +95,7 @@ impl BuildError {
 }
 
 impl From<std::alloc::AllocError> for BuildError {
-    ghost use Rattle.lru_sends.specs.declared.refusals.BuildError.TheVariants.{Memory};
+    ghost use Rattle.lru_async.specs.declared.refusals.BuildError.TheVariants.{Memory};
 
     ghost from_gives = { λ _ error. error ≡ Memory };
 

@@ -1,7 +1,7 @@
 //! The cell in which a reply is given.
 ghost use Rattle.std.specs.Prelude.{◌≡◌, IfOk, IfErr};
 ghost use Rattle.std.specs.Arc.{arc_value};
-ghost use Rattle.lru_sends.specs.declared.refusals.SendRefused.TheVariants.{Memory};
+ghost use Rattle.lru_async.specs.declared.refusals.SendRefused.TheVariants.{Memory};
 
 use crate::refusals::SendRefused;
 use lru_actors::ReplyCell;

@@ -7,10 +7,10 @@ use Rattle.lru_actors.specs.declared.message.LruMsg.TheVariants.{Admit, Incremen
 use Rattle.lru_actors.specs.declared.effect.Reply.{Reply}
 use Rattle.lru_actors.specs.declared.effect.Reply.TheVariants as reply
 use Rattle.lru_actors.specs.declared.letter.Letter.{Letter}
-use Rattle.lru_sends.specs.declared.sends.Addressed.{Addressed}
-use Rattle.lru_sends.specs.declared.sends.Heard.{Heard}
-use Rattle.lru_sends.specs.declared.refusals.SendRefused.{SendRefused}
-use Rattle.lru_sends.specs.declared.refusals.SendRefused.TheVariants.{Memory, Closed}
+use Rattle.lru_async.specs.declared.sends.Addressed.{Addressed}
+use Rattle.lru_async.specs.declared.sends.Heard.{Heard}
+use Rattle.lru_async.specs.declared.refusals.SendRefused.{SendRefused}
+use Rattle.lru_async.specs.declared.refusals.SendRefused.TheVariants.{Memory, Closed}
 
 module _ {K : Type 0} where
   -- a message for the shard of this hash, among so many

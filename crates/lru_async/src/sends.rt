@@ -2,8 +2,8 @@
 ghost use Rattle.std.specs.Prelude.{◌≡◌, ◌%◌, ◌<◌, Some, IsSome, option_map};
 ghost use Rattle.lru_actors.specs.Keys.{hash_of};
 ghost use Rattle.lru_actors.specs.declared.message.LruMsg.TheVariants.{Admit, IncrementWeight, Promote, Remove, InsertTail};
-ghost use Rattle.lru_sends.specs.Refusals.{held_in, SameCause};
-ghost use Rattle.lru_sends.specs.Sends.{addressed, key_in, IsMailRefusal, refused_by, answered_by, heard_by};
+ghost use Rattle.lru_async.specs.Refusals.{held_in, SameCause};
+ghost use Rattle.lru_async.specs.Sends.{addressed, key_in, IsMailRefusal, refused_by, answered_by, heard_by};
 
 use crate::refusals::SendRefused;
 use lru_actors::effect::Reply;
