@@ -10,10 +10,10 @@ use Rattle.lru_shard.specs.Row.{Row, row, row_of, pair_of, is_held, with_first, 
 use Rattle.lru_shard.specs.Shard.{Shard, shard, Size, size_of, and_row, refusal, MayRefuse, most_rows, is_full, IsShard, Accepts, Declines}
 use Rattle.lru_shard.specs.Unit.{Admits, InsertsTail, SetsWeight, IncrementsWeight, IncrementsRow, UpdatesOrAdmits, UpdatesRow, RefusesNew, weight_at, tailed, grown, raised, started, accessed}
 use Rattle.lru_shard.specs.ShardCalls.{promoted_past}
-use Rattle.lru_journal.specs.declared.entry.Call.{Call}
-use Rattle.lru_journal.specs.declared.entry.Call.TheVariants.{Admit, InsertTail, IncrementWeight, IncrementWeightUpTo, UpdateOrAdmit, SetWeight, Promote, PromoteTopN, EvictShard, EvictToLimit, Remove, Peek, PeekWeight, PeekLru}
-use Rattle.lru_journal.specs.declared.entry.Reply.{Reply}
-use Rattle.lru_journal.specs.declared.entry.Reply.TheVariants.{Flag, Weight, Refused}
+use Rattle.lru_recording.specs.declared.entry.Call.{Call}
+use Rattle.lru_recording.specs.declared.entry.Call.TheVariants.{Admit, InsertTail, IncrementWeight, IncrementWeightUpTo, UpdateOrAdmit, SetWeight, Promote, PromoteTopN, EvictShard, EvictToLimit, Remove, Peek, PeekWeight, PeekLru}
+use Rattle.lru_recording.specs.declared.entry.Reply.{Reply}
+use Rattle.lru_recording.specs.declared.entry.Reply.TheVariants.{Flag, Weight, Refused}
 use Rattle.std.proofs.lemmas.Bool.{cond_both, cases_lt, leb-true}
 use Rattle.lru_shard.proofs.Rows.{weight-cons, length-without-le}
 use Rattle.lru_shard.proofs.Edits.{at_row, weight-without, weight-first, length-first}

@@ -3,17 +3,17 @@ use Rattle.std.proofs.Common.{◌≡◌, ◌⊎◌, ℕ, zero, suc, ◌+◌, ◌
 use Rattle.std.specs.Prelude.{slice_get, option_map}
 use native.Mathlib.Decide.{ℕ_discrete}
 use Rattle.atomic_table.specs.Table.{Me}
-use Rattle.lru_journal.specs.declared.entry.Stamp.{Stamp}
-use Rattle.lru_journal.specs.declared.entry.Hand.{Hand}
-use Rattle.lru_journal.specs.declared.entry.Entry.{Entry}
+use Rattle.lru_recording.specs.declared.entry.Stamp.{Stamp}
+use Rattle.lru_recording.specs.declared.entry.Hand.{Hand}
+use Rattle.lru_recording.specs.declared.entry.Entry.{Entry}
 use Rattle.lru_hands.specs.Hands.{Among, times, total, up}
-use Rattle.lru_journal.specs.Ties.{hand, Shows, joined}
-use Rattle.lru_journal.specs.Stamps.{stamps_in, slips_in}
+use Rattle.lru_recording.specs.Ties.{hand, Shows, joined}
+use Rattle.lru_recording.specs.Stamps.{stamps_in, slips_in}
 use Rattle.lru_hands.proofs.Hands.{among_left, among_right, among_either, among_times, times_up, total_append}
-use Rattle.lru_journal.specs.declared.entry.Receipt.{Receipt}
-use Rattle.lru_journal.specs.Tied.{IsBook, AreTied}
+use Rattle.lru_recording.specs.declared.entry.Receipt.{Receipt}
+use Rattle.lru_recording.specs.Tied.{IsBook, AreTied}
 use Rattle.lru_hands.proofs.Hands.{some_same, none_some}
-use Rattle.lru_journal.proofs.Kept.{get_map, map_get, are_tied}
+use Rattle.lru_recording.proofs.Kept.{get_map, map_get, are_tied}
 use Rattle.lru_recording.specs.Gathered.{empty_in, IsGathered, EachRises}
 
 module _ {A : Type 0} where

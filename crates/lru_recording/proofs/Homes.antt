@@ -12,11 +12,11 @@ use Rattle.lru_shard.proofs.Edits.{times-with_weight, times-without-le}
 use Rattle.lru_shard.proofs.Pulls.{row_key}
 use Rattle.lru_shard.specs.Shards.{AreAtHome}
 use Rattle.lru_shard.specs.ShardCalls.{promoted_past}
-use Rattle.lru_journal.specs.declared.entry.Entry.{Entry}
-use Rattle.lru_journal.specs.declared.entry.Call.{Call}
-use Rattle.lru_journal.specs.declared.entry.Call.TheVariants.{Admit, InsertTail, IncrementWeight, IncrementWeightUpTo, UpdateOrAdmit, SetWeight, Promote, PromoteTopN, EvictShard, EvictToLimit, Remove, Peek, PeekWeight, PeekLru}
-use Rattle.lru_journal.specs.declared.entry.Reply.{Reply}
-use Rattle.lru_journal.specs.declared.entry.Reply.TheVariants.{Flag, Weight, Refused}
+use Rattle.lru_recording.specs.declared.entry.Entry.{Entry}
+use Rattle.lru_recording.specs.declared.entry.Call.{Call}
+use Rattle.lru_recording.specs.declared.entry.Call.TheVariants.{Admit, InsertTail, IncrementWeight, IncrementWeightUpTo, UpdateOrAdmit, SetWeight, Promote, PromoteTopN, EvictShard, EvictToLimit, Remove, Peek, PeekWeight, PeekLru}
+use Rattle.lru_recording.specs.declared.entry.Reply.{Reply}
+use Rattle.lru_recording.specs.declared.entry.Reply.TheVariants.{Flag, Weight, Refused}
 use Rattle.lru_recording.specs.Plain.{Plain, plain, forget, found, step, unless_refused, called}
 use Rattle.lru_recording.specs.Histories.{home, left_by}
 

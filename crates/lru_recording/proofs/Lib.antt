@@ -4,3 +4,8 @@ pub mod Calls
 pub mod Homes
 pub mod Records
 pub mod Gathering
+pub mod Moves
+pub mod Lists
+pub mod Kept
+pub mod Probing
+pub mod Vectors

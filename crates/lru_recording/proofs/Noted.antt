@@ -2,10 +2,10 @@
 use Rattle.std.proofs.Common.{◌≡◌, ℕ, ◌%◌, ◌<◌, List, [], ◌∷◌, ◌++◌, map, Option, Some, None, refl, sym, ap, ◌∙◌, subst}
 use Rattle.lru_shard.specs.Limits.{cap_of}
 use Rattle.lru_hands.proofs.Hands.{map_snoc}
-use Rattle.lru_journal.specs.declared.entry.Entry.{Entry}
-use Rattle.lru_journal.specs.declared.entry.Call.{Call}
-use Rattle.lru_journal.specs.declared.entry.Reply.{Reply}
-use Rattle.lru_journal.specs.Stamps.{entry, and_entry}
+use Rattle.lru_recording.specs.declared.entry.Entry.{Entry}
+use Rattle.lru_recording.specs.declared.entry.Call.{Call}
+use Rattle.lru_recording.specs.declared.entry.Reply.{Reply}
+use Rattle.lru_recording.specs.Stamps.{entry, and_entry}
 use Rattle.lru_shard.specs.Shard.{Shard}
 use Rattle.lru_recording.specs.Plain.{Plain, Step, step, called, forget}
 use Rattle.lru_recording.specs.Histories.{left_by, answers, replies, home}

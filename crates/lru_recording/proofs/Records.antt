@@ -2,8 +2,8 @@
 use Rattle.std.proofs.Common.{◌≡◌, ℕ, zero, suc, ◌+◌, List, [], ◌∷◌, ◌++◌, length, map, refl, sym, ap, ◌∙◌, subst, arith, Some}
 use Rattle.std.specs.Prelude.{slice_get}
 use Rattle.lru_shard.specs.Limits.{cap_of}
-use Rattle.lru_journal.specs.declared.entry.Entry.{Entry}
-use Rattle.lru_journal.specs.declared.entry.Reply.{Reply}
+use Rattle.lru_recording.specs.declared.entry.Entry.{Entry}
+use Rattle.lru_recording.specs.declared.entry.Reply.{Reply}
 use Rattle.lru_hands.proofs.Hands.{some_same, none_some}
 use Rattle.lru_recording.specs.Histories.{replies, answers, home, homes_from, shards_from, IsLegal, AreLegal}
 

@@ -1,12 +1,12 @@
 -- Shards taken out of their locks and put by number, and the token that has their books.
 use Rattle.std.specs.Prelude.{◌≡◌, ℕ, ◌+◌, List, [], ◌∷◌, length, Option, Some, None, slice_get}
 use Rattle.atomic_table.specs.Table.{Me}
-use Rattle.lru_journal.specs.declared.entry.Stamp.{Stamp}
-use Rattle.lru_journal.specs.declared.entry.Hand.{Hand}
-use Rattle.lru_journal.specs.declared.entry.Entry.{Entry}
+use Rattle.lru_recording.specs.declared.entry.Stamp.{Stamp}
+use Rattle.lru_recording.specs.declared.entry.Hand.{Hand}
+use Rattle.lru_recording.specs.declared.entry.Entry.{Entry}
 use Rattle.lru_hands.specs.Hands.{Among}
-use Rattle.lru_journal.specs.Ties.{hand}
-use Rattle.lru_journal.specs.Stamps.{stamps_in, TurnsRise}
+use Rattle.lru_recording.specs.Ties.{hand}
+use Rattle.lru_recording.specs.Stamps.{stamps_in, TurnsRise}
 
 -- how many places are empty
 abbrev pub empty_in : {A : Type 0} → List (Option A) → ℕ

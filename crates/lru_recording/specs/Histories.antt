@@ -2,10 +2,10 @@
 use Rattle.std.specs.Prelude.{Vec}
 use Rattle.std.specs.Prelude.{◌≡◌, ℕ, suc, ◌%◌, ◌<◌, List, [], ◌∷◌, map, Some, slice_get}
 use Rattle.lru_shard.specs.Limits.{cap_of}
-use Rattle.lru_journal.specs.declared.entry.Entry.{Entry}
-use Rattle.lru_journal.specs.declared.entry.Call.{Call}
-use Rattle.lru_journal.specs.declared.entry.Call.TheVariants.{Admit, InsertTail, IncrementWeight, IncrementWeightUpTo, UpdateOrAdmit, SetWeight, Promote, PromoteTopN, EvictShard, EvictToLimit, Remove, Peek, PeekWeight, PeekLru}
-use Rattle.lru_journal.specs.declared.entry.Reply.{Reply}
+use Rattle.lru_recording.specs.declared.entry.Entry.{Entry}
+use Rattle.lru_recording.specs.declared.entry.Call.{Call}
+use Rattle.lru_recording.specs.declared.entry.Call.TheVariants.{Admit, InsertTail, IncrementWeight, IncrementWeightUpTo, UpdateOrAdmit, SetWeight, Promote, PromoteTopN, EvictShard, EvictToLimit, Remove, Peek, PeekWeight, PeekLru}
+use Rattle.lru_recording.specs.declared.entry.Reply.{Reply}
 use Rattle.lru_recording.specs.Plain.{Plain, called}
 
 -- the list at the end of a history

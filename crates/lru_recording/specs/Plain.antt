@@ -5,10 +5,10 @@ use Rattle.lru_shard.specs.Row.{Row, row, row_of, is_held, with_first, without, 
 use Rattle.lru_shard.specs.Shard.{size_of, refusal}
 use Rattle.lru_shard.specs.Unit.{grown, weight_at, tailed, accessed}
 use Rattle.lru_shard.specs.ShardCalls.{promoted_past}
-use Rattle.lru_journal.specs.declared.entry.Call.{Call}
-use Rattle.lru_journal.specs.declared.entry.Call.TheVariants.{Admit, InsertTail, IncrementWeight, IncrementWeightUpTo, UpdateOrAdmit, SetWeight, Promote, PromoteTopN, EvictShard, EvictToLimit, Remove, Peek, PeekWeight, PeekLru}
-use Rattle.lru_journal.specs.declared.entry.Reply.{Reply}
-use Rattle.lru_journal.specs.declared.entry.Reply.TheVariants.{Flag, Weight, Found, NotFound, Refused}
+use Rattle.lru_recording.specs.declared.entry.Call.{Call}
+use Rattle.lru_recording.specs.declared.entry.Call.TheVariants.{Admit, InsertTail, IncrementWeight, IncrementWeightUpTo, UpdateOrAdmit, SetWeight, Promote, PromoteTopN, EvictShard, EvictToLimit, Remove, Peek, PeekWeight, PeekLru}
+use Rattle.lru_recording.specs.declared.entry.Reply.{Reply}
+use Rattle.lru_recording.specs.declared.entry.Reply.TheVariants.{Flag, Weight, Found, NotFound, Refused}
 
 -- a row without data
 abbrev pub Plain : Type 0

@@ -3,10 +3,10 @@ use Rattle.std.specs.Prelude.{◌≡◌, ℕ, Bool, max, Option, Some, None, Res
 use Rattle.lru_shard.specs.declared.unit.Refused.{Refused as Handed}
 use Rattle.lru_shard.specs.declared.unit.Cause.{Cause}
 use Rattle.lru_shard.specs.declared.unit.Cause.TheVariants.{Memory, Weight as Heavy, Length}
-use Rattle.lru_journal.specs.declared.entry.Call.{Call}
-use Rattle.lru_journal.specs.declared.entry.Call.TheVariants.{IncrementWeight, IncrementWeightUpTo}
-use Rattle.lru_journal.specs.declared.entry.Reply.{Reply}
-use Rattle.lru_journal.specs.declared.entry.Reply.TheVariants.{Flag, Weight, Found, NotFound, Refused}
+use Rattle.lru_recording.specs.declared.entry.Call.{Call}
+use Rattle.lru_recording.specs.declared.entry.Call.TheVariants.{IncrementWeight, IncrementWeightUpTo}
+use Rattle.lru_recording.specs.declared.entry.Reply.{Reply}
+use Rattle.lru_recording.specs.declared.entry.Reply.TheVariants.{Flag, Weight, Found, NotFound, Refused}
 
 abbrev pub refused : Cause → Option Reply
 refused Memory = None

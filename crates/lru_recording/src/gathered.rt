@@ -2,17 +2,17 @@
 ghost use Rattle.std.specs.Prelude.{◌≡◌, ◌+◌, ◌<◌, ◌≤◌, [], ◌∷◌, ◌++◌, map, option_map, Some, vec_len, vec_capacity, IfOk};
 ghost use Rattle.lru_shard.specs.Limits.{cap_of};
 ghost use Rattle.lru_shard.specs.Shards.{IsOwn, AreOwn};
-ghost use Rattle.lru_journal.specs.Stamps.{TurnsRise};
-ghost use Rattle.lru_journal.specs.Ties.{hand};
-ghost use Rattle.lru_journal.specs.Tied.{IsBook};
+ghost use Rattle.lru_recording.specs.Stamps.{TurnsRise};
+ghost use Rattle.lru_recording.specs.Ties.{hand};
+ghost use Rattle.lru_recording.specs.Tied.{IsBook};
 ghost use Rattle.lru_recording.specs.Plain.{forget};
 ghost use Rattle.lru_recording.specs.Histories.{left_by, answers, replies, home, lists_of, homes_from, shards_from};
 ghost use Rattle.lru_recording.specs.Gathered.{empty_in, ArePlaced, IsGathered, EachRises};
 
 use crate::recording::Recording;
-use lru_journal::entry::{Entry, Names};
-use lru_journal::journal::Journal;
-use lru_journal::tie::{Registry, Tie, Token};
+use crate::entry::{Entry, Names};
+use crate::journal::Journal;
+use crate::tie::{Registry, Tie, Token};
 use lru_shard::unit::LruUnit;
 use std::alloc::{AllocError, Global};
 use std::sync::Mutex;

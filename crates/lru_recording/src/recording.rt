@@ -5,16 +5,16 @@ ghost use Rattle.lru_shard.specs.Shard.{shard, size_of, refusal};
 ghost use Rattle.lru_shard.specs.Unit.{Updates};
 ghost use Rattle.lru_shard.specs.Limits.{cap_of};
 ghost use Rattle.lru_shard.specs.ShardCalls.{promoted_past};
-ghost use Rattle.lru_journal.specs.Stamps.{GetsReceipt};
-ghost use Rattle.lru_journal.specs.Ties.{hand};
+ghost use Rattle.lru_recording.specs.Stamps.{GetsReceipt};
+ghost use Rattle.lru_recording.specs.Ties.{hand};
 ghost use Rattle.lru_recording.specs.Plain.{forget};
 ghost use Rattle.lru_recording.specs.Histories.{left_by, answers, replies, home, IsEviction};
 ghost use Rattle.lru_recording.specs.Replies.{refused, weighed, paired, increments, IsGiven, IsMade};
 
 use crate::replies::{admitted, incremented, inserted, new_weight, paired, refused, set, weighed};
-use lru_journal::entry::{Call, Reply};
-use lru_journal::journal::{Journal, Seat};
-use lru_journal::tie::{Registry, Tie, Token};
+use crate::entry::{Call, Reply};
+use crate::journal::{Journal, Seat};
+use crate::tie::{Registry, Tie, Token};
 use lru_shard::unit::{Cause, LruUnit, Refused};
 use std::alloc::{AllocError, Global};
 

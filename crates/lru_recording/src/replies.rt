@@ -2,7 +2,7 @@
 ghost use Rattle.std.specs.Prelude.{◌≡◌};
 ghost use Rattle.lru_recording.specs.Replies.{refused, weighed, admitted, inserted, new_weight, incremented, paired, set};
 
-use lru_journal::entry::Reply;
+use crate::entry::Reply;
 use lru_shard::unit::{Cause, Refused};
 
 /// What is noted of a refusal: nothing where memory was wanting.

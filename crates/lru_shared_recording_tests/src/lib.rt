@@ -1,4 +1,4 @@
-//! Tests of `lru_shared_recording`: its worked rows, drawn calls by four threads, and a plain checker of what they leave.
+//! Tests of `lru_recording`: its worked rows, drawn calls by four threads, and a plain checker of what they leave.
 //!
 //! What is expected is worked out by hand, or is what a plain simulation answers, and never what the program answered.
 #![tactic(auto)]

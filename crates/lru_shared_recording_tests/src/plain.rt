@@ -1,11 +1,11 @@
 //! A plain checker of histories and receipts.
 ghost use Rattle.std.specs.Prelude.{◌≡◌, vec_len};
 
-use lru_journal::entry::{Call, Entry, Reply};
-use lru_journal::journal::Seat;
-use lru_journal::tie::Registry;
+use lru_recording::entry::{Call, Entry, Reply};
+use lru_recording::journal::Seat;
+use lru_recording::tie::Registry;
 use lru_shard::unit::LruUnit;
-use lru_shared_recording::recorded::{Recorded, RecordedLru};
+use lru_recording::recorded::{Recorded, RecordedLru};
 use std::alloc::{AllocError, Global};
 
 // A list of keys and weights, most recent first.

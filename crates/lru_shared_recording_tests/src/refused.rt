@@ -2,12 +2,12 @@
 ghost use Rattle.std.specs.Prelude.{◌≡◌};
 
 use crate::plain::finished;
-use lru_journal::entry::{Call, Entry, Names, Receipt, Reply};
-use lru_journal::journal::{Journal, Seat};
-use lru_journal::tie::{Blank, Registry};
+use lru_recording::entry::{Call, Entry, Names, Receipt, Reply};
+use lru_recording::journal::{Journal, Seat};
+use lru_recording::tie::{Blank, Registry};
 use lru_recording::recording::Recording;
 use lru_shard::unit::{Cause, Refused};
-use lru_shared_recording::recorded::RecordedLru;
+use lru_recording::recorded::RecordedLru;
 use std::alloc::{AllocError, Global};
 use std::marker::Brand;
 use std::sync::Wait;

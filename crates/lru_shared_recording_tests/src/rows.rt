@@ -3,10 +3,10 @@ ghost use Rattle.std.specs.Prelude.{◌≡◌};
 
 use crate::asked::{Answer, ask};
 use crate::plain::{finished, is_right};
-use lru_journal::entry::{Call, Entry, Names, Reply};
-use lru_journal::tie::{Blank, Registry};
+use lru_recording::entry::{Call, Entry, Names, Reply};
+use lru_recording::tie::{Blank, Registry};
 use lru_shard::unit::Cause;
-use lru_shared_recording::recorded::RecordedLru;
+use lru_recording::recorded::RecordedLru;
 use rand::rngs::StdRng;
 use rand_core::SeedableRng;
 use std::alloc::{AllocError, Global};

@@ -3,11 +3,11 @@ ghost use Rattle.std.specs.Prelude.{◌≡◌};
 
 use crate::asked::{Answer, ask};
 use crate::plain::{finished, is_right};
-use lru_journal::entry::{Call, Names, Reply};
-use lru_journal::journal::Seat;
-use lru_journal::tie::{Blank, Registry};
+use lru_recording::entry::{Call, Names, Reply};
+use lru_recording::journal::Seat;
+use lru_recording::tie::{Blank, Registry};
 use lru_shard::unit::Cause;
-use lru_shared_recording::recorded::{Recorded, RecordedLru};
+use lru_recording::recorded::{Recorded, RecordedLru};
 use rand::RngExt;
 use rand::rngs::StdRng;
 use rand_core::SeedableRng;

@@ -2,7 +2,7 @@
 ghost use Rattle.std.specs.Prelude.{◌≡◌};
 
 use lru_shard::unit::{Cause, Refused};
-use lru_shared_recording::recorded::{Blank, Names, Recorded, RecordedLru, Registry, Seat};
+use lru_recording::recorded::{Blank, Names, Recorded, RecordedLru, Registry, Seat};
 use rand::rngs::StdRng;
 use rand_core::SeedableRng;
 use std::alloc::{AllocError, Global};

@@ -29,8 +29,8 @@ pub mod lru_core {
 
 /// N shards for many threads, each of which keeps the history of its calls, with a receipt for each call.
 pub mod recorded {
-    pub use lru_journal::entry::{Call, Entry, Names, Receipt, Reply};
-    pub use lru_journal::journal::Seat;
-    pub use lru_journal::tie::{Blank, Registry};
-    pub use lru_shared_recording::recorded::{Recorded, RecordedLru};
+    pub use lru_recording::entry::{Call, Entry, Names, Receipt, Reply};
+    pub use lru_recording::journal::Seat;
+    pub use lru_recording::tie::{Blank, Registry};
+    pub use lru_recording::recorded::{Recorded, RecordedLru};
 }

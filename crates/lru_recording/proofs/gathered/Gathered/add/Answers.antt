@@ -2,9 +2,9 @@ use Rattle.std.proofs.Common.{◌≡◌, ◌⊎◌, ◌+◌, [], ◌∷◌, ◌+
 use Rattle.std.specs.Prelude.{slice_get}
 use Rattle.lru_shard.specs.Limits.{cap_of}
 use Rattle.lru_shard.specs.Shards.{IsOwn}
-use Rattle.lru_journal.specs.declared.entry.Entry.{Entry}
-use Rattle.lru_journal.specs.Stamps.{TurnsRise}
-use Rattle.lru_journal.proofs.Lists.{get_snoc}
+use Rattle.lru_recording.specs.declared.entry.Entry.{Entry}
+use Rattle.lru_recording.specs.Stamps.{TurnsRise}
+use Rattle.lru_recording.proofs.Lists.{get_snoc}
 use Rattle.lru_recording.specs.Plain.{forget}
 use Rattle.lru_recording.specs.Histories.{lists_of, left_by, replies, answers, home, homes_from, shards_from}
 use Rattle.lru_hands.proofs.Hands.{map_snoc}

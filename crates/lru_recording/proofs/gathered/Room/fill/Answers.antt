@@ -1,6 +1,6 @@
 use Rattle.std.proofs.Common.{◌≡◌, ◌∙◌, map, length, Some, List, sym, ap, rules, lit<}
 use Rattle.std.specs.Prelude.{option_map}
-use Rattle.lru_journal.specs.declared.entry.Entry.{Entry}
+use Rattle.lru_recording.specs.declared.entry.Entry.{Entry}
 use Rattle.lru_recording.specs.Histories.{lists_of}
 use Rattle.lru_recording.proofs.Gathering.{starts, is_book, map_twice}
 use Rattle.lru_recording.proofs.gathered.Room.fill.Goals as goal

@@ -1,6 +1,6 @@
 use Rattle.std.proofs.Common.{◌≡◌, ◌∙◌, max, subst}
 use Rattle.lru_shard.specs.Unit.{Admits}
-use Rattle.lru_journal.specs.declared.entry.Call.TheVariants.{Admit}
+use Rattle.lru_recording.specs.declared.entry.Call.TheVariants.{Admit}
 use Rattle.lru_shard.proofs.EditsOf.{edits_admit}
 use Rattle.lru_recording.proofs.Noted.{keeps}
 use Rattle.lru_recording.proofs.Calls.{stands_admit}

@@ -1,7 +1,7 @@
 use Rattle.std.proofs.Common.{◌≡◌, ◌∙◌, max, refl, ap, sym, subst}
 use Rattle.std.specs.Prelude.{Some}
 use Rattle.lru_shard.specs.Shard.{Shard}
-use Rattle.lru_journal.specs.declared.entry.Call.TheVariants.{InsertTail}
+use Rattle.lru_recording.specs.declared.entry.Call.TheVariants.{InsertTail}
 use Rattle.lru_shard.proofs.EditsOf.{edits_tail}
 use Rattle.lru_recording.proofs.Calls.{stands_insert}
 use Rattle.lru_recording.proofs.Noted.{keeps}

@@ -1,7 +1,7 @@
 use Rattle.std.proofs.Common.{◌≡◌, ◌∙◌, max, refl, ap, sym, subst}
 use Rattle.std.specs.Prelude.{Some}
 use Rattle.lru_shard.specs.Shard.{Shard}
-use Rattle.lru_journal.specs.declared.entry.Call.TheVariants.{PeekLru}
+use Rattle.lru_recording.specs.declared.entry.Call.TheVariants.{PeekLru}
 use Rattle.lru_recording.specs.Replies.{paired}
 use Rattle.lru_recording.proofs.Calls.{stands_last}
 use Rattle.lru_recording.proofs.Noted.{keeps}

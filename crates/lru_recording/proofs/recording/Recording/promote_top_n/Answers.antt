@@ -1,8 +1,8 @@
 use Rattle.std.proofs.Common.{◌≡◌, ◌∙◌, max, refl, ap, sym, subst}
 use Rattle.std.specs.Prelude.{Some}
 use Rattle.lru_shard.specs.Shard.{Shard}
-use Rattle.lru_journal.specs.declared.entry.Call.TheVariants.{PromoteTopN}
-use Rattle.lru_journal.specs.declared.entry.Reply.TheVariants.{Flag}
+use Rattle.lru_recording.specs.declared.entry.Call.TheVariants.{PromoteTopN}
+use Rattle.lru_recording.specs.declared.entry.Reply.TheVariants.{Flag}
 use Rattle.lru_recording.proofs.Calls.{stands_top}
 use Rattle.lru_recording.proofs.Noted.{keeps}
 use Rattle.lru_recording.proofs.recording.Recording.promote_top_n.Goals as goal

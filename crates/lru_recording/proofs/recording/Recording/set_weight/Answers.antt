@@ -2,7 +2,7 @@ use Rattle.std.proofs.Common.{◌≡◌, ◌∙◌, max, refl, ap, sym, subst}
 use Rattle.std.specs.Prelude.{Some}
 use Rattle.lru_shard.specs.Shard.{Shard}
 use Rattle.lru_shard.specs.Unit.{SetsWeight}
-use Rattle.lru_journal.specs.declared.entry.Call.TheVariants.{SetWeight}
+use Rattle.lru_recording.specs.declared.entry.Call.TheVariants.{SetWeight}
 use Rattle.lru_shard.proofs.EditsOf.{edits_set}
 use Rattle.lru_recording.proofs.Calls.{stands_set}
 use Rattle.lru_recording.proofs.Noted.{keeps}

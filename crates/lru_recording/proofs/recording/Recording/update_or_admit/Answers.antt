@@ -1,7 +1,7 @@
 use Rattle.std.proofs.Common.{◌≡◌, ◌∙◌, ℕ, [], ◌∷◌, ◌++◌, length, refl, ap, sym, subst}
 use Rattle.std.specs.Prelude.{Some, None, Ok, Err}
-use Rattle.lru_journal.specs.Stamps.{receipt, and_receipt}
-use Rattle.lru_journal.specs.declared.entry.Call.TheVariants.{UpdateOrAdmit}
+use Rattle.lru_recording.specs.Stamps.{receipt, and_receipt}
+use Rattle.lru_recording.specs.declared.entry.Call.TheVariants.{UpdateOrAdmit}
 use Rattle.lru_recording.specs.Replies.{refused}
 use Rattle.lru_shard.proofs.EditsOf.{edits_update}
 use Rattle.lru_recording.proofs.Calls.{stands_update, stands_refused, given_of, made_of, same_update}

@@ -1,3 +1,0 @@
-pub mod Ties
-pub mod Stamps
-pub mod Tied

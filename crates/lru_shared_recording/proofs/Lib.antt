@@ -1,2 +1,0 @@
-pub mod Probing
-pub mod Vectors
