@@ -9,15 +9,15 @@ ghost use Rattle.lru_async.specs.Orders.{limits_of, limits_told, HasWorkers};
 
 use crate::async_lru::AsyncLru;
 use crate::builder::{AsyncLruBuilder, Settings};
+use crate::cells::cell_and_clone;
 use crate::receiver::EvictionReceiver;
+use crate::refusals::BuildError;
 use crate::threads::{Placed, start_actor, start_callback_worker, start_eviction_worker};
 use lru_actors::message::LruMsg;
+use lru_desks::{PutSeat, Registry, TakeSeat};
 use lru_inbox::Taker;
 use lru_logs::tie::Archive;
 use lru_logs::voice::Voice;
-use crate::cells::cell_and_clone;
-use crate::refusals::BuildError;
-use lru_desks::{PutSeat, Registry, TakeSeat};
 use lru_world::actor::Actor;
 use lru_world::callback::{AsyncEvictionCallback, Gate};
 use lru_world::outlet::Outlet;

@@ -1,8 +1,8 @@
 //! A least-recently-used order served by actors: one thread for each shard, threads that ask for evictions, and threads
 //! that call back for each evicted pair.
 //!
-//! What a call sends, and where, is written over a `Line` (`lru_async`), whose clauses say it; the threads run the loops of
-//! `lru_world`. What threads do together is only tested.
+//! What a call sends, where, and what an answer or a refusal tells, is written over a `Line` as functions over values, whose clauses
+//! say it of any line; the threads run the loops of `lru_world`. What threads do together is only tested.
 #![tactic(auto)]
 
 pub mod async_lru;

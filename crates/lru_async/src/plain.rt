@@ -3,14 +3,14 @@ ghost use Rattle.std.specs.Prelude.{◌≡◌, ◌<◌, OnOk, IfOk, IfErr};
 ghost use Rattle.lru_async.specs.Refusals.{held_in};
 
 use crate::async_lru::AsyncLru;
-use lru_actors::message::LruMsg;
-use lru_actors::Letter;
-use lru_logs::tie::Archive;
 use crate::cells::cell_of_question;
 use crate::line::Line;
 use crate::refusals::SendRefused;
 use crate::sends::{Addressed, Heard, heard_in, refusal_of};
+use lru_actors::Letter;
+use lru_actors::message::LruMsg;
 use lru_desks::Registry;
+use lru_logs::tie::Archive;
 use std::sync::Wait;
 
 /// The line to the actors of an order without logs. What a call does behind a lock is known nowhere, so it says nothing of it.

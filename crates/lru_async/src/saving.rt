@@ -6,8 +6,8 @@ ghost use Rattle.lru_actors.specs.declared.effect.Reply.TheVariants.{Rows};
 ghost use Rattle.lru_async.specs.Saving.{IsReport};
 
 use crate::async_lru::ShardData;
-use log::{Log, error};
 use crate::line::{Line, counted_snapshot};
+use log::{Log, error};
 
 /// What a save did with the shards. Each is counted once.
 #[derive(Clone, Copy, Debug, PartialEq, Eq)]

@@ -6,11 +6,11 @@ ghost use Rattle.lru_async.specs.Refusals.{held_in, SameCause};
 ghost use Rattle.lru_async.specs.Sends.{addressed, key_in, IsMailRefusal, refused_by, answered_by, heard_by};
 
 use crate::refusals::SendRefused;
+use lru_actors::Letter;
 use lru_actors::effect::Reply;
 use lru_actors::key::hash_key;
 use lru_actors::message::LruMsg;
 use lru_inbox::Told;
-use lru_actors::Letter;
 use lru_logs::tie::Archive;
 use lru_mailbox::MailError;
 use std::hash::Hash;

@@ -4,10 +4,10 @@
 ghost use Rattle.std.specs.Prelude.{◌≡◌, ◌<◌, vec_len};
 ghost use Rattle.std.specs.Arc.{arc_value};
 
-use lru_actors::ReplyCell;
-use lru_logs::tie::Archive;
 use crate::refusals::BuildError;
+use lru_actors::ReplyCell;
 use lru_desks::{PutSeat, Registry, TakeSeat};
+use lru_logs::tie::Archive;
 use lru_world::actor::Actor;
 use lru_world::callback::{AsyncEvictionCallback, Gate};
 use lru_world::workers::{call_back, evict};

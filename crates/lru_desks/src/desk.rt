@@ -7,8 +7,7 @@ ghost use Rattle.lru_desks.specs.Ties.{hand, of_desk, known};
 
 use crate::seats::{PutSeat, TakeSeat, put_seats, take_seats};
 use crate::tie::{Blank, Blanks, Registry, Tie, Token};
-use lru_mailbox::{LedgerState, Settled, Slip};
-use lru_mailbox::MailError;
+use lru_mailbox::{LedgerState, MailError, Settled, Slip};
 use std::alloc::{AllocError, Global};
 use std::marker::{Model, PhantomData};
 

@@ -8,8 +8,7 @@ ghost use Rattle.lru_desks.specs.Putting.{PutsSlip, TakesSlip};
 use crate::desk::Desk;
 use crate::seats::{PutSeat, TakeSeat};
 use crate::tie::{Blanks, Registry};
-use lru_mailbox::{Settled, Slip};
-use lru_mailbox::MailError;
+use lru_mailbox::{MailError, Settled, Slip};
 use std::alloc::{AllocError, Global};
 use std::sync::{Condvar, Mutex, MutexGuard, Wait};
 

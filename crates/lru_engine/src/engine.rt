@@ -8,13 +8,13 @@ ghost use Rattle.lru_engine.specs.Settings.{settings_of};
 ghost use Rattle.lru_engine.specs.Replies.{usage_text, error_line_text};
 ghost use Rattle.lru_engine.specs.Program.{fresh, memory_text, input_text, WritesFor, Runs, GivesUp};
 
-use log::Log;
 use crate::command::command_from;
-use crate::settings::{Settings, settings_from};
-use lru_lines::parts::first_line;
 use crate::replies::answer;
+use crate::settings::{Settings, settings_from};
+use log::Log;
 use lru_lines::input::{Input, InputError};
 use lru_lines::output::Output;
+use lru_lines::parts::first_line;
 use lru_lines::pieces::{Piece, write_pieces};
 use pingora_lru::lru_core::LruCore;
 use pingora_lru_files::persistence::Folder;

@@ -4,8 +4,8 @@ ghost use Rattle.std.specs.Io.KnownBytes.{Appends};
 ghost use Rattle.lru_engine.specs.Replies.{WritesReply, line, cause_text, refused_text, flag_text, weight_text, row_text, pair_text, rows_text, cut_short_text, reply_text, saved_text, save_text, load_text};
 ghost use Rattle.lru_engine.specs.Commands.{asked, IsPossible};
 
-use log::Log;
 use crate::command::Command;
+use log::Log;
 use lru_lines::output::Output;
 use lru_lines::pieces::{Piece, write_pieces};
 use pingora_lru::calls;

@@ -8,8 +8,8 @@ ghost use Rattle.lru_inbox.specs.Inboxes.{IsInbox, messages_of, log_in, taken_in
 use crate::caller::Caller;
 use crate::taker::Taker;
 use crate::told::Told;
-use lru_actors::message::LruMsg;
 use lru_actors::Letter;
+use lru_actors::message::LruMsg;
 use lru_logs::tie::Archive;
 use lru_logs::voice::Voice;
 use lru_mailbox::{MailError, MailState};

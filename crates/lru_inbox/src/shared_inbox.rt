@@ -7,13 +7,12 @@ ghost use Rattle.lru_inbox.specs.Inboxes.{Sends, taken_in};
 ghost use Rattle.lru_mailbox.specs.Sending.{HandsBack};
 ghost use Rattle.lru_inbox.specs.Taking.{IsHandedBack, Takes};
 
-use lru_actors::message::LruMsg;
 use crate::{Caller, Inbox, Taker, Told};
 use lru_actors::Letter;
+use lru_actors::message::LruMsg;
 use lru_logs::tie::Archive;
 use lru_logs::voice::Voice;
-use lru_mailbox::MailError;
-use lru_mailbox::{Queued, Shared};
+use lru_mailbox::{MailError, Queued, Shared};
 use std::alloc::{AllocError, Global};
 use std::collections::VecDeque;
 use std::sync::{MutexGuard, Wait};

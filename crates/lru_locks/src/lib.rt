@@ -1,7 +1,8 @@
-//! N shards for many threads, each behind a lock of its own.
+//! N shards for many threads, each behind a lock of its own, and batches of admissions to them.
 //!
 //! It holds the order `Lru`. What a call does under a lock is proved as of a core's shard; how threads interleave is only
-//! tested. It stands on one shard (`lru_shard`), short locks (`lru_short_locks`) and batches (`lru_locks`).
+//! tested. Each admission of a batch is answered in its own place. It stands on one shard (`lru_shard`) and on short locks
+//! (`lru_short_locks`).
 #![tactic(auto)]
 
 mod admission;
@@ -10,3 +11,6 @@ mod locked;
 pub mod look;
 pub mod lru;
 mod shed;
+
+pub use admission::{Admission, Fate};
+pub use admitting::admit_each;

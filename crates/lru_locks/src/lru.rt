@@ -4,11 +4,11 @@ ghost use Rattle.std.specs.Sync.Mutex.{mutex_guard_value};
 ghost use Rattle.lru_shard.specs.Limits.{cap_of};
 ghost use Rattle.lru_shard.specs.Shards.{IsOwn, AreOwn};
 
+use crate::Admission;
 use crate::locked::Locked;
 use crate::look::Look;
 use crate::shed::Room;
 use crossbeam_utils::CachePadded;
-use crate::Admission;
 use lru_index::hashing::SeededHashes;
 use lru_shard::counters::{growth, shift};
 use lru_shard::eviction::{EvictError, Readings, drawn_shards, longer_of, shard_after};

@@ -4,9 +4,9 @@ ghost use Rattle.std.specs.VecDeque.{deque_len, deque_capacity};
 ghost use Rattle.lru_mailbox.specs.Ledger.{slips_of};
 ghost use Rattle.lru_mailbox.specs.Slips.{slips_in, lists_of, AreFresh};
 
+use crate::MailError;
 use crate::shares::{PutShare, SideShare, TakeShare};
 use crate::slip::Slip;
-use crate::MailError;
 use std::alloc::{AllocError, Global};
 use std::collections::VecDeque;
 use std::marker::Model;

@@ -9,9 +9,9 @@ ghost use Rattle.lru_recording.specs.Plain.{forget};
 ghost use Rattle.lru_recording.specs.Histories.{left_by, answers, replies, home, lists_of, homes_from, shards_from};
 ghost use Rattle.lru_recording.specs.Gathered.{empty_in, ArePlaced, IsGathered, EachRises};
 
-use crate::recording::Recording;
 use crate::entry::{Entry, Names};
 use crate::journal::Journal;
+use crate::recording::Recording;
 use crate::tie::{Registry, Tie, Token};
 use lru_shard::unit::LruUnit;
 use std::alloc::{AllocError, Global};

@@ -1,8 +1,8 @@
-//! One shard whose calls are recorded: each is made, and noted in a history that one thread could have made. And the
-//! shards with their histories, gathered at the end.
+//! A sharded order that records: each shard's calls are one legal history, and each answer comes with a receipt.
 //!
-//! The history is legal: its calls have the replies of a plain list, and its end has the shard's rows. It stands on one shard
-//! (`lru_shard`) and on journals (`lru_recording`).
+//! It holds the order `RecordedLru`. A history is legal: its calls have the replies of a plain list, and its end has the shard's rows.
+//! Each receipt is an entry of its shard's journal, and each entry has its receipt. It stands on one shard (`lru_shard`), and on the
+//! table of `atomic_table` by the words of `lru_hands`.
 #![tactic(auto)]
 
 pub mod entry;

@@ -15,12 +15,12 @@ ghost use Rattle.lru_recording.specs.Replies.{refused, weighed, paired, incremen
 ghost use Rattle.lru_shard.specs.Unit.{Updates};
 
 pub use crate::entry::{Call, Entry, Names, Receipt, Reply};
+use crate::gathered::{Gathered, Room};
 pub use crate::journal::Seat;
 use crate::journal::compare_all;
+use crate::recording::Recording;
 pub use crate::tie::{Blank, Registry};
 use crate::tie::{Tie, Token};
-use crate::gathered::{Gathered, Room};
-use crate::recording::Recording;
 use lru_shard::counters::shift;
 use lru_shard::eviction::{EvictError, Readings, drawn_shards, longer_of, shard_after};
 use lru_shard::totals::{Totals, Units};

@@ -11,9 +11,9 @@ ghost use Rattle.lru_recording.specs.Plain.{forget};
 ghost use Rattle.lru_recording.specs.Histories.{left_by, answers, replies, home, IsEviction};
 ghost use Rattle.lru_recording.specs.Replies.{refused, weighed, paired, increments, IsGiven, IsMade};
 
-use crate::replies::{admitted, incremented, inserted, new_weight, paired, refused, set, weighed};
 use crate::entry::{Call, Reply};
 use crate::journal::{Journal, Seat};
+use crate::replies::{admitted, incremented, inserted, new_weight, paired, refused, set, weighed};
 use crate::tie::{Registry, Tie, Token};
 use lru_shard::unit::{Cause, LruUnit, Refused};
 use std::alloc::{AllocError, Global};

@@ -2,9 +2,8 @@
 ghost use Rattle.std.specs.Prelude.{◌≡◌};
 ghost use Rattle.lru_world.specs.Outlets.{is_ledger, taken_by_pair, taken_by_slip, pair_in};
 
-use lru_mailbox::Slip;
 use lru_desks::{LedgerBox, Registry, TakeSeat};
-use lru_mailbox::Mailbox;
+use lru_mailbox::{Mailbox, Slip};
 use std::alloc::{AllocError, Global};
 use std::marker::Brand;
 use std::sync::{Arc, Wait};

@@ -7,13 +7,13 @@ ghost use Rattle.lru_snapshot.specs.SnapshotLoads.{LoadsShard};
 ghost use Rattle.lru_snapshot.specs.SnapshotSaves.{AreBytesOf, HoldCore};
 ghost use Rattle.lru_snapshot.specs.Stores.{AreLoaded, AreSaved, HasNoRows, LoadsAllHeld, LoadsCore, Restores, SavesCore, TellAllKeys, TellsLoadMemory, TellsMemory};
 
+use crate::loading::load_shards;
+use crate::save_shards::save_shards;
 use crate::snapshot::{Keyed, LoadError, load_shard, shard_bytes};
 use log::Log;
 use lru_folder::errors::ShardSaveError;
 use lru_folder::folder::Folder;
 use lru_folder::reports::{ShardLoadReport, ShardSaveReport};
-use crate::loading::load_shards;
-use crate::save_shards::save_shards;
 use pingora_lru::lru_core::LruCore;
 use rand_core::Rng;
 use std::alloc::{AllocError, Global};
