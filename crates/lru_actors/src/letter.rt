@@ -1,8 +1,8 @@
 //! A message with its cell.
 ghost use Rattle.std.specs.Prelude.{◌≡◌, Some, None};
 
+use crate::message::LruMsg;
 use crate::reply_cell::ReplyCell;
-use lru_actors::message::LruMsg;
 use std::alloc::Global;
 use std::sync::Arc;
 

@@ -1,5 +1,5 @@
 //! A queue behind a lock, for those who put and those who wait for something to take.
-use lru_mailbox::MailState;
+use crate::MailState;
 use std::sync::{Condvar, Mutex, MutexGuard, Wait};
 use std::thread;
 

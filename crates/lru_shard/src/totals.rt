@@ -3,7 +3,7 @@ ghost use Rattle.std.specs.Prelude.{◌≡◌, ◌+◌, ◌-◌, ◌^◌, ◌<�
 ghost use Rattle.lru_shard.specs.Row.{weight_of};
 ghost use Rattle.lru_shard.specs.Shard.{IsShard};
 
-use lru_shard::unit::LruUnit;
+use crate::unit::LruUnit;
 use std::hash::BuildHasher;
 
 /// What a sharded order that threads shared leaves.
