@@ -79,42 +79,65 @@ static STEPS: [(&str, u32, &str); 12] = [
     ("b", 5, "was 2 0"),
 ];
 
-fn wrong_cache(alloc: Global) -> Result<String, AllocError> {
-    let mut cache = AskingCache::with_seed(alloc, 2, 2, 1000, 7)?;
+// How a step goes; a use tells nothing.
+fn step_of(
+    alloc: Global,
+    cache: &mut AskingCache<String, u32>,
+    key: &str,
+    value: u32,
+) -> Result<String, AllocError> {
+    if value == 0 {
+        let _is_there = cache.promote(&text(alloc, key)?);
+        return Ok(String::new(alloc));
+    }
+    put_of(alloc, cache, key, value)
+}
+
+// The first step that goes otherwise than it should; empty where none does.
+fn wrong_step(alloc: Global, cache: &mut AskingCache<String, u32>) -> Result<String, AllocError> {
     for (key, value, wanted) in &STEPS {
-        if *value == 0 {
-            let _is_there = cache.promote(&text(alloc, key)?);
-            continue;
-        }
-        let told = put_of(alloc, &mut cache, key, *value)?;
+        let told = step_of(alloc, cache, key, *value)?;
         if told.as_str() != *wanted {
             return format!(in alloc; "{key} {value}: {told}");
         }
     }
-    let (b, c) = (text(alloc, "b")?, text(alloc, "c")?);
-    if cache.estimate(&c) != 3 || cache.cache().peek(&b) != Some(&5) || cache.cache().len() != 2 {
-        return format!(in alloc; "at the end");
-    }
-    if cache.update(&c, |value, weight| weight.wrapping_add(*value as usize)) != Some(4) {
-        return format!(in alloc; "an update");
-    }
-    let last = cache.pop_last().is_some_and(|entry| entry.value == 5);
-    if !last || cache.remove(&c).is_none() || cache.remove(&b).is_some() {
-        return format!(in alloc; "what is taken out");
-    }
-    let _put = put_of(alloc, &mut cache, "e", 6)?;
+    Ok(String::new(alloc))
+}
+
+// Whether b and c stand there as the steps leave them.
+fn are_left(cache: &AskingCache<String, u32>, b: &String, c: &String) -> bool {
+    cache.estimate(c) == 3 && cache.cache().peek(b) == Some(&5) && cache.cache().len() == 2
+}
+
+// Whether c is used, b goes last, and then c, once.
+fn are_taken(cache: &mut AskingCache<String, u32>, b: &String, c: &String) -> bool {
+    let used = cache.update(c, |value, weight| weight.wrapping_add(*value as usize));
+    let last = cache.pop_last().map(|entry| entry.value);
+    used == Some(4) && last == Some(5) && cache.remove(c).is_some() && cache.remove(b).is_none()
+}
+
+// Whether nothing is left, and what the limit is.
+fn is_cleared(cache: &mut AskingCache<String, u32>) -> bool {
     cache.set_limits(1, 1, |_gone| {});
     cache.clear(|_gone| {});
-    if !cache.cache().is_empty() || cache.cache().most_entries() != 1 {
-        return format!(in alloc; "limits");
-    }
-    Ok(String::new(alloc))
+    cache.cache().is_empty() && cache.cache().most_entries() == 1
+}
+
+fn told_of_cache(alloc: Global) -> Result<String, AllocError> {
+    let mut cache = AskingCache::with_seed(alloc, 2, 2, 1000, 7)?;
+    let wrong = wrong_step(alloc, &mut cache)?;
+    let (b, c) = (text(alloc, "b")?, text(alloc, "c")?);
+    let left = are_left(&cache, &b, &c);
+    let taken = are_taken(&mut cache, &b, &c);
+    let put = put_of(alloc, &mut cache, "e", 6)?;
+    let cleared = is_cleared(&mut cache);
+    format!(in alloc; "{wrong}{left} {taken} {put} {cleared}")
 }
 
 #[test]
 fn uses_are_counted_and_asked_after(rt: HostRuntime) -> Result<(), Fail> {
-    let mut wrong = wrong_sketch(rt.alloc())?;
-    wrong.push_str(&wrong_cache(rt.alloc())?)?;
-    assert_eq!(rt; wrong.as_str(), "");
+    let mut told = wrong_sketch(rt.alloc())?;
+    told.push_str(&told_of_cache(rt.alloc())?)?;
+    assert_eq!(rt; told.as_str(), "true true put 0 true");
     Ok(())
 }
