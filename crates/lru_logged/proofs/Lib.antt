@@ -1,1 +1,2 @@
 pub mod Logged
+mod Ends

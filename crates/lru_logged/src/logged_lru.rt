@@ -12,22 +12,22 @@ ghost use Rattle.lru_async.specs.Saving.{IsReport, IsWritten};
 ghost use Rattle.lru_logged.specs.Logged.{fronts_of, Found, Grew, IsRows, Learned, Looked, SeesMore};
 
 use log::Log;
+use lru_actors::Letter;
 use lru_actors::effect::Reply;
 use lru_actors::key::hash_key;
 use lru_actors::message::LruMsg;
 use lru_async::async_lru::{AsyncLru, ShardData};
 use lru_async::builder::AsyncLruBuilder;
-use lru_async::saving::SaveReport;
-use lru_inbox::Caller;
-use lru_actors::Letter;
-use lru_logs::tie::{Archive, Blank};
 use lru_async::cells::cell_of_question;
 use lru_async::refusals::{BuildError, SendRefused};
+use lru_async::saving::SaveReport;
 use lru_async::sends::{
     Addressed, admission, answer_of, increment, key_back, promotion, refusal_of, removal, shard_of,
     tail_row,
 };
 use lru_desks::Registry;
+use lru_inbox::Caller;
+use lru_logs::tie::{Archive, Blank};
 use lru_world::callback::{AsyncEvictionCallback, Gate};
 use std::alloc::AllocError;
 use std::hash::Hash;

@@ -1,15 +1,15 @@
 //! An order whose history is accounted for.
 ghost use Rattle.std.specs.Prelude.{◌≡◌};
 
-use lru_accounts::{Account, build_accounted};
 use lru_actors::key::hash_key;
 use lru_actors::message::LruMsg;
 use lru_async::async_lru::AsyncLru;
-use lru_inbox::Caller;
-use lru_mailbox::Slip;
-use lru_logged::logged_lru::LoggedLru;
-use lru_logs::tie::{Archive, Blank};
 use lru_desks::{Blanks, Registry};
+use lru_inbox::Caller;
+use lru_logged::logged_lru::LoggedLru;
+use lru_logged::{Account, build_accounted};
+use lru_logs::tie::{Archive, Blank};
+use lru_mailbox::Slip;
 use lru_world::callback::AsyncEvictionCallback;
 use std::alloc::Global;
 use std::collections::VecDeque;

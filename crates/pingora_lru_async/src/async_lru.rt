@@ -30,7 +30,7 @@ pub use lru_mailbox::{Dispatch, Putter};
 /// Who calls an order with logs; and the law that an answer is exact where no message was refused.
 pub use lru_inbox::{Caller, exact_law};
 /// One whose whole history is accounted for once it is closed, how it is made, and what it came to.
-pub use lru_accounts::{Account, AccountedLru, build_accounted};
+pub use lru_logged::{Account, AccountedLru, build_accounted};
 /// What a shard came to, with its log.
 pub use lru_world::ShardEnd;
 /// One that keeps logs.

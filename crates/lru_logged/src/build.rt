@@ -2,14 +2,14 @@
 ghost use Rattle.std.specs.Prelude.{◌≡◌, ◌<◌, IfOk};
 ghost use Rattle.std.specs.Arc.{arc_value};
 ghost use Rattle.lru_async.specs.Orders.{HasWorkers, limits_of, limits_told};
-ghost use Rattle.lru_accounts.specs.Orders.{order_in};
+ghost use Rattle.lru_logged.specs.AccountedOrders.{order_in};
 
 use crate::accounted_lru::{AccountedLru, Room};
 use lru_actors::message::LruMsg;
 use lru_async::builder::AsyncLruBuilder;
-use lru_logs::tie::{Archive, Blank};
 use lru_async::refusals::BuildError;
 use lru_desks::{Blanks, Registry};
+use lru_logs::tie::{Archive, Blank};
 use lru_world::callback::{AsyncEvictionCallback, Gate};
 use std::hash::Hash;
 use std::sync::Wait;

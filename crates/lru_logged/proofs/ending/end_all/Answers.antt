@@ -1,9 +1,9 @@
 use Rattle.std.proofs.Common.{◌≡◌, ◌+◌, length, ◌++◌, ◌∷◌, [], map, sym, ap, ◌∙◌, subst, arith}
 use Rattle.std.proofs.lemmas.List.{map-append}
 use Rattle.lru_shard.specs.Limits.{cap_of}
-use Rattle.lru_accounts.specs.Accounts.{Accounts}
-use Rattle.lru_accounts.proofs.Ends.{accounts_more}
-use Rattle.lru_accounts.proofs.ending.end_all.Goals as goal
+use Rattle.lru_logged.specs.Accounts.{Accounts}
+use Rattle.lru_logged.proofs.Ends.{accounts_more}
+use Rattle.lru_logged.proofs.ending.end_all.Goals as goal
 
 pub loop-shard-preserved : goal.loop-shard-preserved
 loop-shard-preserved g c =

@@ -1,5 +1,5 @@
 -- The caller's type parameters stand in the same places as those of what it calls.
-use Rattle.lru_accounts.proofs.build.build_accounted.Goals as goal
+use Rattle.lru_logged.proofs.build.build_accounted.Goals as goal
 
 pub build_over_logs_and_ledger-requires-send-K : goal.build_over_logs_and_ledger-requires-send-K
 build_over_logs_and_ledger-requires-send-K g c κs within = c.type_bounds.send-K

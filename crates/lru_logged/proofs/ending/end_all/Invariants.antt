@@ -1,8 +1,8 @@
 use Rattle.std.proofs.Common.{◌≡◌, ◌≤◌, map, vec_len}
 use Rattle.std.specs.Prelude.{vec_capacity}
 use Rattle.lru_shard.specs.Limits.{cap_of}
-use Rattle.lru_accounts.specs.Accounts.{Accounts}
-use Rattle.lru_accounts.proofs.ending.end_all.Given as goal
+use Rattle.lru_logged.specs.Accounts.{Accounts}
+use Rattle.lru_logged.proofs.ending.end_all.Given as goal
 
 abbrev pub invariant-loop-shard : goal.invariant-loop-shard
 invariant-loop-shard g l = record {

@@ -6,7 +6,7 @@ use Rattle.lru_logs.specs.declared.tie.Archive as archive
 use Rattle.lru_logs.specs.Logs.{log_of}
 use Rattle.lru_world.specs.declared.shard_end.ShardEnd.{ShardEnd}
 use Rattle.lru_world.specs.Accounts.{IsAccount}
-use Rattle.lru_accounts.specs.Accounts.{Accounts}
+use Rattle.lru_logged.specs.Accounts.{Accounts}
 
 module _ {K B : Type 0} {C : clone.Ghosts K} {A : archive.Ghosts B} (cap : ℕ) where
   pub accounts_more : (from n : ℕ) (es : List (ShardEnd K B C A)) (lists : List (List Slip)) (e : ShardEnd K B C A) (slips : List Slip) → Accounts cap from es lists → length es ≡ n → e.shard ≡ from + n

@@ -6,7 +6,7 @@ use Rattle.lru_logs.specs.declared.tie.Archive as archive
 use Rattle.lru_async.specs.declared.async_lru.AsyncLru.{AsyncLru}
 use Rattle.lru_logged.specs.Orders.{logged_order}
 use Rattle.lru_logged.specs.declared.logged_lru.LoggedLru.{LoggedLru}
-use Rattle.lru_accounts.specs.declared.accounted_lru.AccountedLru.{AccountedLru}
+use Rattle.lru_logged.specs.declared.accounted_lru.AccountedLru.{AccountedLru}
 
 -- the order with its logs
 abbrev pub logged_of : {K : Type 0} {N : ℕ} {B : Type 0} {C : clone.Ghosts K} {R : registry.Ghosts B} {A : archive.Ghosts B} → AccountedLru K N B C R A → LoggedLru K N B C R A

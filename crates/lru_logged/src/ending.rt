@@ -4,11 +4,11 @@ ghost use Rattle.std.specs.Option.{ForSome};
 ghost use Rattle.lru_shard.specs.Limits.{cap_of};
 ghost use Rattle.lru_logs.specs.Logs.{log_of};
 ghost use Rattle.lru_world.specs.Accounts.{IsAccount};
-ghost use Rattle.lru_accounts.specs.Accounts.{Accounts};
+ghost use Rattle.lru_logged.specs.Accounts.{Accounts};
 
-use lru_world::ShardEnd;
-use lru_logs::tie::Archive;
 use lru_desks::{PutSeat, Registry};
+use lru_logs::tie::Archive;
+use lru_world::ShardEnd;
 use lru_world::world::ShardPlace;
 use std::sync::Wait;
 use std::thread;

@@ -3,16 +3,16 @@ ghost use Rattle.std.specs.Prelude.{◌≡◌, ◌<◌, ◌≤◌, [], vec_len, 
 ghost use Rattle.lru_shard.specs.Limits.{cap_of};
 ghost use Rattle.lru_mailbox.specs.Ledger.{slips_of};
 ghost use Rattle.lru_mailbox.specs.Slips.{lists_of, IsSettled};
-ghost use Rattle.lru_accounts.specs.Accounts.{Accounts};
+ghost use Rattle.lru_logged.specs.Accounts.{Accounts};
 
 use crate::ending::end_all;
+use crate::logged_lru::LoggedLru;
 use lru_async::async_lru::AsyncLru;
 use lru_async::seats_back::{all_puts, all_takes, sole};
-use lru_mailbox::Settled;
-use lru_logged::logged_lru::LoggedLru;
-use lru_world::ShardEnd;
-use lru_logs::tie::Archive;
 use lru_desks::{LedgerBox, PutSeat, Registry, TakeSeat};
+use lru_logs::tie::Archive;
+use lru_mailbox::Settled;
+use lru_world::ShardEnd;
 use std::alloc::{AllocError, Global};
 use std::sync::{Arc, Wait};
 
@@ -69,7 +69,7 @@ impl<K: Clone + Drop, B: Registry + Archive> Room<K, B> {
 }
 
 impl<K: Clone + Drop, const N: usize, B: Registry + Archive> AccountedLru<K, N, B> {
-    ghost use Rattle.lru_accounts.specs.Orders.{logged_of, order_in};
+    ghost use Rattle.lru_logged.specs.AccountedOrders.{logged_of, order_in};
 
     // One of an order over logs and its box, with the room that its end needs.
     pub(crate) fn over(
