@@ -1,7 +1,7 @@
 //! Mailboxes with their logs, as threads share them.
 
-use lru_actors::message::LruMsg;
 use lru_actors::Letter;
+use lru_actors::message::LruMsg;
 use lru_inbox::SharedInbox;
 use std::alloc::Global;
 use std::marker::Brand;

@@ -4,8 +4,8 @@ ghost use Rattle.std.specs.Arc.{arc_value};
 
 use lru_actors::effect::Reply;
 use lru_actors::message::LruMsg;
-use lru_inbox::{Taker, Told};
 use lru_actors::{Letter, ReplyCell};
+use lru_inbox::{Taker, Told};
 use lru_mailbox::Mailbox;
 use lru_world::actor::Actor;
 use lru_world::callback::{Gate, NoGate};

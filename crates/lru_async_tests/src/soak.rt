@@ -2,9 +2,9 @@
 ghost use Rattle.std.specs.Prelude.{◌≡◌};
 
 use lru_async::async_lru::AsyncLru;
-use lru_mailbox::{Settled, Slip};
-use lru_logs::tie::Archive;
 use lru_desks::{Blanks, Registry};
+use lru_logs::tie::Archive;
+use lru_mailbox::{Settled, Slip};
 use lru_world::callback::AsyncEvictionCallback;
 use rand::RngExt;
 use rand::rngs::StdRng;

@@ -2,8 +2,8 @@
 ghost use Rattle.std.specs.Prelude.{◌<◌};
 
 use crate::steps::faults;
-use lru_cores::lru_core::LruCore;
 use lru_cores::calls::{Call, run};
+use lru_cores::lru_core::LruCore;
 use lru_test_rows::asked::Step;
 use lru_test_rows::tables::{
     ANSWERS_EACH_CALL, ANSWERS_WHERE_NOTHING_IS, COUNTS_A_ROW_OF_WEIGHT_0_ONCE,

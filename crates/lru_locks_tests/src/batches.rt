@@ -1,9 +1,9 @@
 //! Batches of admissions: by one caller as a core admits one after the other, and by two threads with each pair counted.
 use crate::admissions::{Tally, rest_of};
 use crate::shown::{rows_of, tell_core_state, tell_state};
-use lru_locks::{Admission, Fate};
 use lru_cores::lru_core::LruCore;
 use lru_locks::lru::Lru;
+use lru_locks::{Admission, Fate};
 use rand::rngs::StdRng;
 use rand_core::{Rng, SeedableRng};
 use std::alloc::{AllocError, Global};

@@ -1,7 +1,7 @@
 //! A list of calls on an `Lru`, done one by one: the text of each reply, and of the `Lru` after it.
 use crate::shown::{rows_of, text_of};
-use lru_locks::lru::Lru;
 use lru_cores::calls::{Call, Reply};
+use lru_locks::lru::Lru;
 use lru_shard::unit::Refused;
 use lru_test_rows::asked::{Step, call_of};
 use rand::rngs::StdRng;

@@ -1,6 +1,5 @@
 //! Why a mailbox refuses, and how many messages are taken at once.
-use lru_mailbox::MailError;
-use lru_mailbox::Mailbox;
+use lru_mailbox::{MailError, Mailbox};
 use std::alloc::Global;
 use std::sync::Wait;
 use std::test::Fail;

@@ -1,8 +1,8 @@
 //! A box by its worked row, by its seats, and by threads.
 ghost use Rattle.std.specs.Prelude.{◌≡◌};
 
-use lru_mailbox::{Settled, Slip};
 use lru_desks::{Blanks, LedgerBox, PutSeat, Registry, TakeSeat};
+use lru_mailbox::{Settled, Slip};
 use std::alloc::{AllocError, Global};
 use std::marker::Brand;
 use std::sync::Wait;

@@ -1,6 +1,5 @@
 //! A mailbox by its worked row, and by two threads.
-use lru_mailbox::MailError;
-use lru_mailbox::Mailbox;
+use lru_mailbox::{MailError, Mailbox};
 use std::alloc::Global;
 use std::sync::Wait;
 use std::test::Fail;

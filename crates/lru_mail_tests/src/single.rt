@@ -1,8 +1,7 @@
 //! A box for tests, with its one putter and its one taker: so it can be settled at any time.
 ghost use Rattle.std.specs.Prelude.{◌≡◌};
 
-use lru_mailbox::{LedgerState, PutShare, Settled, Slip, TakeShare};
-use lru_mailbox::MailError;
+use lru_mailbox::{LedgerState, MailError, PutShare, Settled, Slip, TakeShare};
 use std::alloc::{AllocError, Global};
 use std::marker::Model;
 

@@ -2,10 +2,10 @@
 ghost use Rattle.std.specs.Prelude.{⊤};
 
 use crate::fixture::{Run, empty, other_run, words};
+use lru_lines::input::{Input, InputError, read_to_end};
 use lru_operations::engine::{run, run_buffered};
 use lru_operations::program;
 use lru_operations::requests::WordsError;
-use lru_lines::input::{Input, InputError, read_to_end};
 use std::alloc::{AllocError, Global};
 use std::io;
 use std::io::BufWriter;

@@ -1,9 +1,9 @@
 //! Calls as data, and what they answer.
 use lru_recording::entry::Call;
 use lru_recording::journal::Seat;
+use lru_recording::recorded::RecordedLru;
 use lru_recording::tie::Registry;
 use lru_shard::unit::Cause;
-use lru_recording::recorded::RecordedLru;
 use rand::rngs::StdRng;
 use std::alloc::{AllocError, Global};
 use std::sync::Wait;

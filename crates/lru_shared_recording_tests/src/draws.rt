@@ -4,10 +4,10 @@ ghost use Rattle.std.specs.Prelude.{◌≡◌};
 
 use lru_cores::lru_core::LruCore;
 use lru_recording::entry::Names;
+use lru_recording::recorded::RecordedLru;
 use lru_recording::tie::{Blank, Registry};
 use lru_shard::totals::{Totals, Units};
 use lru_shard::unit::{Cause, LruUnit};
-use lru_recording::recorded::RecordedLru;
 use rand::rngs::StdRng;
 use rand_core::SeedableRng;
 use std::alloc::{AllocError, Global};

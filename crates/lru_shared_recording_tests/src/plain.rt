@@ -3,9 +3,9 @@ ghost use Rattle.std.specs.Prelude.{◌≡◌, vec_len};
 
 use lru_recording::entry::{Call, Entry, Reply};
 use lru_recording::journal::Seat;
+use lru_recording::recorded::{Recorded, RecordedLru};
 use lru_recording::tie::Registry;
 use lru_shard::unit::LruUnit;
-use lru_recording::recorded::{Recorded, RecordedLru};
 use std::alloc::{AllocError, Global};
 
 // A list of keys and weights, most recent first.

@@ -1,6 +1,5 @@
 //! Pairs put into a box and taken from it, where a refused call leaves the pair and the slips as they were.
-use lru_mailbox::{LedgerState, PutShare, TakeShare};
-use lru_mailbox::MailError;
+use lru_mailbox::{LedgerState, MailError, PutShare, TakeShare};
 use std::alloc::{AllocError, Global};
 use std::io;
 use std::io::Write;

@@ -1,8 +1,8 @@
 //! The row of one caller over a limit of 1, and then updates and admissions by closures.
 ghost use Rattle.std.specs.Prelude.{◌≡◌};
 
-use lru_shard::unit::{Cause, Refused};
 use lru_recording::recorded::{Blank, Names, Recorded, RecordedLru, Registry, Seat};
+use lru_shard::unit::{Cause, Refused};
 use rand::rngs::StdRng;
 use rand_core::SeedableRng;
 use std::alloc::{AllocError, Global};

@@ -8,12 +8,11 @@
 //! crate beneath; these are the names for users.
 #![tactic(auto)]
 
+pub use lru_cores::{calls, inclusion};
 pub use lru_list::linked_list;
 pub use lru_locks::lru;
 pub use lru_locks::lru::Lru;
-pub use lru_shard::totals;
-pub use lru_cores::{calls, inclusion};
-pub use lru_shard::unit;
+pub use lru_shard::{totals, unit};
 pub use lru_tiers::tiered;
 
 /// Batches of admissions to an [`Lru`].
@@ -23,14 +22,14 @@ pub mod batch {
 
 /// N shards under one limit on their weight, of one owner, and the law of inclusion over two of them.
 pub mod lru_core {
-    pub use lru_cores::lru_core::{EvictError, LruCore};
     pub use lru_cores::inclusion::inclusion_law;
+    pub use lru_cores::lru_core::{EvictError, LruCore};
 }
 
 /// N shards for many threads, each of which keeps the history of its calls, with a receipt for each call.
 pub mod recorded {
     pub use lru_recording::entry::{Call, Entry, Names, Receipt, Reply};
     pub use lru_recording::journal::Seat;
-    pub use lru_recording::tie::{Blank, Registry};
     pub use lru_recording::recorded::{Recorded, RecordedLru};
+    pub use lru_recording::tie::{Blank, Registry};
 }

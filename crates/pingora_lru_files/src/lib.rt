@@ -6,5 +6,4 @@
 
 pub mod persistence;
 
-pub use lru_snapshot::crash_law;
-pub use lru_snapshot::snapshot;
+pub use lru_snapshot::{crash_law, snapshot};
