@@ -1,5 +1,5 @@
-//! An entry that is made where a key has none.
-use lru_cache::cache::{Cache, NotPut};
+//! An entry that is made where a key has none, and the causes by which none is put.
+use lru_cache::cache::{Cache, Cause, NotPut};
 use std::alloc::{AllocError, Global};
 use std::test::Fail;
 
@@ -33,4 +33,14 @@ fn are_made_where_missing(alloc: Global) -> Result<bool, AllocError> {
 fn an_entry_is_made_where_a_key_has_none(rt: HostRuntime) -> Result<(), Fail> {
     assert!(rt; are_made_where_missing(rt.alloc())?);
     Ok(())
+}
+
+#[test]
+fn causes_have_their_numbers(rt: HostRuntime) {
+    let numbers = (
+        Cause::Memory as u8,
+        Cause::TooHeavy as u8,
+        Cause::Full as u8,
+    );
+    assert_eq!(rt; numbers, (1, 2, 3));
 }

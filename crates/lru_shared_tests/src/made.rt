@@ -39,16 +39,35 @@ fn a_value_is_made_where_a_key_has_none(rt: HostRuntime) -> Result<(), Fail> {
     Ok(())
 }
 
-// Asks for a key's value, which takes a while to make, and is not made the first `refusals` times. Whether 7 is answered.
-fn asks<R: Wait>(rt: &R, cache: &Numbers, made: &AtomicU64, refusals: u64) -> bool {
+// How many calls were begun, and how many values.
+#[derive(Drop)]
+struct Asked {
+    begun: AtomicU64,
+    made: AtomicU64,
+}
+
+// Waits until a number is at least so much, or for a long time; and then a while longer, in which who raised it last goes on.
+fn wait_until(number: &AtomicU64, least: u64) {
+    for _ in 0..1_000_000u32 {
+        if number.load(Ordering::SeqCst) >= least {
+            break;
+        }
+        thread::yield_now();
+    }
+    for _ in 0..1000u32 {
+        thread::yield_now();
+    }
+}
+
+// Asks for a key's value, which is not made before four have asked, nor the first `refusals` times. Whether 7 is answered.
+fn asks<R: Wait>(rt: &R, cache: &Numbers, asked: &Asked, refusals: u64) -> bool {
+    asked.begun.fetch_add(1, Ordering::SeqCst);
     let answer = cache.get_or_put_with(
         rt,
         5,
         || -> Made {
-            let before = made.fetch_add(1, Ordering::SeqCst);
-            for _ in 0..1000u32 {
-                thread::yield_now();
-            }
+            let before = asked.made.fetch_add(1, Ordering::SeqCst);
+            wait_until(&asked.begun, 4);
             if before < refusals {
                 return Err(1);
             }
@@ -62,13 +81,13 @@ fn asks<R: Wait>(rt: &R, cache: &Numbers, made: &AtomicU64, refusals: u64) -> bo
 fn two_ask<R: Threads + Wait + Sync>(
     rt: &R,
     cache: &Numbers,
-    made: &AtomicU64,
+    asked: &Asked,
     refusals: u64,
 ) -> (bool, bool) {
     thread::join(
         rt,
-        move || asks(rt, cache, made, refusals),
-        move || asks(rt, cache, made, refusals),
+        move || asks(rt, cache, asked, refusals),
+        move || asks(rt, cache, asked, refusals),
     )
 }
 
@@ -79,12 +98,15 @@ fn all_ask<R: Threads + Wait + Sync>(
     refusals: u64,
 ) -> Result<(u8, u64), AllocError> {
     let cache = Numbers::new(alloc, 20, 20)?;
-    let count = AtomicU64::new(0);
-    let (shared, made) = (&cache, &count);
+    let counts = Asked {
+        begun: AtomicU64::new(0),
+        made: AtomicU64::new(0),
+    };
+    let (shared, asked) = (&cache, &counts);
     let ((a, b), (c, d)) = thread::join(
         rt,
-        move || two_ask(rt, shared, made, refusals),
-        move || two_ask(rt, shared, made, refusals),
+        move || two_ask(rt, shared, asked, refusals),
+        move || two_ask(rt, shared, asked, refusals),
     );
     let mut answered = 0u8;
     for is_answered in [a, b, c, d] {
@@ -92,7 +114,7 @@ fn all_ask<R: Threads + Wait + Sync>(
             answered = answered.saturating_add(1);
         }
     }
-    Ok((answered, count.load(Ordering::SeqCst)))
+    Ok((answered, counts.made.load(Ordering::SeqCst)))
 }
 
 #[test]
@@ -168,6 +190,69 @@ fn nothing_newer_is_lost(rt: &impl Wait, alloc: Global) -> Result<bool, AllocErr
 #[test]
 fn what_was_made_overwrites_nothing_newer(rt: HostRuntime) -> Result<(), Fail> {
     assert!(rt; nothing_newer_is_lost(&rt, rt.alloc())?);
+    Ok(())
+}
+
+// Makes the value of key 1, to which this happens meanwhile, once another thread has asked for it. Whether what it makes is
+// answered.
+fn makes(rt: &impl Wait, cache: &Numbers, stage: &AtomicU64, meanwhile: Meanwhile) -> bool {
+    let make = || -> Made {
+        stage.fetch_add(1, Ordering::SeqCst);
+        wait_until(stage, 2);
+        if is_done(rt, cache, meanwhile) {
+            Ok((10, 1))
+        } else {
+            Err(1)
+        }
+    };
+    matches!(cache.get_or_put_with(rt, 1, make, |_gone| {}), Ok(10))
+}
+
+// Asks for it once the other makes it. What is answered: 97 where the other put none.
+fn waits(rt: &impl Wait, cache: &Numbers, stage: &AtomicU64) -> Option<u64> {
+    wait_until(stage, 1);
+    stage.fetch_add(1, Ordering::SeqCst);
+    ask(rt, cache, 1, Ok((97, 1))).ok()
+}
+
+// Whether who waits for a value goes on with this one where its key is put, or removed, meanwhile.
+fn is_woken<R: Threads + Wait + Sync>(
+    rt: &R,
+    alloc: Global,
+    meanwhile: Meanwhile,
+    left: u64,
+) -> Result<bool, AllocError> {
+    let cache = Numbers::new(alloc, 20, 20)?;
+    let number = AtomicU64::new(0);
+    let (shared, stage) = (&cache, &number);
+    let (is_made, answered) = thread::join(
+        rt,
+        move || makes(rt, shared, stage, meanwhile),
+        move || waits(rt, shared, stage),
+    );
+    Ok(is_made & (answered == Some(left)))
+}
+
+#[test]
+fn who_waits_goes_on_after_a_put_or_a_remove(rt: HostRuntime) -> Result<(), Fail> {
+    assert!(rt;
+        is_woken(&rt, rt.alloc(), Meanwhile::Put, 99)?
+            && is_woken(&rt, rt.alloc(), Meanwhile::Removed, 97)?
+    );
+    Ok(())
+}
+
+// Entries that weigh much are kept, put or made.
+fn are_heavy_kept(rt: &impl Wait, alloc: Global) -> Result<bool, AllocError> {
+    let cache = Numbers::with_limits(alloc, Limits::of_weight(1_000_000))?;
+    let is_put = matches!(cache.put(rt, 1, 10, 70_000, |_gone| {}), Ok(None));
+    let is_made = matches!(ask(rt, &cache, 2, Ok((20, 100_000))), Ok(20));
+    Ok(is_put & is_made & ((cache.len(rt), cache.weight(rt)) == (2, 170_000)))
+}
+
+#[test]
+fn heavy_entries_are_kept(rt: HostRuntime) -> Result<(), Fail> {
+    assert!(rt; are_heavy_kept(&rt, rt.alloc())?);
     Ok(())
 }
 

@@ -103,6 +103,40 @@ fn gone_for_shared(rt: &impl Wait, cache: &SharedCache<u64, u64, 4>, key: u64) -
     gone
 }
 
+// The keys of a shard in their order, in one number.
+fn keys_of_owned(cache: &Numbers, shard: usize) -> u64 {
+    let mut keys = 0u64;
+    cache.iter_for_each(shard, |(key, _value, _weight): (&u64, &u64, usize)| {
+        keys = keys.wrapping_mul(97).wrapping_add(*key)
+    });
+    keys
+}
+
+// The same behind a lock: the keys that are shown, where the shard that is held has as many.
+fn keys_of_shared(rt: &impl Wait, cache: &SharedCache<u64, u64, 4>, shard: usize) -> u64 {
+    let mut keys = 0u64;
+    let mut shown = 0usize;
+    cache.iter_for_each(rt, shard, |(key, _value, _weight)| {
+        keys = keys.wrapping_mul(97).wrapping_add(*key);
+        shown = shown.wrapping_add(1);
+    });
+    let held = cache.lock_shard(rt, shard).cache().len();
+    if held != shown {
+        return u64::MAX;
+    }
+    keys
+}
+
+// Whether both have the same entries in each shard.
+fn are_shards_the_same(rt: &impl Wait, owned: &Numbers, shared: &SharedCache<u64, u64, 4>) -> bool {
+    let mut is_same = true;
+    for shard in 0..4 {
+        is_same &= owned.shard_len(shard) == shared.shard_len(rt, shard);
+        is_same &= keys_of_owned(owned, shard) == keys_of_shared(rt, shared, shard);
+    }
+    is_same
+}
+
 // Whether a shared cache over the same hashers lets the same entries go, and answers the same. Many go.
 fn are_the_same(rt: &impl Wait, alloc: Global) -> Result<bool, AllocError> {
     let hashes = SeededHashes::with_seed(9);
@@ -119,13 +153,16 @@ fn are_the_same(rt: &impl Wait, alloc: Global) -> Result<bool, AllocError> {
     }
     let mut counted = 0u64;
     for shard in 0..4 {
-        is_same &= owned.shard_len(shard) == shared.shard_len(rt, shard);
         counted = counted.saturating_add(owned.shard_stats(shard).for_room.entries);
     }
     let is_counted = (owned.stats() == shared.stats(rt)) & (counted == went as u64);
     for turn in 0..48 {
         let gone = owned.pop_last(turn % 4).map(|entry| entry.key);
         is_same &= gone == shared.pop_last(rt, turn % 4).map(|entry| entry.key);
+        if turn == 5 {
+            // some shards have more entries now than others
+            is_same &= are_shards_the_same(rt, &owned, &shared);
+        }
     }
     is_same &= (owned.stats().removed.entries == 40) & (shared.len(rt) == 0);
     Ok(is_same && is_counted && went > 20)
@@ -150,18 +187,39 @@ fn shard_of(alloc: Global, seed: u64, key: u64) -> Result<Option<usize>, AllocEr
     Ok(found.filter(|_| put.is_ok()))
 }
 
-// Whether some key stands in different shards under two seeds.
-fn seeds_tell_shards(alloc: Global) -> Result<bool, AllocError> {
-    let mut differ = false;
-    for key in 0..16 {
-        differ |= shard_of(alloc, 1, key)? != shard_of(alloc, 2, key)?;
+// The same of a shared cache.
+fn shared_shard_of(
+    rt: &impl Wait,
+    alloc: Global,
+    seed: u64,
+    key: u64,
+) -> Result<Option<usize>, AllocError> {
+    let cache = SharedCache::<u64, u64, 4>::with_seed(alloc, 40, 40, seed)?;
+    let put = cache.put(rt, key, key, 1, |_| {});
+    let mut found = None;
+    for shard in 0..4 {
+        if cache.shard_len(rt, shard) == 1 {
+            found = Some(shard);
+        }
     }
-    Ok(differ)
+    Ok(found.filter(|_| put.is_ok()))
+}
+
+// Whether some key stands in different shards under two seeds, and each in the same shard behind a lock.
+fn seeds_tell_shards(rt: &impl Wait, alloc: Global) -> Result<bool, AllocError> {
+    let mut differ = false;
+    let mut is_same = true;
+    for key in 0..16 {
+        let owned = shard_of(alloc, 2, key)?;
+        differ |= shard_of(alloc, 1, key)? != owned;
+        is_same &= shared_shard_of(rt, alloc, 2, key)? == owned;
+    }
+    Ok(differ & is_same)
 }
 
 #[test]
 fn seeds_tell_the_shards_of_keys(rt: HostRuntime) -> Result<(), Fail> {
-    assert!(rt; seeds_tell_shards(rt.alloc())?);
+    assert!(rt; seeds_tell_shards(&rt, rt.alloc())?);
     Ok(())
 }
 
