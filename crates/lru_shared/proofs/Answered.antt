@@ -13,9 +13,9 @@ use Rattle.lru_shared.specs.declared.calls.NotGot.TheVariants.{Memory, Unmade, R
 use Rattle.lru_cache.specs.Cache.{Cached, MayRefuse}
 use Rattle.lru_shared.specs.Shards.{MayDo}
 use Rattle.lru_shared.specs.Relations.{IsRelated, AreRelated}
-use Rattle.lru_shared.specs.Related.{MayGetRelated, MayPutRelated, MayLimitRelated, MayRetainRelated}
+use Rattle.lru_shared.specs.Related.{MayGetRelated, MayPutRelated, MayLimitRelated, MayLimitTo, MayRetainRelated}
 use Rattle.lru_shared.proofs.MayBe.{may_get}
-use Rattle.lru_shared.specs.Counting.{ShardOf, PutsCounted, LimitsShard}
+use Rattle.lru_shared.specs.Counting.{ShardOf, PutsCounted, LimitsShard, LimitsShardTo}
 use Rattle.lru_shared.specs.Calls.{RefusesMade, EndsMaking, Answers, GetsOrPuts, RetainsShard}
 use Rattle.lru_shared.specs.Answers.{HandsBack}
 
@@ -47,6 +47,11 @@ module _ {K V S : Type 0} where
   pub may_limit : {F : Type 0} (holds : K → V → Type 0) (Step : F → Entry K V → F → Type 0) (visit : F) (weight entries : ℕ) (old new : ShardOf K V S)
       → AreRelated holds old.cache.entries → LimitsShard Step visit weight entries old new → MayLimitRelated holds Step visit weight entries
   may_limit holds Step visit weight entries old new own ((front, (gone, (leaves, (shown, is)))), counted) =
+      (unhashed old.cache, (unhashed new.cache, (own, (front, (gone, (leaves, (shown, ap unhashed is)))))))
+
+  pub may_limit_to : {F : Type 0} (holds : K → V → Type 0) (Step : F → Entry K V → F → Type 0) (visit : F) (weight entries : ℕ) (left : F) (old new : ShardOf K V S)
+      → AreRelated holds old.cache.entries → LimitsShardTo Step visit weight entries old left new → MayLimitTo holds Step visit weight entries left
+  may_limit_to holds Step visit weight entries left old new own ((front, (gone, (leaves, (shown, is)))), counted) =
       (unhashed old.cache, (unhashed new.cache, (own, (front, (gone, (leaves, (shown, ap unhashed is)))))))
 
   pub may_retain : {F : Type 0} (holds : K → V → Type 0) (step : F → Bor K → Bor V → ℕ → Bool → F → Type 0) (keep : F) (old new : ShardOf K V S)

@@ -9,7 +9,7 @@ use Rattle.lru_entries.specs.declared.entry.Entry.{Entry}
 use Rattle.lru_entries.specs.Entries.{entry, kept_of}
 use Rattle.lru_cache.specs.declared.cache.Refused.{Refused}
 use Rattle.lru_cache.specs.Cache.{Cached, entry_of, without, UpdatesEntry, Puts}
-use Rattle.lru_shared.specs.Counting.{ShardOf, Takes, PopsShard, ClearsShard, DrainsShard, LimitsShard, PutsCounted}
+use Rattle.lru_shared.specs.Counting.{ShardOf, Takes, PopsShard, ClearsShardTo, DrainsShardTo, LimitsShardTo, PutsCounted}
 use Rattle.lru_shared.specs.Calls.{Gets, Lends, PutsMissing, RetainsShard}
 use Rattle.lru_shared.specs.Relations.{IsRelated, AreRelated}
 use Rattle.lru_shared.specs.Related.{KeepsRelation}
@@ -91,14 +91,14 @@ module _ {K V : Type 0} (holds : K → V → Type 0) where
       keeps_puts_missing before (Ok told) after (inr (none, (was, put))) h = keeps_puts before (Ok was) after put h
       keeps_puts_missing before (Err r) after put h = keeps_puts before (Err r) after put.1 h
 
-    pub keeps_clears : {S : Type 0} → (before after : ShardOf K V S) → ClearsShard Step visit before after → fits before → fits after
-    keeps_clears before after clears h = subst (λ c. AreRelated holds c.entries) (sym clears.0.1) (All-nil is_own)
+    pub keeps_clears : {S : Type 0} → (before after : ShardOf K V S) (left : F) → ClearsShardTo Step visit before left after → fits before → fits after
+    keeps_clears before after left clears h = subst (λ c. AreRelated holds c.entries) (sym clears.1.0) (All-nil is_own)
 
-    pub keeps_drains : {S : Type 0} → (before after : ShardOf K V S) → DrainsShard Step visit before after → fits before → fits after
-    keeps_drains before after drains h = subst (λ c. AreRelated holds c.entries) (sym drains.0.1) (All-nil is_own)
+    pub keeps_drains : {S : Type 0} → (before after : ShardOf K V S) (left : F) → DrainsShardTo Step visit before left after → fits before → fits after
+    keeps_drains before after left drains h = subst (λ c. AreRelated holds c.entries) (sym drains.1.0) (All-nil is_own)
 
-    pub keeps_limits : {S : Type 0} (weight entries : ℕ) → (before after : ShardOf K V S) → LimitsShard Step visit weight entries before after → fits before → fits after
-    keeps_limits weight entries before after ((front, (gone, (leaves, (shown, is)))), counted) h =
+    pub keeps_limits : {S : Type 0} (weight entries : ℕ) → (before after : ShardOf K V S) (left : F) → LimitsShardTo Step visit weight entries before left after → fits before → fits after
+    keeps_limits weight entries before after left ((front, (gone, (leaves, (shown, is)))), counted) h =
         subst (λ c. AreRelated holds c.entries) (sym is) (front_of front gone (subst (λ es. AreRelated holds es) leaves.parts h))
 
   pub keeps_pops : {S : Type 0} → (before : ShardOf K V S) (answer : Option (Entry K V)) (after : ShardOf K V S) → PopsShard before answer after → fits before → fits after

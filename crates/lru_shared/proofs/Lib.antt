@@ -1,5 +1,7 @@
 pub mod Answered
 pub mod Begun
 pub mod Keeping
+pub mod Parted
 pub mod MayBe
 pub mod Popped
+pub mod Turned

@@ -27,6 +27,10 @@ module _ {K V : Type 0} where
   abbrev pub VisitsEach : {F : Type 0} → (F → Bor K × Bor V × ℕ → F → Type 0) → F → List (Entry K V) → Type 0
   VisitsEach {F} Step visit es = (items : List (Bor K × Bor V × ℕ)) × ((left : F) × ((map shown items ≡ map parts_of es) × FoldsTo Step visit items left))
 
+  -- the same, and the closure is left so
+  abbrev pub VisitsEachTo : {F : Type 0} → (F → Bor K × Bor V × ℕ → F → Type 0) → F → List (Entry K V) → F → Type 0
+  VisitsEachTo Step visit es left = (items : List (Bor K × Bor V × ℕ)) × ((map shown items ≡ map parts_of es) × FoldsTo Step visit items left)
+
   -- a clone of an entry's value, or nothing where there is no entry
   abbrev pub IsCloned : (V → V → Type 0) → Option (Entry K V) → Option V → Type 0
   IsCloned clones None None = Unit {0}

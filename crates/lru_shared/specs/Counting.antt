@@ -1,10 +1,11 @@
 -- A cache beside what its calls met: what is done to it, and counted.
-use Rattle.std.specs.Prelude.{◌≡◌, ℕ, Bool, length, Option, Some, None, Result, Ok, Err}
+use Rattle.std.specs.Prelude.{◌≡◌, ℕ, Bool, List, [], length, reverse, Option, Some, None, Result, Ok, Err}
+use Rattle.std.specs.List.{FoldsTo}
 use Rattle.std.specs.Option.{option_map}
 use Rattle.lru_entries.specs.declared.entry.Entry.{Entry}
 use Rattle.lru_entries.specs.Entries.{weight_of}
 use Rattle.lru_cache.specs.declared.cache.Refused.{Refused}
-use Rattle.lru_cache.specs.Cache.{Cached, entry_of, without, with_entries, Clears, Drains, Limits, PopsLast, Puts}
+use Rattle.lru_cache.specs.Cache.{Cached, entry_of, without, with_entries, Clears, Drains, Leaves, Limits, PopsLast, Puts}
 use Rattle.lru_shared.specs.declared.counts.Counts.{Counts}
 use Rattle.lru_shared.specs.declared.counts.Counted.{Counted}
 use Rattle.lru_shared.specs.declared.counts.Size.{Size}
@@ -48,6 +49,32 @@ module _ {K V : Type 0} where
     abbrev pub LimitsShard : F → ℕ → ℕ → ShardOf K V S → ShardOf K V S → Type 0
     LimitsShard visit weight entries before after =
         Limits Step visit before.cache weight entries after.cache × (after.counts ≡ fewer before.counts ForRoom (size_of before.cache) (size_of after.cache))
+
+    -- ---- the same, and in which state a closure is left that was handed what goes
+    -- the shortest end of the entries goes that has to for the others to be within limits
+    abbrev pub LetsGo : F → Cached K V S → ℕ → ℕ → F → Cached K V S → Type 0
+    LetsGo visit old weight entries left new =
+        (front : List (Entry K V)) × ((gone : List (Entry K V)) × (Leaves weight entries old.entries front gone × (FoldsTo Step visit (reverse gone) left × (new ≡ with_entries old front))))
+
+    -- the limits are others, and what has to go for them goes
+    abbrev pub LimitsTo : F → Cached K V S → ℕ → ℕ → F → Cached K V S → Type 0
+    LimitsTo visit old weight entries left new =
+        (front : List (Entry K V)) × ((gone : List (Entry K V)) × (Leaves weight entries old.entries front gone × (FoldsTo Step visit (reverse gone) left
+        × (new ≡ record { entries = front; places = old.places; most_weight = weight; most_entries = entries; hashes = old.hashes }))))
+
+    abbrev pub ClearsShardTo : F → ShardOf K V S → F → ShardOf K V S → Type 0
+    ClearsShardTo visit before left after =
+        FoldsTo Step visit (reverse before.cache.entries) left
+        × ((after.cache ≡ with_entries before.cache []) × (after.counts ≡ left_by before.counts Cleared (length before.cache.entries) (weight_of before.cache.entries)))
+
+    abbrev pub DrainsShardTo : F → ShardOf K V S → F → ShardOf K V S → Type 0
+    DrainsShardTo visit before left after =
+        FoldsTo Step visit before.cache.entries left
+        × ((after.cache ≡ with_entries before.cache []) × (after.counts ≡ left_by before.counts Cleared (length before.cache.entries) (weight_of before.cache.entries)))
+
+    abbrev pub LimitsShardTo : F → ℕ → ℕ → ShardOf K V S → F → ShardOf K V S → Type 0
+    LimitsShardTo visit weight entries before left after =
+        LimitsTo visit before.cache weight entries left after.cache × (after.counts ≡ fewer before.counts ForRoom (size_of before.cache) (size_of after.cache))
 
     -- an entry is put, or refused
     abbrev pub PutsCounted : F → (K → K → Bool) → ShardOf K V S → K → V → ℕ → Result (Option (Entry K V)) (Refused K V) → ShardOf K V S → Type 0

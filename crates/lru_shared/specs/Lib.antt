@@ -4,6 +4,7 @@ pub mod Relations
 pub mod Counts
 pub mod CountCodes
 pub mod Counting
+pub mod Turns
 pub mod Popping
 pub mod Calls
 pub mod Sharded

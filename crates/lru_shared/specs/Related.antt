@@ -1,5 +1,5 @@
 -- What the answers of a shared cache say, where of the entries that other threads may change nothing is known but that each value stands in a relation to its key.
-use Rattle.std.specs.Prelude.{◌≡◌, ℕ, Bool, true, List, Option, Result}
+use Rattle.std.specs.Prelude.{◌≡◌, ℕ, Bool, true, List, reverse, Option, Result}
 use Rattle.std.specs.List.{FoldsTo}
 use Rattle.std.specs.Borrow.{Bor, MutBor}
 use Rattle.lru_entries.specs.declared.entry.Entry.{Entry}
@@ -7,7 +7,8 @@ use Rattle.lru_entries.specs.Entries.{IsShown}
 use Rattle.lru_cache.specs.declared.cache.Refused.{Refused}
 use Rattle.lru_cache.specs.Cache.{Cached, Puts, Limits, Retains}
 use Rattle.lru_shared.specs.Relations.{IsRelated, AreRelated, IsOf}
-use Rattle.lru_shared.specs.Calls.{VisitsEach}
+use Rattle.lru_shared.specs.Counting.{LimitsTo}
+use Rattle.lru_shared.specs.Calls.{VisitsEach, VisitsEachTo}
 
 module _ {K V : Type 0} (holds : K → V → Type 0) where
   -- a closure leaves in place of a value only what stands in the relation to its key too
@@ -52,6 +53,20 @@ module _ {K V : Type 0} (holds : K → V → Type 0) where
   abbrev pub MayLimitRelated : {F : Type 0} → (F → Entry K V → F → Type 0) → F → ℕ → ℕ → Type 0
   MayLimitRelated Step visit weight entries =
       (old : Cached K V (Unit {0})) × ((new : Cached K V (Unit {0})) × (AreRelated holds old.entries × Limits Step visit old weight entries new))
+
+  -- ---- the same, and in which state the closure is left
+  abbrev pub MayVisitTo : {F : Type 0} → (F → Bor K × Bor V × ℕ → F → Type 0) → F → F → Type 0
+  MayVisitTo Step visit left = (es : List (Entry K V)) × (AreRelated holds es × VisitsEachTo Step visit es left)
+
+  abbrev pub MayClearTo : {F : Type 0} → (F → Entry K V → F → Type 0) → F → F → Type 0
+  MayClearTo Step visit left = (es : List (Entry K V)) × (AreRelated holds es × FoldsTo Step visit (reverse es) left)
+
+  abbrev pub MayDrainTo : {F : Type 0} → (F → Entry K V → F → Type 0) → F → F → Type 0
+  MayDrainTo Step visit left = (es : List (Entry K V)) × (AreRelated holds es × FoldsTo Step visit es left)
+
+  abbrev pub MayLimitTo : {F : Type 0} → (F → Entry K V → F → Type 0) → F → ℕ → ℕ → F → Type 0
+  MayLimitTo Step visit weight entries left =
+      (old : Cached K V (Unit {0})) × ((new : Cached K V (Unit {0})) × (AreRelated holds old.entries × LimitsTo Step visit old weight entries left new))
 
   -- a test may have been asked of such entries
   abbrev pub MayRetainRelated : {F : Type 0} → (F → Bor K → Bor V → ℕ → Bool → F → Type 0) → F → Type 0

@@ -4,10 +4,10 @@ ghost use Rattle.lru_index.specs.Hashing.{key_hash};
 ghost use Rattle.lru_cache.specs.Cache.{entry_of};
 ghost use Rattle.lru_entries.specs.Entries.{weight_of};
 ghost use Rattle.lru_shared.specs.Shards.{home};
-ghost use Rattle.lru_shared.specs.Calls.{ShowsEntry, VisitsEach, Gets, Lends, PutsMissing, RetainsShard, GetsOrPuts, EndsMaking};
+ghost use Rattle.lru_shared.specs.Calls.{ShowsEntry, VisitsEachTo, Gets, Lends, PutsMissing, RetainsShard, GetsOrPuts, EndsMaking};
 ghost use Rattle.lru_shared.specs.Relations.{IsRelated};
 ghost use Rattle.lru_shared.specs.Related.{KeepsRelation};
-ghost use Rattle.lru_shared.specs.Counting.{Takes, PopsShard, ClearsShard, DrainsShard, LimitsShard, PutsCounted};
+ghost use Rattle.lru_shared.specs.Counting.{Takes, PopsShard, ClearsShardTo, DrainsShardTo, LimitsShardTo, PutsCounted};
 
 use crate::counts::Counts;
 use crate::kept::Kept;
@@ -200,8 +200,8 @@ where
     )
 }
 
-// Lets all entries of a shard go.
-pub(crate) fn clear<K, V, S, X, T, F>(shards: &mut T, shard: usize, visit: F)
+// Lets all entries of a shard go, and answers the closure as they leave it.
+pub(crate) fn clear<K, V, S, X, T, F>(shards: &mut T, shard: usize, visit: F) -> F
 where
     K: Hash + Drop,
     V: Drop,
@@ -211,20 +211,22 @@ where
     F: FnMut(Entry<K, V>) + Drop,
     requires shard { shard < T.many shards.old }
     requires visit { F.IsAlwaysCallable visit }
-    ensures acts { T.does shards.old shard (λ before after. ClearsShard (λ p x q. F.step p x tt q) visit (X.inside before) (X.inside after)) shards.new }
+    ensures acts { T.does shards.old shard (λ before after. ClearsShardTo (λ p x q. F.step p x tt q) visit (X.inside before) result (X.inside after)) shards.new }
+    ensures again { F.IsAlwaysCallable result }
     ensures many { T.many shards.new ≡ T.many shards.old }
 {
     shards.on(
         shard,
         |shard: &mut X|
             requires { F.IsAlwaysCallable visit }
-            ensures { ClearsShard (λ p x q. F.step p x tt q) visit (X.inside shard.old) (X.inside shard.new) }
+            ensures acts { ClearsShardTo (λ p x q. F.step p x tt q) visit (X.inside shard.old) result (X.inside shard.new) }
+            ensures again { F.IsAlwaysCallable result }
         { shard.clear(visit) },
     )
 }
 
-// Lets all entries of a shard go, the first first.
-pub(crate) fn drain<K, V, S, X, T, F>(shards: &mut T, shard: usize, visit: F)
+// The same, the first first.
+pub(crate) fn drain<K, V, S, X, T, F>(shards: &mut T, shard: usize, visit: F) -> F
 where
     K: Hash + Drop,
     V: Drop,
@@ -234,20 +236,27 @@ where
     F: FnMut(Entry<K, V>) + Drop,
     requires shard { shard < T.many shards.old }
     requires visit { F.IsAlwaysCallable visit }
-    ensures acts { T.does shards.old shard (λ before after. DrainsShard (λ p x q. F.step p x tt q) visit (X.inside before) (X.inside after)) shards.new }
+    ensures acts { T.does shards.old shard (λ before after. DrainsShardTo (λ p x q. F.step p x tt q) visit (X.inside before) result (X.inside after)) shards.new }
+    ensures again { F.IsAlwaysCallable result }
     ensures many { T.many shards.new ≡ T.many shards.old }
 {
     shards.on(
         shard,
         |shard: &mut X|
             requires { F.IsAlwaysCallable visit }
-            ensures { DrainsShard (λ p x q. F.step p x tt q) visit (X.inside shard.old) (X.inside shard.new) }
+            ensures acts { DrainsShardTo (λ p x q. F.step p x tt q) visit (X.inside shard.old) result (X.inside shard.new) }
+            ensures again { F.IsAlwaysCallable result }
         { shard.drain(visit) },
     )
 }
 
-// Gives a shard other limits, and lets go what has to go for them.
-pub(crate) fn set_limits<K, V, S, X, T, F>(shards: &mut T, shard: usize, limits: Limits, visit: F)
+// Gives a shard other limits, lets go what has to go for them, and answers the closure as that leaves it.
+pub(crate) fn set_limits<K, V, S, X, T, F>(
+    shards: &mut T,
+    shard: usize,
+    limits: Limits,
+    visit: F,
+) -> F
 where
     K: Hash + Drop,
     V: Drop,
@@ -257,14 +266,16 @@ where
     F: FnMut(Entry<K, V>) + Drop,
     requires shard { shard < T.many shards.old }
     requires visit { F.IsAlwaysCallable visit }
-    ensures acts { T.does shards.old shard (λ before after. LimitsShard (λ p x q. F.step p x tt q) visit limits.weight limits.entries (X.inside before) (X.inside after)) shards.new }
+    ensures acts { T.does shards.old shard (λ before after. LimitsShardTo (λ p x q. F.step p x tt q) visit limits.weight limits.entries (X.inside before) result (X.inside after)) shards.new }
+    ensures again { F.IsAlwaysCallable result }
     ensures many { T.many shards.new ≡ T.many shards.old }
 {
     shards.on(
         shard,
         |shard: &mut X|
             requires { F.IsAlwaysCallable visit }
-            ensures { LimitsShard (λ p x q. F.step p x tt q) visit limits.weight limits.entries (X.inside shard.old) (X.inside shard.new) }
+            ensures acts { LimitsShardTo (λ p x q. F.step p x tt q) visit limits.weight limits.entries (X.inside shard.old) result (X.inside shard.new) }
+            ensures again { F.IsAlwaysCallable result }
         { shard.set_limits(limits, visit) },
     )
 }
@@ -307,8 +318,9 @@ where
     )
 }
 
-// Calls a closure with the key, the value and the weight of each entry of a shard, most recent first.
-pub(crate) fn visit_each<K, V, S, X, T, F>(shards: &T, shard: usize, visit: F)
+// Calls a closure with the key, the value and the weight of each entry of a shard, most recent first, and answers it as that
+// leaves it.
+pub(crate) fn visit_each<K, V, S, X, T, F>(shards: &T, shard: usize, visit: F) -> F
 where
     K: Hash,
     S: BuildHasher,
@@ -317,15 +329,17 @@ where
     F: FnMut((&K, &V, usize)),
     requires shard { shard < T.many shards.now }
     requires visit { F.IsAlwaysCallable visit }
-    ensures { T.sees shards.now shard (λ shard. VisitsEach (λ p x q. F.step p x tt q) visit (X.inside shard).cache.entries) }
+    ensures visits { T.sees shards.now shard (λ shard. VisitsEachTo (λ p x q. F.step p x tt q) visit (X.inside shard).cache.entries result) }
+    ensures again { F.IsAlwaysCallable result }
 {
     shards.look(
         shard,
         |shard: &X|
             requires { F.IsAlwaysCallable visit }
-            ensures { VisitsEach (λ p x q. F.step p x tt q) visit (X.inside shard.now).cache.entries }
+            ensures visits { VisitsEachTo (λ p x q. F.step p x tt q) visit (X.inside shard.now).cache.entries result }
+            ensures again { F.IsAlwaysCallable result }
         { one::visit_each(shard.shard(), visit) },
-    );
+    )
 }
 
 // How many entries a shard has.

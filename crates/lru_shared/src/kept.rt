@@ -1,7 +1,7 @@
 //! A shard that a call is done to and counted: one whose type says nothing, or one whose type says what holds of its entries.
 ghost use Rattle.std.specs.Prelude.{◌≡◌};
 ghost use Rattle.lru_index.specs.Hashing.{key_hash};
-ghost use Rattle.lru_shared.specs.Counting.{ShardOf, Takes, PopsShard, ClearsShard, DrainsShard, LimitsShard, PutsCounted};
+ghost use Rattle.lru_shared.specs.Counting.{ShardOf, Takes, PopsShard, ClearsShardTo, DrainsShardTo, LimitsShardTo, PutsCounted};
 ghost use Rattle.lru_shared.specs.Calls.{Gets, Lends, PutsMissing, RetainsShard};
 ghost use Rattle.lru_shared.specs.Relations.{IsRelated};
 ghost use Rattle.lru_shared.specs.Related.{KeepsRelation};
@@ -97,32 +97,35 @@ pub(crate) trait Kept<K: Hash, V, S: BuildHasher> {
         requires { hash ≡ key_hash S.BuildHasher S.Hasher.Hasher Q.hash_input hashes.now query }
         ensures { Takes Q.stands_for (inside self.old) query result (inside self.new) };
 
-    // Lets all entries go.
-    fn clear<F>(&mut self, visit: F)
+    // Lets all entries go, and answers the closure as they leave it.
+    fn clear<F>(&mut self, visit: F) -> F
     where
         K: Drop,
         V: Drop,
         F: FnMut(Entry<K, V>) + Drop,
         requires { F.IsAlwaysCallable visit }
-        ensures { ClearsShard (λ p x q. F.step p x tt q) visit (inside self.old) (inside self.new) };
+        ensures clears { ClearsShardTo (λ p x q. F.step p x tt q) visit (inside self.old) result (inside self.new) }
+        ensures again { F.IsAlwaysCallable result };
 
-    // Lets all entries go, the first first.
-    fn drain<F>(&mut self, visit: F)
+    // The same, the first first.
+    fn drain<F>(&mut self, visit: F) -> F
     where
         K: Drop,
         V: Drop,
         F: FnMut(Entry<K, V>) + Drop,
         requires { F.IsAlwaysCallable visit }
-        ensures { DrainsShard (λ p x q. F.step p x tt q) visit (inside self.old) (inside self.new) };
+        ensures drains { DrainsShardTo (λ p x q. F.step p x tt q) visit (inside self.old) result (inside self.new) }
+        ensures again { F.IsAlwaysCallable result };
 
-    // Gives the shard other limits, and lets go what has to go for them.
-    fn set_limits<F>(&mut self, limits: Limits, visit: F)
+    // Gives the shard other limits, lets go what has to go for them, and answers the closure as that leaves it.
+    fn set_limits<F>(&mut self, limits: Limits, visit: F) -> F
     where
         K: Drop,
         V: Drop,
         F: FnMut(Entry<K, V>) + Drop,
         requires { F.IsAlwaysCallable visit }
-        ensures { LimitsShard (λ p x q. F.step p x tt q) visit limits.weight limits.entries (inside self.old) (inside self.new) };
+        ensures limits { LimitsShardTo (λ p x q. F.step p x tt q) visit limits.weight limits.entries (inside self.old) result (inside self.new) }
+        ensures again { F.IsAlwaysCallable result };
 
     // Takes the last entry out.
     fn pop_last(&mut self) -> Option<Entry<K, V>>

@@ -6,6 +6,7 @@
 mod calls;
 pub mod counts;
 mod kept;
+mod leaving;
 pub mod limits;
 pub mod locked;
 mod one;
@@ -14,3 +15,4 @@ pub mod relations;
 pub mod sharded;
 pub mod shards;
 pub mod shared;
+mod turns;

@@ -190,6 +190,10 @@ impl<'a, C, W: Wait, const N: usize> Shards<C> for Locked<'a, C, W, N> {
 
     ghost does_more = { λ P Q more s t i d. (d.0, (d.1.0, more d.0 d.1.0 d.1.1)) };
 
+    ghost sees_any = { λ P s i d. d.1 };
+
+    ghost does_any = { λ P s t i d. d.1.1 };
+
     #[inline(always)]
     fn count(&self) -> usize {
         N

@@ -2,11 +2,12 @@
 ghost use Rattle.std.specs.Prelude.{◌≡◌, is_some};
 ghost use Rattle.lru_index.specs.Hashing.{key_hash};
 ghost use Rattle.lru_cache.specs.Cache.{entry_of};
-ghost use Rattle.lru_shared.specs.Calls.{ShowsEntry, VisitsEach};
+ghost use Rattle.lru_shared.specs.Calls.{ShowsEntry, VisitsEachTo};
 ghost use Rattle.lru_shared.specs.Counting.{size_of};
 
 use crate::counts::{Counted, Size, Why, weight_in};
 use crate::kept::Kept;
+use crate::leaving::{clear, drain, set_limits};
 use crate::limits::Limits;
 use lru_cache::cache::{Cache, Entry, Refused};
 use lru_index::alike::SameHashes;
@@ -66,19 +67,21 @@ where
     Some(show(value))
 }
 
-// Calls a closure with the key, the value and the weight of each entry, most recent first.
-pub(crate) fn visit_each<K, V, S, F>(shard: &Shard<K, V, S>, mut visit: F)
+// Calls a closure with the key, the value and the weight of each entry, most recent first, and answers it as that leaves it.
+pub(crate) fn visit_each<K, V, S, F>(shard: &Shard<K, V, S>, mut visit: F) -> F
 where
     K: Hash,
     S: BuildHasher,
     F: FnMut((&K, &V, usize)),
     requires { F.IsAlwaysCallable visit }
-    ensures { VisitsEach (λ p x q. F.step p x tt q) visit shard.now.cache.entries }
+    ensures visits { VisitsEachTo (λ p x q. F.step p x tt q) visit shard.now.cache.entries result }
+    ensures again { F.IsAlwaysCallable result }
 {
     let mut rest = shard.cache.iter();
     while let Some(entry) = rest.next() {
         visit(entry);
     }
+    visit
 }
 
 // It asks no relation of anybody.
@@ -195,40 +198,43 @@ impl<K: Hash, V, S: BuildHasher> Kept<K, V, S> for Counted<Cache<K, V, S>> {
         Some(gone)
     }
 
-    fn clear<F>(&mut self, visit: F)
+    fn clear<F>(&mut self, visit: F) -> F
     where
         K: Drop,
         V: Drop,
         F: FnMut(Entry<K, V>) + Drop,
     {
         let Size { entries, weight } = size(&self.cache);
-        self.cache.clear(visit);
+        let visit = clear(&mut self.cache, visit);
         self.counts
             .leave(Why::Cleared, entries as u64, weight as u64);
+        visit
     }
 
-    fn drain<F>(&mut self, visit: F)
+    fn drain<F>(&mut self, visit: F) -> F
     where
         K: Drop,
         V: Drop,
         F: FnMut(Entry<K, V>) + Drop,
     {
         let Size { entries, weight } = size(&self.cache);
-        self.cache.drain(visit);
+        let visit = drain(&mut self.cache, visit);
         self.counts
             .leave(Why::Cleared, entries as u64, weight as u64);
+        visit
     }
 
-    fn set_limits<F>(&mut self, limits: Limits, visit: F)
+    fn set_limits<F>(&mut self, limits: Limits, visit: F) -> F
     where
         K: Drop,
         V: Drop,
         F: FnMut(Entry<K, V>) + Drop,
     {
         let before = size(&self.cache);
-        self.cache.set_limits(limits.weight, limits.entries, visit);
+        let visit = set_limits(&mut self.cache, limits.weight, limits.entries, visit);
         let after = size(&self.cache);
         self.counts.leave_from(Why::ForRoom, before, after);
+        visit
     }
 
     fn pop_last(&mut self) -> Option<Entry<K, V>>

@@ -116,33 +116,33 @@ impl<K: Hash, V, S: BuildHasher, Rel: Relation<K, V>> Kept<K, V, S> for RelatedS
     }
 
     #[inline(always)]
-    fn clear<F>(&mut self, visit: F)
+    fn clear<F>(&mut self, visit: F) -> F
     where
         K: Drop,
         V: Drop,
         F: FnMut(Entry<K, V>) + Drop,
     {
-        self.shard.clear(visit);
+        self.shard.clear(visit)
     }
 
     #[inline(always)]
-    fn drain<F>(&mut self, visit: F)
+    fn drain<F>(&mut self, visit: F) -> F
     where
         K: Drop,
         V: Drop,
         F: FnMut(Entry<K, V>) + Drop,
     {
-        self.shard.drain(visit);
+        self.shard.drain(visit)
     }
 
     #[inline(always)]
-    fn set_limits<F>(&mut self, limits: Limits, visit: F)
+    fn set_limits<F>(&mut self, limits: Limits, visit: F) -> F
     where
         K: Drop,
         V: Drop,
         F: FnMut(Entry<K, V>) + Drop,
     {
-        self.shard.set_limits(limits, visit);
+        self.shard.set_limits(limits, visit)
     }
 
     #[inline(always)]

@@ -4,18 +4,19 @@ ghost use Rattle.lru_index.specs.Hashing.{key_hash, seeded, unseeded};
 ghost use Rattle.lru_cache.specs.Cache.{hashes_from, entry_of};
 ghost use Rattle.lru_entries.specs.Entries.{weight_of};
 ghost use Rattle.lru_shared.specs.Shards.{home, Sees, Owns, OwnsEach};
-ghost use Rattle.lru_shared.specs.Calls.{ShowsEntry, VisitsEach, Gets, Lends, RetainsShard, GetsOrPuts};
-ghost use Rattle.lru_shared.specs.Counting.{Takes, PopsShard, ClearsShard, DrainsShard, LimitsShard, PutsCounted};
+ghost use Rattle.lru_shared.specs.Turns.{InTurn, EachInTurn, GoesOn};
+ghost use Rattle.lru_shared.specs.Calls.{ShowsEntry, VisitsEach, VisitsEachTo, Gets, Lends, RetainsShard, GetsOrPuts};
+ghost use Rattle.lru_shared.specs.Counting.{Takes, PopsShard, ClearsShard, ClearsShardTo, DrainsShard, DrainsShardTo, LimitsShard, LimitsShardTo, PutsCounted};
 ghost use Rattle.lru_shared.specs.Counts.{total};
 ghost use Rattle.lru_shared.specs.Sharded.{empty_shard, empty_shards};
 ghost use Rattle.lru_shared.specs.Popping.{PopsAmong, PopsRound};
 
-use crate::calls;
 use crate::calls::NotGot;
 use crate::counts::{Counted, Counts, shard_stats, total};
 use crate::limits::Limits;
 use crate::one::Shard;
 use crate::shards::Owned;
+use crate::{calls, turns};
 use lru_cache::cache::{Cache, Entry, Refused};
 use lru_index::alike::SameHashes;
 use lru_index::hashing::SeededHashes;
@@ -203,6 +204,15 @@ impl<K: Hash, V, const N: usize, S: BuildHasher> ShardedCache<K, V, N, S> {
         ensures { Sees self.now.shards shard (λ shard. VisitsEach (λ p x q. F.step p x tt q) visit shard.cache.entries) }
     {
         calls::visit_each(&self.shards, shard, visit);
+    }
+
+    /// Calls a closure with the key, the value and the weight of each entry of all shards, of shard 0 first, in each most
+    /// recent first. None is used by that.
+    pub fn for_each<F: FnMut((&K, &V, usize))>(&self, visit: F)
+        requires { F.IsAlwaysCallable visit }
+        ensures { (left : F) × GoesOn (λ i v u. Sees self.now.shards i (λ shard. VisitsEachTo (λ p x q. F.step p x tt q) v shard.cache.entries u)) N visit left }
+    {
+        turns::visit_all(&self.shards, visit);
     }
 }
 
@@ -409,5 +419,43 @@ impl<K: Hash + Drop, V: Drop, const N: usize, S: BuildHasher> ShardedCache<K, V,
         ensures hashes { self.new.hashes ≡ self.old.hashes }
     {
         calls::set_limits(&mut self.shards, shard, limits, visit);
+    }
+
+    /// Lets all entries go, of shard 0 first, in each shard the one that was used longest ago first, and hands each to `visit`.
+    pub fn clear<F: FnMut(Entry<K, V>) + Drop>(&mut self, visit: F)
+        requires { F.IsAlwaysCallable visit }
+        ensures acts { (left : F) × InTurn (λ s i P t. Owns s i P t) (λ v a u b. ClearsShardTo (λ p x q. F.step p x tt q) v a u b) N self.old.shards visit left self.new.shards }
+        ensures hashes { self.new.hashes ≡ self.old.hashes }
+    {
+        turns::clear_all(&mut self.shards, visit);
+    }
+
+    /// Lets all entries go, of shard 0 first, in each shard the one that was used last first, and hands each to `visit`.
+    pub fn drain<F: FnMut(Entry<K, V>) + Drop>(&mut self, visit: F)
+        requires { F.IsAlwaysCallable visit }
+        ensures acts { (left : F) × InTurn (λ s i P t. Owns s i P t) (λ v a u b. DrainsShardTo (λ p x q. F.step p x tt q) v a u b) N self.old.shards visit left self.new.shards }
+        ensures hashes { self.new.hashes ≡ self.old.hashes }
+    {
+        turns::drain_all(&mut self.shards, visit);
+    }
+
+    /// Asks `keep` of each entry, of shard 0 first, in each shard the one that was used longest ago first, by its key, its value
+    /// and its weight, and lets those go for which it answers false. The others stay, in their order.
+    pub fn retain<F: Fn(&K, &V, usize) -> bool>(&mut self, keep: F)
+        requires { F.IsAlwaysCallable keep }
+        ensures acts { EachInTurn (λ s i P t. Owns s i P t) (λ before after. RetainsShard (λ p k v w b q. F.step p k v w b q) keep before after) N self.old.shards self.new.shards }
+        ensures hashes { self.new.hashes ≡ self.old.hashes }
+    {
+        turns::retain_all(&mut self.shards, keep);
+    }
+
+    /// Gives the cache other limits, and each shard its part of them, `limits.weight / N` and `limits.entries / N`. Then, of
+    /// shard 0 first, the entries that were used longest ago go, as many as have to, and each is handed to `visit`.
+    pub fn set_limits<F: FnMut(Entry<K, V>) + Drop>(&mut self, limits: Limits, visit: F)
+        requires { F.IsAlwaysCallable visit }
+        ensures acts { (left : F) × InTurn (λ s i P t. Owns s i P t) (λ v a u b. LimitsShardTo (λ p x q. F.step p x tt q) v (limits.weight / N) (limits.entries / N) a u b) N self.old.shards visit left self.new.shards }
+        ensures hashes { self.new.hashes ≡ self.old.hashes }
+    {
+        turns::set_all_limits(&mut self.shards, limits, visit);
     }
 }

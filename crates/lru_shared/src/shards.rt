@@ -38,6 +38,12 @@ pub trait Shards<S> {
     // what follows from how a shard is changed is known of that
     ghost does_more: { (P Q : S → S → Type 0) → ((a b : S) → P a b → Q a b) → (s t : Self) (i : ℕ) → does s i P t → does s i Q t };
 
+    // what is known of a shard, and hangs on none, is so
+    ghost sees_any: { (P : Type 0) → (s : Self) (i : ℕ) → sees s i (λ a. P) → P };
+
+    // what is known of how a shard is changed, and hangs on none, is so
+    ghost does_any: { (P : Type 0) → (s t : Self) (i : ℕ) → does s i (λ a b. P) t → P };
+
     /// How many shards there are.
     fn count(&self) -> usize
         ensures { result ≡ many self.now };
@@ -123,6 +129,10 @@ impl<S> Shards<S> for Owned<S> {
     ghost sees_more = { λ P Q more s i d. (d.0, (d.1.0, more d.0 d.1.1)) };
 
     ghost does_more = { λ P Q more s t i d. (d.0, (d.1.0, (d.1.1.0, (more d.0 d.1.0 d.1.1.1.0, d.1.1.1.1)))) };
+
+    ghost sees_any = { λ P s i d. d.1.1 };
+
+    ghost does_any = { λ P s t i d. d.1.1.1.0 };
 
     #[inline(always)]
     fn count(&self) -> usize {

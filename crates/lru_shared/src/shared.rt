@@ -2,10 +2,10 @@
 ghost use Rattle.std.specs.Prelude.{◌≡◌, ℕ, ◌<◌, ◌/◌, All, length, vec_len, true, Ok, IfOk, IfErr, IfSome};
 ghost use Rattle.lru_shared.specs.Answers.{HandsBack};
 ghost use Rattle.lru_shared.specs.Sharded.{empty_shard};
-ghost use Rattle.lru_shared.specs.Related.{KeepsRelation, MayShowRelated, MayLendRelated, MayGetRelated, MayTakeRelated, MayPutRelated, MayVisitRelated, MayClearRelated, MayDrainRelated, MayLimitRelated, MayRetainRelated};
+ghost use Rattle.lru_shared.specs.Related.{KeepsRelation, MayShowRelated, MayLendRelated, MayGetRelated, MayTakeRelated, MayPutRelated, MayVisitRelated, MayClearRelated, MayDrainRelated, MayLimitRelated, MayRetainRelated, MayVisitTo, MayClearTo, MayDrainTo, MayLimitTo};
+ghost use Rattle.lru_shared.specs.Turns.{GoesOn};
 ghost use Rattle.lru_shared.specs.Relations.{IsRelated, AreRelated};
 
-use crate::calls;
 pub use crate::calls::NotGot;
 use crate::counts::{Counted, Counts};
 use crate::kept::Kept;
@@ -13,6 +13,7 @@ pub use crate::limits::Limits;
 use crate::locked::{Held, Locked, behind_locks};
 use crate::related::RelatedShard;
 pub use crate::relations::{Anything, Relation};
+use crate::{calls, turns};
 use crossbeam_utils::CachePadded;
 use lru_cache::cache::{Cache, Entry, Refused};
 use lru_index::alike::SameHashes;
@@ -255,6 +256,16 @@ impl<K: Hash, V, const N: usize, S: BuildHasher, Rel: Relation<K, V>> SharedCach
         ensures { MayVisitRelated Rel.holds (λ p x q. F.step p x tt q) visit }
     {
         calls::visit_each(&self.locked(rt), shard, visit);
+    }
+
+    /// Calls a closure with the key, the value and the weight of each entry of all shards, of shard 0 first, in each most
+    /// recent first, and each shard under its lock, one after another. None is used by that. What others do meanwhile to a
+    /// shard that is done is not shown.
+    pub fn for_each<F: FnMut((&K, &V, usize))>(&self, rt: &impl Wait, visit: F)
+        requires { F.IsAlwaysCallable visit }
+        ensures { (left : F) × GoesOn (λ i v u. MayVisitTo Rel.holds (λ p x q. F.step p x tt q) v u) N visit left }
+    {
+        turns::visit_all(&self.locked(rt), visit);
     }
 
     /// Takes the lock of a shard, and holds it as long as what it answers is there. Meanwhile a call that waits for the same
@@ -539,5 +550,42 @@ impl<K: Hash + Drop, V: Drop, const N: usize, S: BuildHasher, Rel: Relation<K, V
         ensures { MayDrainRelated Rel.holds (λ p x q. F.step p x tt q) visit }
     {
         calls::drain(&mut self.locked(rt), shard, visit);
+    }
+
+    /// Lets all entries go, of shard 0 first, in each shard the one that was used longest ago first, and hands each to `visit`,
+    /// under the lock of its shard. One lock is held at a time: what others put meanwhile into a shard that is done stays.
+    pub fn clear<F: FnMut(Entry<K, V>) + Drop>(&self, rt: &impl Wait, visit: F)
+        requires { F.IsAlwaysCallable visit }
+        ensures { (left : F) × GoesOn (λ i v u. MayClearTo Rel.holds (λ p x q. F.step p x tt q) v u) N visit left }
+    {
+        turns::clear_all(&mut self.locked(rt), visit);
+    }
+
+    /// As `clear`, in each shard the one that was used last first.
+    pub fn drain<F: FnMut(Entry<K, V>) + Drop>(&self, rt: &impl Wait, visit: F)
+        requires { F.IsAlwaysCallable visit }
+        ensures { (left : F) × GoesOn (λ i v u. MayDrainTo Rel.holds (λ p x q. F.step p x tt q) v u) N visit left }
+    {
+        turns::drain_all(&mut self.locked(rt), visit);
+    }
+
+    /// Asks `keep` of each entry, of shard 0 first, in each shard the one that was used longest ago first, by its key, its value
+    /// and its weight, under the lock of its shard, and lets those go for which it answers false. The others stay, in their
+    /// order. One lock is held at a time: of what others put meanwhile into a shard that is done, nothing is asked.
+    pub fn retain<F: Fn(&K, &V, usize) -> bool>(&self, rt: &impl Wait, keep: F)
+        requires { F.IsAlwaysCallable keep }
+        ensures { MayRetainRelated Rel.holds (λ p k v w b q. F.step p k v w b q) keep }
+    {
+        turns::retain_all(&mut self.locked(rt), keep);
+    }
+
+    /// Gives the cache other limits, and each shard its part of them, `limits.weight / N` and `limits.entries / N`. Then, of
+    /// shard 0 first, the entries that were used longest ago go, as many as have to, and each is handed to `visit`, under the
+    /// lock of its shard. One lock is held at a time: meanwhile some shards are under the new limits and others under the old.
+    pub fn set_limits<F: FnMut(Entry<K, V>) + Drop>(&self, rt: &impl Wait, limits: Limits, visit: F)
+        requires { F.IsAlwaysCallable visit }
+        ensures { (left : F) × GoesOn (λ i v u. MayLimitTo Rel.holds (λ p x q. F.step p x tt q) v (limits.weight / N) (limits.entries / N) u) N visit left }
+    {
+        turns::set_all_limits(&mut self.locked(rt), limits, visit);
     }
 }

@@ -16,3 +16,5 @@ mod sharded;
 mod soak;
 #[cfg(test)]
 mod texts;
+#[cfg(test)]
+mod turns;

@@ -25,16 +25,13 @@ loop-entry-preserved g c =
       ),
     )
 
-pub returns : goal.returns
-returns g c =
+pub returns-clause-visits : goal.returns-clause-visits
+returns-clause-visits g c =
     let inv = c.loop-entry.invariant in
     let given = inv.1.0 in (
       given,
       (
-        c.loop-entry.visit,
-        (
-          sym (append-nil (map shown given)) ∙ ap (λ xs. map shown given ++ xs) (sym c.in_default.ensures.steps.0) ∙ inv.1.1.0,
-          subst (λ xs. FoldsTo (λ p x q. goal.F-step g p x tt q) c.args.visit xs c.loop-entry.visit) (append-nil given) (inv.1.1.1 [] c.loop-entry.visit refl),
-        ),
+        sym (append-nil (map shown given)) ∙ ap (λ xs. map shown given ++ xs) (sym c.in_default.ensures.steps.0) ∙ inv.1.1.0,
+        subst (λ xs. FoldsTo (λ p x q. goal.F-step g p x tt q) c.args.visit xs c.loop-entry.visit) (append-nil given) (inv.1.1.1 [] c.loop-entry.visit refl),
       ),
     )
