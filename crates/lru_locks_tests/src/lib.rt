@@ -8,6 +8,8 @@ mod admissions;
 #[cfg(test)]
 mod batches;
 #[cfg(test)]
+mod beside;
+#[cfg(test)]
 mod closures;
 #[cfg(test)]
 mod draws;
@@ -23,3 +25,5 @@ mod shown;
 mod steps;
 #[cfg(test)]
 mod threads;
+#[cfg(test)]
+mod visits;

@@ -130,3 +130,19 @@ fn shows_its_shards(rt: HostRuntime) -> Result<(), Fail> {
     );
     Ok(())
 }
+
+// Whether one of many shards refuses room for more rows than it may have, which its part of that would not be, and makes room for
+// a few.
+fn makes_room<R: Wait>(rt: &R, alloc: Global) -> Result<(bool, bool), AllocError> {
+    let lru = Lru::<u64, 4096>::with_capacity(alloc, 10, 0)?;
+    Ok((
+        lru.reserve_shard(rt, 5, 4_294_967_294).is_err(),
+        lru.reserve_shard(rt, 5, 100).is_ok(),
+    ))
+}
+
+#[test]
+fn makes_room_in_one_shard(rt: HostRuntime) -> Result<(), Fail> {
+    assert_eq!(rt; makes_room(&rt, rt.alloc())?, (true, true));
+    Ok(())
+}

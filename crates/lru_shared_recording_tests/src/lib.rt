@@ -6,7 +6,11 @@
 #[cfg(test)]
 mod asked;
 #[cfg(test)]
+mod beside;
+#[cfg(test)]
 mod draws;
+#[cfg(test)]
+mod handed;
 #[cfg(test)]
 mod plain;
 #[cfg(test)]
