@@ -8,8 +8,6 @@ mod admissions;
 #[cfg(test)]
 mod batches;
 #[cfg(test)]
-mod beside;
-#[cfg(test)]
 mod closures;
 #[cfg(test)]
 mod draws;

@@ -6,8 +6,6 @@
 #[cfg(test)]
 mod asked;
 #[cfg(test)]
-mod beside;
-#[cfg(test)]
 mod draws;
 #[cfg(test)]
 mod handed;
