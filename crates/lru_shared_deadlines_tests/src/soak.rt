@@ -275,9 +275,11 @@ fn are_accounted(tally: Tally, (lost, lost_squares): (u64, u64), stats: Counts) 
 }
 
 // Whether the cache was within its limits, what is left in it is let go, and all is accounted for.
-fn all_come_out<R: Threads + Wait + Sync>(rt: &R, alloc: Global) -> Result<bool, AllocError> {
-    let counts = Ledger::none();
-    let ledger = &counts;
+fn all_come_out<'a, R: Threads + Wait + Sync>(
+    rt: &R,
+    alloc: Global,
+    ledger: &'a Ledger,
+) -> Result<bool, AllocError> {
     let limits = Limits {
         weight: 64,
         entries: 24,
@@ -293,8 +295,14 @@ fn all_come_out<R: Threads + Wait + Sync>(rt: &R, alloc: Global) -> Result<bool,
     Ok(is_within & is_empty & are_copies & is_right)
 }
 
+// The same, with a ledger of its own, which outlives the cache.
+fn all_are_accounted<R: Threads + Wait + Sync>(rt: &R, alloc: Global) -> Result<bool, AllocError> {
+    let ledger = Ledger::none();
+    all_come_out(rt, alloc, &ledger)
+}
+
 #[test]
 fn each_value_comes_out_once(rt: HostRuntime) -> Result<(), Fail> {
-    assert!(rt; all_come_out(&rt, rt.alloc())?);
+    assert!(rt; all_are_accounted(&rt, rt.alloc())?);
     Ok(())
 }
