@@ -1,4 +1,6 @@
 //! Shards of one owner: each call, and that a shared cache does behind its locks what they do.
+ghost use Rattle.std.specs.Prelude.{◌<◌};
+
 use lru_cache::cache::Entry;
 use lru_index::hashing::SeededHashes;
 use lru_shared::counts::Counts;
@@ -104,7 +106,9 @@ fn gone_for_shared(rt: &impl Wait, cache: &SharedCache<u64, u64, 4>, key: u64) -
 }
 
 // The keys of a shard in their order, in one number.
-fn keys_of_owned(cache: &Numbers, shard: usize) -> u64 {
+fn keys_of_owned(cache: &Numbers, shard: usize) -> u64
+    requires { shard < 4 }
+{
     let mut keys = 0u64;
     cache.iter_for_each(shard, |(key, _value, _weight): (&u64, &u64, usize)| {
         keys = keys.wrapping_mul(97).wrapping_add(*key)
@@ -113,7 +117,9 @@ fn keys_of_owned(cache: &Numbers, shard: usize) -> u64 {
 }
 
 // The same behind a lock: the keys that are shown, where the shard that is held has as many.
-fn keys_of_shared(rt: &impl Wait, cache: &SharedCache<u64, u64, 4>, shard: usize) -> u64 {
+fn keys_of_shared(rt: &impl Wait, cache: &SharedCache<u64, u64, 4>, shard: usize) -> u64
+    requires { shard < 4 }
+{
     let mut keys = 0u64;
     let mut shown = 0usize;
     cache.iter_for_each(rt, shard, |(key, _value, _weight)| {
