@@ -11,6 +11,8 @@ mod cache_tests;
 #[cfg(test)]
 mod counted;
 #[cfg(test)]
+mod deadline_calls;
+#[cfg(test)]
 mod deadline_memory_tests;
 #[cfg(test)]
 mod deadline_steps;
