@@ -5,6 +5,8 @@
 #![tactic(auto)]
 
 #[cfg(test)]
+mod admission_tests;
+#[cfg(test)]
 mod alike;
 #[cfg(test)]
 mod cache_tests;
