@@ -29,6 +29,12 @@ mod made_tests;
 #[cfg(test)]
 mod memory_tests;
 #[cfg(test)]
+mod segmented_deadline_tests;
+#[cfg(test)]
+mod segmented_tests;
+#[cfg(test)]
+mod segmented_unit_tests;
+#[cfg(test)]
 mod steps;
 #[cfg(test)]
 mod text_tests;
