@@ -11,6 +11,16 @@ mod made;
 #[cfg(test)]
 mod related;
 #[cfg(test)]
+mod segmented_calls;
+#[cfg(test)]
+mod segmented_made;
+#[cfg(test)]
+mod segmented_rows;
+#[cfg(test)]
+mod segmented_soak;
+#[cfg(test)]
+mod segmented_walks;
+#[cfg(test)]
 mod sharded;
 #[cfg(test)]
 mod soak;
