@@ -7,6 +7,18 @@
 #[cfg(test)]
 mod calls;
 #[cfg(test)]
+mod deadline_counted;
+#[cfg(test)]
+mod deadline_ends;
+#[cfg(test)]
+mod deadline_made;
+#[cfg(test)]
+mod deadline_shown;
+#[cfg(test)]
+mod deadline_soak;
+#[cfg(test)]
+mod deadline_whole;
+#[cfg(test)]
 mod made;
 #[cfg(test)]
 mod related;

@@ -1,7 +1,7 @@
 //! Four threads put, get, make, remove and sweep, while one copies the shards and one clears them. Each value comes out once, or
 //! is there at the end, or was made for a key that others had put meanwhile; and the counts say how. A value that comes out is
 //! its key's.
-use crate::counted::{Counted, Ledger};
+use crate::deadline_counted::{Counted, Ledger};
 use lru_cache_captures::shared_deadlines::capture_shard;
 use lru_shared::counts::Counts;
 use lru_shared_deadlines::shared::{Ages, Gone, Limits, SharedDeadlineCache};
