@@ -4,11 +4,17 @@
 #![tactic(auto)]
 
 #[cfg(test)]
+mod checkpoint_calls;
+#[cfg(test)]
+mod claims;
+#[cfg(test)]
 mod crash_tests;
 #[cfg(test)]
 mod damage_tests;
 #[cfg(test)]
 mod error_tests;
+#[cfg(test)]
+mod failing_calls;
 #[cfg(test)]
 mod failure_tests;
 #[cfg(test)]
@@ -28,4 +34,8 @@ mod rotation_tests;
 #[cfg(test)]
 mod round_trip_tests;
 #[cfg(test)]
+mod script;
+#[cfg(test)]
 mod stored_tests;
+#[cfg(test)]
+mod told_calls;
