@@ -39,3 +39,11 @@ mod script;
 mod stored_tests;
 #[cfg(test)]
 mod told_calls;
+#[cfg(test)]
+mod tool_damage_tests;
+#[cfg(test)]
+mod tool_fixture;
+#[cfg(test)]
+mod tool_stream_tests;
+#[cfg(test)]
+mod tool_text_tests;

@@ -1,7 +1,7 @@
 //! Reads and writes that fail.
 ghost use Rattle.std.specs.Prelude.{⊤};
 
-use crate::fixture::{Run, empty, other_run, words};
+use crate::tool_fixture::{Run, empty, other_run, words};
 use lru_lines::input::{Input, InputError, read_to_end};
 use lru_operations::engine::{run, run_buffered};
 use lru_operations::program;

@@ -1,5 +1,5 @@
 //! Worked texts. They were written by hand.
-use crate::fixture::{Run, answers, empty, other_run_on_empty};
+use crate::tool_fixture::{Run, answers, empty, other_run_on_empty};
 use lru_frames::row::Row;
 use lru_generations::generations::save;
 use std::alloc::{AllocError, Global};

@@ -1,5 +1,5 @@
 //! Damage and faults: a line that tells them, and no row.
-use crate::fixture::{Run, answers, empty, other_run, other_run_on_empty, saves, written};
+use crate::tool_fixture::{Run, answers, empty, other_run, other_run_on_empty, saves, written};
 use lru_folder::folder::Folder;
 use lru_memory_folder::memory_folder::MemoryFolder;
 use std::alloc::{AllocError, Global};
