@@ -4,13 +4,33 @@
 #![tactic(auto)]
 
 #[cfg(test)]
+mod cleanup_tests;
+#[cfg(test)]
 mod counted;
 #[cfg(test)]
 mod folder_memory_tests;
 #[cfg(test)]
 mod folder_tests;
 #[cfg(test)]
+mod host_folder_tests;
+#[cfg(test)]
 mod lists;
+#[cfg(test)]
+mod load_fault_tests;
+#[cfg(test)]
+mod loading_memory_tests;
+#[cfg(test)]
+mod loading_tests;
+#[cfg(test)]
+mod piece_tests;
+#[cfg(test)]
+mod plan_tests;
+#[cfg(test)]
+mod save_fault_tests;
+#[cfg(test)]
+mod saving_memory_tests;
+#[cfg(test)]
+mod saving_tests;
 #[cfg(test)]
 mod snapshot_memory_tests;
 #[cfg(test)]
