@@ -8,6 +8,12 @@ mod cleanup_tests;
 #[cfg(test)]
 mod counted;
 #[cfg(test)]
+mod draw_tests;
+#[cfg(test)]
+mod fault_tests;
+#[cfg(test)]
+mod file_tests;
+#[cfg(test)]
 mod folder_memory_tests;
 #[cfg(test)]
 mod folder_tests;
@@ -26,11 +32,15 @@ mod piece_tests;
 #[cfg(test)]
 mod plan_tests;
 #[cfg(test)]
+mod run_tests;
+#[cfg(test)]
 mod save_fault_tests;
 #[cfg(test)]
 mod saving_memory_tests;
 #[cfg(test)]
 mod saving_tests;
+#[cfg(test)]
+mod size_tests;
 #[cfg(test)]
 mod snapshot_memory_tests;
 #[cfg(test)]
@@ -39,3 +49,5 @@ mod snapshot_tests;
 mod syncs;
 #[cfg(test)]
 mod text_tests;
+#[cfg(test)]
+mod unlisted;
