@@ -2,8 +2,8 @@
 use crate::steps::{fault, rows_of};
 use lru_cores::inclusion::inclusion_law;
 use lru_cores::lru_core::LruCore;
-use lru_test_rows::asked::Step;
-use lru_test_rows::tables::{UNDER_A_WATERMARK, UNDER_TWO_LIMITS};
+use crate::asked::Step;
+use crate::tables::{UNDER_A_WATERMARK, UNDER_TWO_LIMITS};
 use rand::rngs::StdRng;
 use rand_core::SeedableRng;
 use std::alloc::{AllocError, Global};

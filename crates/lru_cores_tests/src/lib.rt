@@ -4,6 +4,7 @@
 //! What is expected is worked out by hand, or is what a plain simulation answers, and never what the program answered.
 #![tactic(auto)]
 
+pub mod asked;
 #[cfg(test)]
 mod closures;
 #[cfg(test)]
@@ -24,6 +25,7 @@ mod shard_rows;
 mod shard_steps;
 #[cfg(test)]
 mod steps;
+pub mod tables;
 #[cfg(test)]
 mod tier_rows;
 #[cfg(test)]

@@ -3,7 +3,7 @@ ghost use Rattle.std.specs.Prelude.{◌<◌};
 
 use lru_cores::calls::{Call, Reply, answer};
 use lru_cores::lru_core::LruCore;
-use lru_test_rows::asked::{Step, call_of};
+use crate::asked::{Step, call_of};
 use rand::rngs::StdRng;
 use std::alloc::{AllocError, Global};
 
