@@ -4,7 +4,11 @@
 //! What is expected is worked out by hand, or is what a plain simulation answers, and never what the program answered.
 #![tactic(auto)]
 
+#[cfg(test)]
+mod admissions;
 pub mod asked;
+#[cfg(test)]
+mod batches;
 #[cfg(test)]
 mod closures;
 #[cfg(test)]
@@ -14,7 +18,19 @@ mod fronts;
 #[cfg(test)]
 mod hashers;
 #[cfg(test)]
+mod left;
+#[cfg(test)]
 mod looks;
+#[cfg(test)]
+mod lru_closures;
+#[cfg(test)]
+mod lru_draws;
+#[cfg(test)]
+mod lru_rows;
+#[cfg(test)]
+mod lru_steps;
+#[cfg(test)]
+mod replays;
 #[cfg(test)]
 mod rows;
 #[cfg(test)]
@@ -24,9 +40,15 @@ mod shard_rows;
 #[cfg(test)]
 mod shard_steps;
 #[cfg(test)]
+mod shown;
+#[cfg(test)]
 mod steps;
 pub mod tables;
+#[cfg(test)]
+mod threads;
 #[cfg(test)]
 mod tier_rows;
 #[cfg(test)]
 mod tier_steps;
+#[cfg(test)]
+mod visits;

@@ -3,7 +3,7 @@ use crate::shown::{rows_of, text_of};
 use lru_cores::calls::{Call, Reply};
 use lru_locks::lru::Lru;
 use lru_shard::unit::Refused;
-use lru_cores_tests::asked::{Step, call_of};
+use crate::asked::{Step, call_of};
 use rand::rngs::StdRng;
 use std::alloc::{AllocError, Global};
 use std::sync::Wait;

@@ -2,7 +2,7 @@
 ghost use Rattle.lru_cores.specs.Calls.{IsAllowed};
 
 use crate::shown::{tell_core_state, tell_state, text_of};
-use crate::steps::answer_of;
+use crate::lru_steps::answer_of;
 use lru_cores::calls;
 use lru_cores::calls::Call;
 use lru_cores::lru_core::LruCore;
