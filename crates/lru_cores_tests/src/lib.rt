@@ -30,6 +30,20 @@ mod lru_rows;
 #[cfg(test)]
 mod lru_steps;
 #[cfg(test)]
+mod recorded_calls;
+#[cfg(test)]
+mod recorded_draws;
+#[cfg(test)]
+mod recorded_handed;
+#[cfg(test)]
+mod recorded_plain;
+#[cfg(test)]
+mod recorded_refused;
+#[cfg(test)]
+mod recorded_rows;
+#[cfg(test)]
+mod recorded_threads;
+#[cfg(test)]
 mod replays;
 #[cfg(test)]
 mod rows;
