@@ -4,15 +4,29 @@
 #![tactic(auto)]
 
 #[cfg(test)]
+mod actor_rows;
+#[cfg(test)]
+mod box_rows;
+#[cfg(test)]
 mod callbacks;
 #[cfg(test)]
 mod calls;
+#[cfg(test)]
+mod causes;
+#[cfg(test)]
+mod cells;
 #[cfg(test)]
 mod drawn;
 #[cfg(test)]
 mod inboxes;
 #[cfg(test)]
+mod ledgers;
+#[cfg(test)]
 mod limits;
+#[cfg(test)]
+mod mailbox_rows;
+#[cfg(test)]
+mod mailboxes;
 #[cfg(test)]
 mod replays;
 #[cfg(test)]
@@ -21,6 +35,8 @@ mod rows;
 mod running;
 #[cfg(test)]
 mod served;
+#[cfg(test)]
+mod single;
 #[cfg(test)]
 mod soak;
 #[cfg(test)]

@@ -1,6 +1,6 @@
 use Rattle.std.proofs.Common.{◌∙◌}
-use Rattle.lru_mail_tests.proofs.Singles.{take_single}
-use Rattle.lru_mail_tests.proofs.single.Single.take.Goals as goal
+use Rattle.lru_async_tests.proofs.Singles.{take_single}
+use Rattle.lru_async_tests.proofs.single.Single.take.Goals as goal
 
 pub invariant_of-self : goal.invariant_of-self
 invariant_of-self c =

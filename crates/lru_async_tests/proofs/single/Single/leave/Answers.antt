@@ -1,7 +1,7 @@
 use Rattle.std.proofs.Common.{◌∙◌, ◌∷◌, [], sym, subst}
 use Rattle.lru_mailbox.specs.Ledger.{IsTied}
 use Rattle.lru_mailbox.proofs.TieLaws.{left_tied}
-use Rattle.lru_mail_tests.proofs.single.Single.leave.Goals as goal
+use Rattle.lru_async_tests.proofs.single.Single.leave.Goals as goal
 
 pub invariant_of-self : goal.invariant_of-self
 invariant_of-self c =
