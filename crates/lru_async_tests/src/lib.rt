@@ -4,6 +4,8 @@
 #![tactic(auto)]
 
 #[cfg(test)]
+mod accounts;
+#[cfg(test)]
 mod actor_rows;
 #[cfg(test)]
 mod box_rows;
@@ -24,6 +26,8 @@ mod ledgers;
 #[cfg(test)]
 mod limits;
 #[cfg(test)]
+mod logged;
+#[cfg(test)]
 mod mailbox_rows;
 #[cfg(test)]
 mod mailboxes;
@@ -33,6 +37,8 @@ mod replays;
 mod rows;
 #[cfg(test)]
 mod running;
+#[cfg(test)]
+mod saves;
 #[cfg(test)]
 mod served;
 #[cfg(test)]

@@ -1,4 +1,4 @@
-use Rattle.lru_logged_tests.proofs.accounts.what_nobody_takes_is_handed_back_with_its_keys.Given as goal
+use Rattle.lru_async_tests.proofs.accounts.what_nobody_takes_is_handed_back_with_its_keys.Given as goal
 
 abbrev pub ghosts-closed-B-Registry : goal.ghosts-closed-B-Registry
 ghosts-closed-B-Registry g a = record { puts = a.blanks.puts.tie.table.shared.table_id; takes = a.blanks.takes.tie.table.shared.table_id; putters = 1; takers = 0 }
