@@ -9,4 +9,6 @@ mod plain;
 #[cfg(test)]
 mod policies_tests;
 #[cfg(test)]
+mod trace_rows;
+#[cfg(test)]
 mod words_tests;
