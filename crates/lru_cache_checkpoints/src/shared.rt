@@ -22,7 +22,7 @@ use lru_generations::generations::{Saved, save, save_after};
 use lru_generations::known::Known;
 use lru_generations::loading::{Loaded, load};
 use lru_shared::shared::SharedCache;
-use lru_synced_folder::synced_folder::SyncedFolder;
+use lru_folder::synced_folder::SyncedFolder;
 use std::alloc::Global;
 use std::hash::Hash;
 use std::sync::Wait;

@@ -18,7 +18,7 @@ use lru_frames::stored::Stored;
 use lru_generations::generations::{Saved, save, save_after};
 use lru_generations::known::Known;
 use lru_shared_deadlines::shared::SharedDeadlineCache;
-use lru_synced_folder::synced_folder::SyncedFolder;
+use lru_folder::synced_folder::SyncedFolder;
 use std::alloc::Global;
 use std::hash::Hash;
 use std::sync::Wait;

@@ -2,7 +2,7 @@
 use lru_folder::fault::FolderFault;
 use lru_folder::folder::Folder;
 use lru_host_folder::host_folder::HostFolder;
-use lru_synced_folder::synced_folder::SyncedFolder;
+use lru_folder::synced_folder::SyncedFolder;
 use std::fs;
 use std::test::Fail;
 

@@ -4,7 +4,7 @@ use lru_folder::fault::FolderFault;
 use lru_folder::folder::Folder;
 use lru_folder::listed::Listed;
 use lru_host_folder::host_folder::SystemFolder;
-use lru_synced_folder::synced_folder::SyncedFolder;
+use lru_folder::synced_folder::SyncedFolder;
 use std::alloc::Global;
 use std::io::ErrorKind;
 use std::test::Fail;

@@ -4,7 +4,7 @@ use log::{Level, Logged, sink};
 use lru_folder::fault::FolderFault;
 use lru_folder::folder::Folder;
 use lru_host_folder::host_folder::HostFolder;
-use lru_synced_folder::synced_folder::SyncedFolder;
+use lru_folder::synced_folder::SyncedFolder;
 use std::fs;
 use std::sync::atomic::{AtomicUsize, Ordering};
 use std::test::Fail;

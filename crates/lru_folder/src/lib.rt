@@ -11,3 +11,4 @@ pub mod folder_call;
 pub mod listed;
 pub mod names;
 pub mod reports;
+pub mod synced_folder;

@@ -7,7 +7,7 @@ use Rattle.lru_folder.specs.Meaning.{Meaning}
 use Rattle.lru_folder.specs.Names.{has_slash}
 use Rattle.lru_folder.proofs.LossLemmas.{loses_on}
 use Rattle.lru_folder.proofs.Moments.{goes_on}
-use Rattle.lru_synced_folder.specs.Names.{HasNames, IsIn}
+use Rattle.lru_folder.specs.SyncedNames.{HasNames, IsIn}
 use Rattle.lru_frames.specs.declared.row.Row.{Row}
 use Rattle.lru_manifests.specs.declared.names.PartName.{PartName}
 use Rattle.lru_manifests.specs.declared.names.PartName.TheVariants.{Frame, Manifest, Temp}

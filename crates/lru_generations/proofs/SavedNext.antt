@@ -13,7 +13,7 @@ use Rattle.lru_folder.proofs.LossLemmas.{then_loses, loses_on}
 use Rattle.lru_folder.proofs.Moments.{then_run, goes_on}
 use Rattle.lru_frames.specs.declared.mark.Mark.{Mark}
 use Rattle.lru_frames.specs.declared.row.Row.{Row}
-use Rattle.lru_synced_folder.specs.Names.{IsIn}
+use Rattle.lru_folder.specs.SyncedNames.{IsIn}
 use Rattle.lru_manifests.specs.declared.manifest.Manifest as told
 use Rattle.lru_manifests.specs.declared.names.PartName.{PartName}
 use Rattle.lru_manifests.specs.declared.names.PartName.TheVariants.{Frame, Manifest}

@@ -10,7 +10,7 @@ use Rattle.lru_manifests.specs.declared.manifest.Manifest.{Manifest}
 use Rattle.lru_manifests.specs.declared.names.PartName.{PartName}
 use Rattle.lru_manifests.specs.Listing.{HasParts, IsAbove, IsLeftover}
 use Rattle.lru_manifests.specs.Names.{IsPart, generation_of, part_path, frame_path, manifest_temp_path}
-use Rattle.lru_synced_folder.specs.Names.{IsIn}
+use Rattle.lru_folder.specs.SyncedNames.{IsIn}
 use Rattle.lru_checkpoints.specs.declared.errors.CheckpointError.{CheckpointError}
 use Rattle.lru_checkpoints.specs.declared.errors.CheckpointError.TheVariants.{InUse, LastGeneration}
 use Rattle.lru_checkpoints.specs.Checkpoints.{Shards, HasCheckpoint, HasNew, IsFrame}

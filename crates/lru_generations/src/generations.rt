@@ -26,7 +26,7 @@ use lru_frames::source::Source;
 use lru_frames::stored::Stored;
 use lru_manifests::listing::{leftovers, manifests_apart, older_than};
 use lru_manifests::names::PartName;
-use lru_synced_folder::synced_folder::SyncedFolder;
+use lru_folder::synced_folder::SyncedFolder;
 use std::alloc::Global;
 
 /// A checkpoint that was saved for good.

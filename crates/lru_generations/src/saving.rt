@@ -19,7 +19,7 @@ use lru_frames::source::Source;
 use lru_frames::stored::Stored;
 use lru_manifests::manifest::Manifest;
 use lru_manifests::names::PartName;
-use lru_synced_folder::synced_folder::SyncedFolder;
+use lru_folder::synced_folder::SyncedFolder;
 use std::alloc::Global;
 
 // Whether the renaming of a manifest failed: it may have been done.

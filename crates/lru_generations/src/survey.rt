@@ -12,7 +12,7 @@ use crate::syncing::{claim, sync_names};
 use lru_checkpoints::errors::CheckpointError;
 use lru_manifests::listing::{generation_above, generations_of};
 use lru_manifests::names::PartName;
-use lru_synced_folder::synced_folder::SyncedFolder;
+use lru_folder::synced_folder::SyncedFolder;
 use std::alloc::Global;
 
 // What a save finds.

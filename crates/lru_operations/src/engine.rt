@@ -13,7 +13,7 @@ use crate::saving::save_input;
 use crate::texts::write_outcome;
 use lru_lines::input::Input;
 use lru_lines::output::Output;
-use lru_synced_folder::synced_folder::SyncedFolder;
+use lru_folder::synced_folder::SyncedFolder;
 use std::alloc::Global;
 use std::io;
 use std::io::{BufWriter, Write};

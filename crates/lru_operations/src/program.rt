@@ -10,7 +10,7 @@ use crate::engine::{run_buffered, tell_buffered};
 use crate::outcome::Outcome;
 use crate::requests::{Misuse, WordsError};
 use lru_lines::input::Input;
-use lru_synced_folder::synced_folder::SyncedFolder;
+use lru_folder::synced_folder::SyncedFolder;
 use std::alloc::{AllocError, Global};
 use std::env::{Args, Env};
 use std::io::{BufWriter, ErrorKind, Write};

@@ -12,7 +12,7 @@ use crate::outcome::Outcome;
 use lru_frames::row::Row;
 use lru_generations::generations::save;
 use lru_lines::input::{Input, InputError};
-use lru_synced_folder::synced_folder::SyncedFolder;
+use lru_folder::synced_folder::SyncedFolder;
 use std::alloc::{AllocError, Global};
 
 // How many shards the rows are divided into.

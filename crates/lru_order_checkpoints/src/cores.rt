@@ -22,7 +22,7 @@ use lru_generations::generations::{Saved, save, save_after};
 use lru_generations::known::Known;
 use lru_generations::loading::{Loaded, load};
 use lru_order_captures::cores::{CoreSource, restore_shards};
-use lru_synced_folder::synced_folder::SyncedFolder;
+use lru_folder::synced_folder::SyncedFolder;
 use std::alloc::Global;
 
 /// Saves the rows of a core as the next checkpoint, of N shards, as `save` of `lru_generations` does.

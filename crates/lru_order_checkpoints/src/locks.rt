@@ -23,7 +23,7 @@ use lru_generations::known::Known;
 use lru_generations::loading::{Loaded, load};
 use lru_locks::lru::Lru;
 use lru_order_captures::locks::{LruSource, restore_shards};
-use lru_synced_folder::synced_folder::SyncedFolder;
+use lru_folder::synced_folder::SyncedFolder;
 use std::alloc::Global;
 use std::sync::Wait;
 

@@ -6,11 +6,11 @@ ghost use Rattle.lru_folder.specs.Losses.{Loses, looking};
 ghost use Rattle.lru_folder.specs.Places.{is_there};
 ghost use Rattle.lru_folder.specs.declared.folder_call.FolderCall.{FolderCall};
 ghost use Rattle.lru_folder.specs.declared.fault.FolderFault.{FolderFault};
-ghost use Rattle.lru_synced_folder.specs.Names.{AreSynced};
+ghost use Rattle.lru_folder.specs.SyncedNames.{AreSynced};
 
-use lru_folder::fault::FolderFault;
-use lru_folder::folder::Folder;
-use lru_folder::folder_call::FolderCall;
+use crate::fault::FolderFault;
+use crate::folder::Folder;
+use crate::folder_call::FolderCall;
 
 /// A folder that syncs names, those of one of its folders at a time, as the system does, and that one saver can claim for
 /// itself.
