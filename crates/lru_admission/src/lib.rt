@@ -4,4 +4,7 @@
 #![tactic(auto)]
 
 pub mod admission;
+mod counters;
 pub mod laws;
+pub mod sketch;
+pub mod sketch_laws;

@@ -1,6 +1,6 @@
 //! A sketch and a cache that asks it, small enough to be told by hand.
 use lru_admission::admission::{AskingCache, NotAdmitted};
-use lru_sketch::sketch::Sketch;
+use lru_admission::sketch::Sketch;
 use std::alloc::{AllocError, Global};
 use std::test::Fail;
 

@@ -8,7 +8,7 @@ use Rattle.lru_entries.specs.Entries.{IsShown}
 use Rattle.lru_cache.specs.Cache.{Puts, entry_of}
 use Rattle.lru_segmented.specs.Segmented.{entries}
 use Rattle.lru_segmented.specs.Segmented.{Puts as PutsLower}
-use Rattle.lru_sketch.specs.Sketch.{Counted}
+use Rattle.lru_admission.specs.Sketch.{Counted}
 use Rattle.lru_admission.specs.Admission.{watched, PutsIfAsked}
 use Rattle.lru_traces.specs.declared.player.Request.{Request}
 use Rattle.lru_traces.specs.Traces.{load}

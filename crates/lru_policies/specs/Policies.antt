@@ -5,7 +5,7 @@ use Rattle.lru_index.specs.declared.hashing.SeededHashes.{SeededHashes}
 use Rattle.lru_cache.specs.Cache.{Cached, Puts, entry_of, used, with_entries}
 use Rattle.lru_segmented.specs.Segmented.{Segmented, Uses, entries}
 use Rattle.lru_segmented.specs.Segmented.{Puts as PutsLower}
-use Rattle.lru_sketch.specs.Sketch.{counted}
+use Rattle.lru_admission.specs.Sketch.{counted}
 use Rattle.lru_admission.specs.Admission.{Watched, watched, TurnsAway, PutsIfAsked}
 use Rattle.lru_traces.specs.declared.player.Request.{Request}
 use Rattle.lru_traces.specs.Traces.{load}

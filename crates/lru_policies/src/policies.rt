@@ -3,7 +3,7 @@ ghost use Rattle.std.specs.Prelude.{◌≡◌, ◌≤◌, ℕ, length, IfOk};
 ghost use Rattle.lru_index.specs.Hashing.{key_hash, unseeded};
 ghost use Rattle.lru_cache.specs.Cache.{empty, hashes_from};
 ghost use Rattle.lru_segmented.specs.Segmented.{empty as segments};
-ghost use Rattle.lru_sketch.specs.Sketch.{fresh};
+ghost use Rattle.lru_admission.specs.Sketch.{fresh};
 ghost use Rattle.lru_admission.specs.Admission.{watched};
 ghost use Rattle.lru_traces.specs.Traces.{played};
 ghost use Rattle.lru_policies.specs.Policies.{Finds, AsksFirstCome, AsksSegments, AsksSketch, tenths_of};
