@@ -4,7 +4,7 @@ use Rattle.std.specs.Arc.{arc_value}
 use Rattle.std.specs.declared.alloc.Global.{Global}
 use Rattle.std.specs.declared.clone.Clone as clone
 use Rattle.lru_desks.specs.declared.tie.Registry as registry
-use Rattle.lru_logs.specs.declared.tie.Archive as archive
+use Rattle.lru_inbox.specs.declared.tie.Archive as archive
 use Rattle.lru_world.specs.declared.world.Limits.{Limits}
 use Rattle.lru_world.specs.declared.world.World.{World}
 use Rattle.lru_async.specs.declared.async_lru.AsyncLru.{AsyncLru}

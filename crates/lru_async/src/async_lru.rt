@@ -14,7 +14,7 @@ use log::Log;
 use lru_actors::ReplyCell;
 use lru_actors::key::hash_key;
 use lru_desks::{PutSeat, Registry, TakeSeat};
-use lru_logs::tie::Archive;
+use lru_inbox::tie::Archive;
 use lru_world::callback::NoGate;
 use lru_world::world::World;
 use std::alloc::Global;

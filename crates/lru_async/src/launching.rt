@@ -1,7 +1,7 @@
 //! How the threads of an order are started.
 ghost use Rattle.std.specs.Prelude.{◌≡◌, ◌+◌, ◌%◌, ◌^◌, ◌<◌, [], All, vec_len, IfOk, OnOk, IsSome, is_some};
 ghost use Rattle.std.specs.Option.{ForSome};
-ghost use Rattle.lru_logs.specs.Logs.{hand, blank_logs, blank_fronts};
+ghost use Rattle.lru_inbox.specs.Logs.{hand, blank_logs, blank_fronts};
 ghost use Rattle.lru_inbox.specs.Inboxes.{taken_in};
 ghost use Rattle.lru_world.specs.Replying.{AreTakers, HasNothing};
 ghost use Rattle.std.specs.Arc.{arc_value};
@@ -16,8 +16,8 @@ use crate::threads::{Placed, start_actor, start_callback_worker, start_eviction_
 use lru_actors::message::LruMsg;
 use lru_desks::{PutSeat, Registry, TakeSeat};
 use lru_inbox::Taker;
-use lru_logs::tie::Archive;
-use lru_logs::voice::Voice;
+use lru_inbox::tie::Archive;
+use lru_inbox::voice::Voice;
 use lru_world::actor::Actor;
 use lru_world::callback::{AsyncEvictionCallback, Gate};
 use lru_world::outlet::Outlet;

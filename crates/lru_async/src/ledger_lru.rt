@@ -6,7 +6,7 @@ ghost use Rattle.lru_mailbox.specs.Slips.{lists_of, IsSettled};
 use crate::async_lru::AsyncLru;
 use crate::seats_back::{all_puts, all_takes, sole};
 use lru_desks::{LedgerBox, PutSeat, Registry, TakeSeat};
-use lru_logs::tie::Archive;
+use lru_inbox::tie::Archive;
 use lru_mailbox::Settled;
 use std::alloc::Global;
 use std::marker::Brand;

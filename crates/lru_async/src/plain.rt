@@ -10,7 +10,7 @@ use crate::sends::{Addressed, Heard, heard_in, refusal_of};
 use lru_actors::Letter;
 use lru_actors::message::LruMsg;
 use lru_desks::Registry;
-use lru_logs::tie::Archive;
+use lru_inbox::tie::Archive;
 use std::sync::Wait;
 
 /// The line to the actors of an order without logs. What a call does behind a lock is known nowhere, so it says nothing of it.

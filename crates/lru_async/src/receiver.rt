@@ -1,6 +1,6 @@
 //! A receiver of evicted pairs.
 use lru_desks::Registry;
-use lru_logs::tie::Archive;
+use lru_inbox::tie::Archive;
 use lru_world::world::World;
 use std::alloc::Global;
 use std::marker::Brand;

@@ -7,7 +7,7 @@ ghost use Rattle.std.specs.Arc.{arc_value};
 use crate::refusals::BuildError;
 use lru_actors::ReplyCell;
 use lru_desks::{PutSeat, Registry, TakeSeat};
-use lru_logs::tie::Archive;
+use lru_inbox::tie::Archive;
 use lru_world::actor::Actor;
 use lru_world::callback::{AsyncEvictionCallback, Gate};
 use lru_world::workers::{call_back, evict};

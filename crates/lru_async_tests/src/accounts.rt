@@ -8,7 +8,7 @@ use lru_desks::{Blanks, Registry};
 use lru_inbox::Caller;
 use lru_logged::logged_lru::LoggedLru;
 use lru_logged::{Account, build_accounted};
-use lru_logs::tie::{Archive, Blank};
+use lru_inbox::tie::{Archive, Blank};
 use lru_mailbox::Slip;
 use lru_world::callback::AsyncEvictionCallback;
 use std::alloc::Global;

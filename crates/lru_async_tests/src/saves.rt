@@ -8,7 +8,7 @@ use lru_async::saving::SaveReport;
 use lru_desks::Registry;
 use lru_inbox::Caller;
 use lru_logged::logged_lru::LoggedLru;
-use lru_logs::tie::{Archive, Blank};
+use lru_inbox::tie::{Archive, Blank};
 use lru_world::callback::AsyncEvictionCallback;
 use std::alloc::Global;
 use std::marker::Brand;

@@ -3,7 +3,7 @@ ghost use Rattle.std.specs.Prelude.{◌≡◌};
 
 use lru_async::async_lru::AsyncLru;
 use lru_desks::{Blanks, Registry};
-use lru_logs::tie::Archive;
+use lru_inbox::tie::Archive;
 use lru_mailbox::{Settled, Slip};
 use lru_world::callback::AsyncEvictionCallback;
 use rand::RngExt;

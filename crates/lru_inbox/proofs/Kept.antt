@@ -8,11 +8,11 @@ use Rattle.std.proofs.lemmas.Bool.{cond-false}
 use Rattle.lru_mailbox.specs.Mail.{Post, served, counted, posted, posted_or_lost}
 use Rattle.lru_actors.specs.declared.message.LruMsg.{LruMsg}
 use Rattle.lru_actors.specs.declared.letter.Letter.{Letter}
-use Rattle.lru_logs.specs.declared.hand.Log.{Log}
-use Rattle.lru_logs.specs.declared.hand.Front.{Front}
-use Rattle.lru_logs.specs.declared.hand.Hand.{Hand}
-use Rattle.lru_logs.specs.Logs.{of_log, log_of, accepted, put_in, taken_from, front, hand, of_fronts, of_taker, begun, joined, seen_of, Shows}
-use Rattle.lru_logs.proofs.Moves.{put_whole, take_same}
+use Rattle.lru_inbox.specs.declared.hand.Log.{Log}
+use Rattle.lru_inbox.specs.declared.hand.Front.{Front}
+use Rattle.lru_inbox.specs.declared.hand.Hand.{Hand}
+use Rattle.lru_inbox.specs.Logs.{of_log, log_of, accepted, put_in, taken_from, front, hand, of_fronts, of_taker, begun, joined, seen_of, Shows}
+use Rattle.lru_inbox.proofs.Moves.{put_whole, take_same}
 use Rattle.lru_inbox.specs.Inboxes.{messages_of, IsInbox, Sends}
 use Rattle.lru_inbox.proofs.Lists.{seen_begins, seen_first}
 

@@ -8,13 +8,13 @@ use Rattle.lru_actors.specs.declared.message.LruMsg.{LruMsg}
 use Rattle.lru_actors.specs.declared.message.LruMsg.TheVariants.{Evict}
 use Rattle.lru_actors.specs.declared.effect.Reply.{Reply}
 use Rattle.lru_actors.specs.declared.letter.Letter.{Letter}
-use Rattle.lru_logs.specs.declared.voice.Voice.{Voice}
-use Rattle.lru_logs.specs.declared.tie.Archive.{Ghosts}
-use Rattle.lru_logs.specs.declared.hand.Log.{Log}
-use Rattle.lru_logs.specs.declared.hand.Front.{Front}
-use Rattle.lru_logs.specs.declared.hand.Hand.{Hand}
+use Rattle.lru_inbox.specs.declared.voice.Voice.{Voice}
+use Rattle.lru_inbox.specs.declared.tie.Archive.{Ghosts}
+use Rattle.lru_inbox.specs.declared.hand.Log.{Log}
+use Rattle.lru_inbox.specs.declared.hand.Front.{Front}
+use Rattle.lru_inbox.specs.declared.hand.Hand.{Hand}
 use Rattle.lru_inbox.specs.Replies.{IsReply}
-use Rattle.lru_logs.specs.Logs.{Begins, front, of_log, log_of, accepted, put_in, taken_by, seen_of, first_seen}
+use Rattle.lru_inbox.specs.Logs.{Begins, front, of_log, log_of, accepted, put_in, taken_by, seen_of, first_seen}
 
 -- what was seen first of all that a hand has seen
 abbrev pub shown : {E : Type 0} → Hand E → List E

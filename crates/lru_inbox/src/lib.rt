@@ -2,15 +2,18 @@
 //! messages knows which they are, and who asked learns of which beginning of the log the reply tells.
 //!
 //! Its calls are exact. `exact_law`: where no message was refused, an answer is that of the rows which the messages leave. It
-//! stands on logs (`lru_logs`), on mailboxes (`lru_mailbox`) and on the law of the actors (`lru_actors`).
+//! stands on logs (`lru_inbox`), on mailboxes (`lru_mailbox`) and on the law of the actors (`lru_actors`).
 #![tactic(auto)]
 
 mod caller;
+pub mod hand;
 mod inbox;
 mod law;
 mod shared_inbox;
 mod taker;
+pub mod tie;
 mod told;
+pub mod voice;
 
 pub use caller::Caller;
 pub use inbox::Inbox;

@@ -2,13 +2,13 @@
 ghost use Rattle.std.specs.Prelude.{◌≡◌, [], ◌∷◌, length};
 ghost use Rattle.std.specs.Option.{ForSome};
 ghost use Rattle.lru_shard.specs.Limits.{cap_of};
-ghost use Rattle.lru_logs.specs.Logs.{front, of_fronts};
+ghost use Rattle.lru_inbox.specs.Logs.{front, of_fronts};
 ghost use Rattle.lru_inbox.specs.Replies.{IsReply};
 ghost use Rattle.lru_inbox.specs.Inboxes.{shown};
 
 use lru_actors::effect::Reply;
 use lru_actors::message::LruMsg;
-use lru_logs::tie::{Archive, Token};
+use crate::tie::{Archive, Token};
 use std::marker::PhantomData;
 
 /// A reply, and where there is a log, of what it tells: of the rows that the first so many messages of the shard's log leave.

@@ -2,8 +2,8 @@
 use Rattle.std.proofs.Common.{◌≡◌, ℕ, suc, ◌+◌, List, [], ◌∷◌, ◌++◌, length, refl, ap, ◌∙◌, arith}
 use Rattle.std.specs.declared.clone.Clone as clone
 use Rattle.lru_mailbox.specs.declared.slip.Slip.{Slip}
-use Rattle.lru_logs.specs.declared.tie.Archive as archive
-use Rattle.lru_logs.specs.Logs.{log_of}
+use Rattle.lru_inbox.specs.declared.tie.Archive as archive
+use Rattle.lru_inbox.specs.Logs.{log_of}
 use Rattle.lru_world.specs.declared.shard_end.ShardEnd.{ShardEnd}
 use Rattle.lru_world.specs.Accounts.{IsAccount}
 use Rattle.lru_logged.specs.Accounts.{Accounts}

@@ -10,11 +10,11 @@ use Rattle.lru_hands.proofs.Hands.{some_same}
 use Rattle.lru_actors.specs.declared.effect.Reply.{Reply}
 use Rattle.lru_actors.specs.declared.effect.Reply.TheVariants as reply
 use Rattle.lru_actors.specs.declared.message.LruMsg.{LruMsg}
-use Rattle.lru_logs.specs.declared.hand.Front.{Front}
-use Rattle.lru_logs.specs.Logs.{Begins, front, seen_of}
+use Rattle.lru_inbox.specs.declared.hand.Front.{Front}
+use Rattle.lru_inbox.specs.Logs.{Begins, front, seen_of}
 use Rattle.lru_inbox.specs.Inboxes.{Sends, Learns}
 use Rattle.lru_inbox.specs.Replies.{IsReply}
-use Rattle.lru_logs.specs.declared.tie.Archive as archive
+use Rattle.lru_inbox.specs.declared.tie.Archive as archive
 use Rattle.lru_inbox.specs.declared.caller.Caller.{Caller}
 use Rattle.lru_async.specs.Sends.{answered_by}
 use Rattle.lru_async.specs.declared.async_lru.ShardData.{ShardData}

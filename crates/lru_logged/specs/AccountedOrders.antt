@@ -2,7 +2,7 @@
 use Rattle.std.specs.Prelude.{ℕ}
 use Rattle.std.specs.declared.clone.Clone as clone
 use Rattle.lru_desks.specs.declared.tie.Registry as registry
-use Rattle.lru_logs.specs.declared.tie.Archive as archive
+use Rattle.lru_inbox.specs.declared.tie.Archive as archive
 use Rattle.lru_async.specs.declared.async_lru.AsyncLru.{AsyncLru}
 use Rattle.lru_logged.specs.Orders.{logged_order}
 use Rattle.lru_logged.specs.declared.logged_lru.LoggedLru.{LoggedLru}

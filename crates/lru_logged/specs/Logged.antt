@@ -3,9 +3,9 @@ use Rattle.std.specs.Prelude.{◌≡◌, ◌≢◌, ℕ, Bool, List, [], ◌∷�
 use Rattle.lru_actors.specs.declared.message.LruMsg.{LruMsg}
 use Rattle.lru_actors.specs.declared.effect.Reply.{Reply}
 use Rattle.lru_actors.specs.declared.effect.Reply.TheVariants.{Rows}
-use Rattle.lru_logs.specs.declared.tie.Archive as archive
-use Rattle.lru_logs.specs.declared.hand.Front.{Front}
-use Rattle.lru_logs.specs.Logs.{Begins, seen_of}
+use Rattle.lru_inbox.specs.declared.tie.Archive as archive
+use Rattle.lru_inbox.specs.declared.hand.Front.{Front}
+use Rattle.lru_inbox.specs.Logs.{Begins, seen_of}
 use Rattle.lru_inbox.specs.declared.caller.Caller.{Caller}
 use Rattle.lru_inbox.specs.Replies.{IsReply}
 use Rattle.lru_world.specs.Looking.{LearnsWeight}

@@ -10,7 +10,7 @@ use crate::logged_lru::LoggedLru;
 use lru_async::async_lru::AsyncLru;
 use lru_async::seats_back::{all_puts, all_takes, sole};
 use lru_desks::{LedgerBox, PutSeat, Registry, TakeSeat};
-use lru_logs::tie::Archive;
+use lru_inbox::tie::Archive;
 use lru_mailbox::Settled;
 use lru_world::ShardEnd;
 use std::alloc::{AllocError, Global};

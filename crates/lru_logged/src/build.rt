@@ -9,7 +9,7 @@ use lru_actors::message::LruMsg;
 use lru_async::builder::AsyncLruBuilder;
 use lru_async::refusals::BuildError;
 use lru_desks::{Blanks, Registry};
-use lru_logs::tie::{Archive, Blank};
+use lru_inbox::tie::{Archive, Blank};
 use lru_world::callback::{AsyncEvictionCallback, Gate};
 use std::hash::Hash;
 use std::sync::Wait;

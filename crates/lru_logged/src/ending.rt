@@ -2,12 +2,12 @@
 ghost use Rattle.std.specs.Prelude.{◌≡◌, ◌≤◌, [], map, vec_len, vec_capacity};
 ghost use Rattle.std.specs.Option.{ForSome};
 ghost use Rattle.lru_shard.specs.Limits.{cap_of};
-ghost use Rattle.lru_logs.specs.Logs.{log_of};
+ghost use Rattle.lru_inbox.specs.Logs.{log_of};
 ghost use Rattle.lru_world.specs.Accounts.{IsAccount};
 ghost use Rattle.lru_logged.specs.Accounts.{Accounts};
 
 use lru_desks::{PutSeat, Registry};
-use lru_logs::tie::Archive;
+use lru_inbox::tie::Archive;
 use lru_world::ShardEnd;
 use lru_world::world::ShardPlace;
 use std::sync::Wait;

@@ -27,7 +27,7 @@ use lru_async::sends::{
 };
 use lru_desks::Registry;
 use lru_inbox::Caller;
-use lru_logs::tie::{Archive, Blank};
+use lru_inbox::tie::{Archive, Blank};
 use lru_world::callback::{AsyncEvictionCallback, Gate};
 use std::alloc::AllocError;
 use std::hash::Hash;

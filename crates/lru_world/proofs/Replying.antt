@@ -12,9 +12,9 @@ use Rattle.lru_actors.specs.declared.effect.Effect.{Effect}
 use Rattle.lru_actors.specs.declared.effect.Reply.{Reply}
 use Rattle.lru_actors.specs.Messages.{State}
 use Rattle.lru_actors.specs.declared.letter.Letter.{Letter}
-use Rattle.lru_logs.specs.declared.voice.Voice.{Voice}
-use Rattle.lru_logs.specs.declared.tie.Archive.{Ghosts}
-use Rattle.lru_logs.specs.Logs.{taken_by}
+use Rattle.lru_inbox.specs.declared.voice.Voice.{Voice}
+use Rattle.lru_inbox.specs.declared.tie.Archive.{Ghosts}
+use Rattle.lru_inbox.specs.Logs.{taken_by}
 use Rattle.lru_inbox.specs.Inboxes.{messages_of, taken_in}
 use Rattle.lru_inbox.specs.Replies.{IsLeft, IsReply, refused_in}
 use Rattle.lru_inbox.proofs.Steps.{by_turns, left_all, reply_at, turns_by}

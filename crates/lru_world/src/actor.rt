@@ -18,7 +18,7 @@ use lru_actors::state::ShardState;
 use lru_actors::{Letter, ReplyCell};
 use lru_desks::{PutSeat, Registry};
 use lru_inbox::{Taker, Told};
-use lru_logs::tie::Archive;
+use lru_inbox::tie::Archive;
 use lru_short_locks::ShortMutex;
 use std::alloc::{AllocError, Global};
 use std::marker::Brand;

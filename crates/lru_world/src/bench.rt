@@ -21,7 +21,7 @@ use lru_actors::state::ShardState;
 use lru_actors::{Letter, ReplyCell};
 use lru_desks::{DeskPutter, PutSeat, Registry};
 use lru_inbox::Taker;
-use lru_logs::tie::Archive;
+use lru_inbox::tie::Archive;
 use lru_mailbox::{Dispatch, MailState};
 use lru_short_locks::ShortLock;
 use std::alloc::{AllocError, Global};

@@ -3,7 +3,7 @@ ghost use Rattle.std.specs.Prelude.{◌≡◌, ◌≤◌, ◌<◌, [], ◌∷◌
 ghost use Rattle.std.specs.Option.{ForSome};
 ghost use Rattle.std.specs.HashMap as hash_map;
 ghost use Rattle.lru_shard.specs.Limits.{cap_of};
-ghost use Rattle.lru_logs.specs.Logs.{front, of_fronts};
+ghost use Rattle.lru_inbox.specs.Logs.{front, of_fronts};
 ghost use Rattle.lru_inbox.specs.Inboxes.{shown, taken_in};
 ghost use Rattle.lru_world.specs.Accounts.{IsKept};
 ghost use Rattle.lru_world.specs.Seats.{slips_at};
@@ -14,7 +14,7 @@ use lru_actors::state::ShardState;
 use lru_desks::seats::PutSeat;
 use lru_desks::tie::Registry;
 use lru_inbox::{Caller, Taker};
-use lru_logs::tie::{Archive, Token};
+use lru_inbox::tie::{Archive, Token};
 use std::alloc::{AllocError, Global};
 use std::collections::HashMap;
 

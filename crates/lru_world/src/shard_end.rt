@@ -2,7 +2,7 @@
 ghost use Rattle.std.specs.Prelude.{◌≡◌, [], ◌∷◌, Some, IsSome};
 ghost use Rattle.std.specs.Option.{ForSome};
 ghost use Rattle.lru_shard.specs.Limits.{cap_of};
-ghost use Rattle.lru_logs.specs.Logs.{Begins, accepted, hand, log_of, seen_of};
+ghost use Rattle.lru_inbox.specs.Logs.{Begins, accepted, hand, log_of, seen_of};
 ghost use Rattle.lru_inbox.specs.Inboxes.{log_in};
 ghost use Rattle.lru_world.specs.Accounts.{IsAccount};
 
@@ -12,8 +12,8 @@ use lru_actors::state::ShardState;
 use lru_desks::seats::PutSeat;
 use lru_desks::tie::Registry;
 use lru_inbox::{Caller, Inbox};
-use lru_logs::tie::Archive;
-use lru_logs::voice::Voice;
+use lru_inbox::tie::Archive;
+use lru_inbox::voice::Voice;
 
 /// What a shard with a log came to, once nothing is put or taken any more.
 #[derive(Drop)]

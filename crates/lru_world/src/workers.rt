@@ -7,7 +7,7 @@ use crate::outlet::Taken;
 use crate::world::World;
 use lru_actors::process::choose_victim;
 use lru_desks::{Registry, TakeSeat};
-use lru_logs::tie::Archive;
+use lru_inbox::tie::Archive;
 use rand::RngExt;
 use rand_core::Rng;
 use std::sync::Wait;

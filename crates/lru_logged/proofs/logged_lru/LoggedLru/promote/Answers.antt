@@ -2,7 +2,7 @@ use Rattle.std.proofs.Common.{◌≡◌, ◌%◌, ◌∷◌, [], ◌++◌, true,
 use Rattle.std.specs.Prelude.{is_some}
 use Rattle.lru_actors.specs.Keys.{hash_of}
 use Rattle.lru_actors.specs.declared.message.LruMsg.TheVariants.{Promote}
-use Rattle.lru_logs.specs.Logs.{front, seen_of}
+use Rattle.lru_inbox.specs.Logs.{front, seen_of}
 use Rattle.lru_inbox.specs.Inboxes.{Sends}
 use Rattle.lru_logged.specs.Logged.{fronts_of}
 use Rattle.lru_logged.proofs.Logged.{begins_then, more_then, sent_more, grew_seen, grew_others, looked_others}

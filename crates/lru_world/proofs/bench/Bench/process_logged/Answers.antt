@@ -1,7 +1,7 @@
 use Rattle.std.proofs.Common.{[], ◌∷◌, ◌<◌, ◌^◌, arith, length, nat_eq, sym, ap, ◌∙◌, subst}
 use Rattle.std.specs.HashMap as hash
 use Rattle.lru_shard.specs.Limits.{cap_of}
-use Rattle.lru_logs.specs.Logs.{front, of_fronts, taken_by}
+use Rattle.lru_inbox.specs.Logs.{front, of_fronts, taken_by}
 use Rattle.lru_inbox.specs.Inboxes.{shown, taken_in}
 use Rattle.lru_inbox.proofs.Kept.{shown_is}
 use Rattle.std.specs.Prelude.{Option, is_some}
