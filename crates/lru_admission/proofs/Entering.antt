@@ -1,7 +1,7 @@
 -- Whether an entry may enter.
 use Rattle.std.proofs.Common.{◌≡◌, ℕ, ◌-◌, ◌<◌, ◌≤◌, Bool, true, false, cond, not, List, [], ◌∷◌, Option, Some, None, refl, sym, ap, ◌∙◌, subst}
 use Rattle.std.specs.Prelude.{is_some}
-use Rattle.lru_entries.specs.declared.entry.Entry.{Entry}
+use Rattle.lru_cache.specs.declared.entry.Entry.{Entry}
 use Rattle.lru_cache.specs.Cache.{Leaves, entry_of, without}
 use Rattle.lru_admission.specs.Sketch.{estimate}
 use Rattle.lru_admission.specs.Admission.{Watched, all_rarer, AsksVictims, MayEnter}

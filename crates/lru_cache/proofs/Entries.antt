@@ -5,10 +5,10 @@ use Rattle.std.specs.Option.{option_map}
 use Rattle.std.proofs.lemmas.Bool.{cond_both, cases_eq, eq-eqb, ne_eqb, false≢true}
 use Rattle.std.proofs.lemmas.List.Sums.{sum_by-cons}
 use Rattle.lru_rows.specs.Rows.{Placed, row_at, row_of, without as rows_without}
-use Rattle.lru_entries.specs.declared.entry.Entry.{Entry}
+use Rattle.lru_cache.specs.declared.entry.Entry.{Entry}
 use Rattle.lru_cache.specs.Cache.{entry_of, without}
-use Rattle.lru_entries.specs.Entries.{entry_in, entries_in}
-use Rattle.lru_entries.proofs.Rows.{some_of, by_bool, by_place, places, places_here, places_other, without_absent, tail_once_of}
+use Rattle.lru_cache.specs.Entries.{entry_in, entries_in}
+use Rattle.lru_cache.proofs.Rows.{some_of, by_bool, by_place, places, places_here, places_other, without_absent, tail_once_of}
 
 module _ {K V : Type 0} where
   module _ {Q : Type 0} (eq : K → Q → Bool) where

@@ -6,10 +6,10 @@ use Rattle.std.proofs.lemmas.List.{length-append}
 use Rattle.lru_rows.specs.declared.rows.NoPlace.{NoPlace}
 use Rattle.lru_rows.specs.declared.rows.NoPlace.TheVariants.{Memory as NoMemory, Full as NoMore}
 use Rattle.lru_rows.specs.Rows.{Placed, placed, Recency, recency, row_of, LacksPlace, IsRecency}
-use Rattle.lru_entries.specs.declared.entry.Entry.{Entry}
-use Rattle.lru_entries.specs.Entries.{entry, entry_in, entries_in, weight_in}
-use Rattle.lru_entries.specs.Partings.{Shrinks}
-use Rattle.lru_entries.proofs.Rows.{length-entries, weight-cons}
+use Rattle.lru_cache.specs.declared.entry.Entry.{Entry}
+use Rattle.lru_cache.specs.Entries.{entry, entry_in, entries_in, weight_in}
+use Rattle.lru_cache.specs.Partings.{Shrinks}
+use Rattle.lru_cache.proofs.Rows.{length-entries, weight-cons}
 use Rattle.lru_cache.specs.declared.cache.Refused.{Refused}
 use Rattle.lru_cache.specs.Cache.{Cached, cause_of, with_entries, entry_of, without, Fit, Leaves, MayRefuse, Puts}
 use Rattle.lru_cache.specs.Representation.{cached_in, IsKept}

@@ -8,3 +8,9 @@ pub mod Settled
 pub mod Reweighed
 pub mod Queried
 pub mod Fresh
+pub mod Rows
+pub mod Lists
+pub mod Shrunk
+pub mod PutBack
+pub mod RetainedEntries
+pub mod DrainedEntries

@@ -5,12 +5,12 @@ use Rattle.std.specs.Option.{option_map}
 use Rattle.std.proofs.lemmas.Bool.{false≢true, cond_both}
 use Rattle.std.proofs.lemmas.List.{length-append, map-append}
 use Rattle.lru_rows.specs.Rows.{Placed, Recency, recency, row_of}
-use Rattle.lru_entries.specs.declared.entry.Entry.{Entry}
+use Rattle.lru_cache.specs.declared.entry.Entry.{Entry}
 use Rattle.lru_cache.specs.Cache.{Clears, with_entries, Cached, Fit, Leaves, Limits}
-use Rattle.lru_entries.specs.Entries.{IsShown, entry_in, entries_in}
+use Rattle.lru_cache.specs.Entries.{IsShown, entry_in, entries_in}
 use Rattle.lru_cache.specs.Representation.{cached_in}
-use Rattle.lru_entries.specs.Partings.{RowsFit, Shrinks}
-use Rattle.lru_entries.proofs.Rows.{weight-entries, length-entries}
+use Rattle.lru_cache.specs.Partings.{RowsFit, Shrinks}
+use Rattle.lru_cache.proofs.Rows.{weight-entries, length-entries}
 
 pub none_of : {A B : Type 0} (f : A → B) (o : Option A) → option_map f o ≡ None → o ≡ None
 none_of f None e = refl

@@ -3,13 +3,13 @@ use Rattle.std.proofs.Common.{◌≡◌, ℕ, ◌+◌, ◌-◌, ◌<◌, ◌≤�
 use Rattle.std.specs.Prelude.{Option, Bool, is_some}
 use Rattle.std.specs.Option.{option_map_or}
 use Rattle.std.proofs.lemmas.Bool.{false≢true}
-use Rattle.lru_entries.specs.declared.entry.Entry.{Entry}
+use Rattle.lru_cache.specs.declared.entry.Entry.{Entry}
 use Rattle.lru_cache.specs.declared.cache.Refused.{Refused}
 use Rattle.lru_cache.specs.Cache.{Cached, entry_of, without, IsCache, Leaves, Puts, Settles, with_entries, used}
-use Rattle.lru_entries.specs.Entries.{entry}
+use Rattle.lru_cache.specs.Entries.{entry}
 use Rattle.lru_rows.specs.Rows.{Recency}
 use Rattle.lru_cache.specs.Representation.{cached_in}
-use Rattle.lru_entries.proofs.Rows.{by_bool}
+use Rattle.lru_cache.proofs.Rows.{by_bool}
 
 same_head : {A : Type 0} (a b : A) (xs ys : List A) → a ∷ xs ≡ b ∷ ys → a ≡ b
 same_head a b xs ys e = cc

@@ -5,11 +5,11 @@ use Rattle.std.specs.Option.{option_map, option_map_or}
 use Rattle.lru_rows.specs.declared.rows.Taken.{Taken}
 use Rattle.std.specs.Borrow.{MutBor}
 use Rattle.lru_rows.specs.Rows.{placed, with_value, Updates, UpdatesAt, Placed, Recency, recency, row_at, row_of, IsAt, Finds, IsRecency, promoted, Removes as RowsRemoves, without as rows_without}
-use Rattle.lru_entries.specs.declared.entry.Entry.{Entry}
+use Rattle.lru_cache.specs.declared.entry.Entry.{Entry}
 use Rattle.lru_cache.specs.Cache.{UpdatesEntry, Cached, entry_of, without, used, used_with, with_entries}
-use Rattle.lru_entries.specs.Entries.{entry, entry_in, entries_in, weight_in}
+use Rattle.lru_cache.specs.Entries.{entry, entry_in, entries_in, weight_in}
 use Rattle.lru_cache.specs.Representation.{cached_in, IsKept}
-use Rattle.lru_entries.proofs.Rows.{some_of, with_value-without, with_value-first, row_first, by_bool, row_place, weight-cons, weight-without, length-without, length-entries}
+use Rattle.lru_cache.proofs.Rows.{some_of, with_value-without, with_value-first, row_first, by_bool, row_place, weight-cons, weight-without, length-without, length-entries}
 use Rattle.lru_cache.proofs.Entries.{row_there, entry-row, entries-without, absent_without, keyed, keyed-cons, counts}
 use Rattle.lru_cache.proofs.Views.{entries_are, with_rows}
 

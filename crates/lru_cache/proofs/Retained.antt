@@ -5,12 +5,12 @@ use Rattle.std.specs.Borrow.{Bor}
 use Rattle.std.proofs.lemmas.List.Sums.{sum_by-cons, sum_by-append}
 use Rattle.std.proofs.lemmas.List.{length-append}
 use Rattle.lru_rows.specs.Rows.{Recency}
-use Rattle.lru_entries.specs.declared.entry.Entry.{Entry}
-use Rattle.lru_entries.specs.Entries.{weight_of, kept_of, weight_in}
+use Rattle.lru_cache.specs.declared.entry.Entry.{Entry}
+use Rattle.lru_cache.specs.Entries.{weight_of, kept_of, weight_in}
 use Rattle.lru_cache.specs.Cache.{Cached, Retains, RetainsLast, with_entries}
 use Rattle.lru_cache.specs.Representation.{cached_in, IsKept}
-use Rattle.lru_entries.specs.Partings.{RetainsLastRows, RetainsRows}
-use Rattle.lru_entries.proofs.Rows.{by_bool, weight-entries, length-entries}
+use Rattle.lru_cache.specs.Partings.{RetainsLastRows, RetainsRows}
+use Rattle.lru_cache.proofs.Rows.{by_bool, weight-entries, length-entries}
 
 module _ {K V : Type 0} where
   -- what stays is no heavier and no longer

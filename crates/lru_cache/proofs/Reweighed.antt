@@ -3,9 +3,9 @@ use Rattle.std.proofs.Common.{◌≡◌, Some, Err, Ok, ℕ, ◌+◌, ◌-◌, �
 use Rattle.std.specs.Prelude.{Bool, is_some}
 use Rattle.std.specs.Borrow.{Bor, MutBor}
 use Rattle.lru_rows.specs.Rows.{Updates}
-use Rattle.lru_entries.specs.declared.entry.Entry.{Entry}
+use Rattle.lru_cache.specs.declared.entry.Entry.{Entry}
 use Rattle.lru_cache.specs.Cache.{Cached, without, with_entries, Leaves, PopsFirst, Settles, Weighs, UpdatesEntry, Reweighs}
-use Rattle.lru_entries.specs.Entries.{entry}
+use Rattle.lru_cache.specs.Entries.{entry}
 use Rattle.lru_cache.proofs.Putting.{one_less}
 
 same_head : {A : Type 0} (a b : A) (xs ys : List A) → a ∷ xs ≡ b ∷ ys → a ≡ b

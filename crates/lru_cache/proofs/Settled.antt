@@ -4,12 +4,12 @@ use Rattle.std.specs.Prelude.{Bool, is_some, count_by, ◌==◌}
 use Rattle.std.specs.Option.{option_map}
 use Rattle.std.proofs.lemmas.List.{length-append, map-append}
 use Rattle.lru_rows.specs.Rows.{Placed, placed, Recency, recency, row_at, IsAt, IsRecency, with_weight, first_row}
-use Rattle.lru_entries.specs.declared.entry.Entry.{Entry}
+use Rattle.lru_cache.specs.declared.entry.Entry.{Entry}
 use Rattle.lru_cache.specs.Cache.{Cached, Fit, Leaves, Settles}
-use Rattle.lru_entries.specs.Entries.{entry_in, entries_in, weight_in}
+use Rattle.lru_cache.specs.Entries.{entry_in, entries_in, weight_in}
 use Rattle.lru_cache.specs.Representation.{cached_in, IsKept}
-use Rattle.lru_entries.specs.Partings.{RowsFit, Shrinks}
-use Rattle.lru_entries.proofs.Rows.{some_of, first_told, row_first, places, places_here, places-append, with_weight-first, weight-cons, weight-entries, length-entries}
+use Rattle.lru_cache.specs.Partings.{RowsFit, Shrinks}
+use Rattle.lru_cache.proofs.Rows.{some_of, first_told, row_first, places, places_here, places-append, with_weight-first, weight-cons, weight-entries, length-entries}
 use Rattle.lru_cache.proofs.Views.{entries_are, with_rows}
 
 same_head : {A : Type 0} (a b : A) (xs ys : List A) → a ∷ xs ≡ b ∷ ys → a ≡ b

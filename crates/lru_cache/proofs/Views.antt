@@ -5,12 +5,12 @@ use Rattle.std.specs.Option.{option_map, option_map_or}
 use Rattle.std.proofs.lemmas.List.{map-append, length-append}
 use Rattle.lru_rows.specs.declared.rows.Taken.{Taken}
 use Rattle.lru_rows.specs.Rows.{last_row, placed, with_value, Updates, UpdatesAt, Placed, Recency, recency, row_at, row_of, IsAt, Finds, IsRecency, promoted, taken, Removes as RowsRemoves, PopsLast as RowsPopsLast, PopsFirst as RowsPopsFirst, demoted as rows_demoted, entry_of as rows_entry_of, without as rows_without}
-use Rattle.lru_entries.specs.declared.entry.Entry.{Entry}
+use Rattle.lru_cache.specs.declared.entry.Entry.{Entry}
 use Rattle.std.specs.Borrow.{MutBor}
 use Rattle.lru_cache.specs.Cache.{IsLast, UpdatesEntry, Cached, entry_of, without, used, demoted, parts_of, with_entries, IsCache, PopsLast, PopsFirst}
-use Rattle.lru_entries.specs.Entries.{entry, weight_of, entry_in, entries_in, weight_in}
+use Rattle.lru_cache.specs.Entries.{entry, weight_of, entry_in, entries_in, weight_in}
 use Rattle.lru_cache.specs.Representation.{cached_in, IsKept}
-use Rattle.lru_entries.proofs.Rows.{last_told, none_told, row_last, some_of, with_value-without, with_value-first, row_first, row_place, weight-entries, length-entries, weight-cons, weight-append, weight-without, length-without}
+use Rattle.lru_cache.proofs.Rows.{last_told, none_told, row_last, some_of, with_value-without, with_value-first, row_first, row_place, weight-entries, length-entries, weight-cons, weight-append, weight-without, length-without}
 use Rattle.lru_pairs.specs.Pairs.{with_entry, SameKey}
 use Rattle.lru_pairs.proofs.Exchanged.{with_entry-first, with_entry-without, found_same}
 use Rattle.lru_cache.proofs.Entries.{row_there, entry-row, keyed-entries, entries-without, absent_without}

@@ -9,8 +9,8 @@ use Rattle.lru_index.specs.declared.hashing.SeededHashes.{SeededHashes}
 use Rattle.lru_rows.specs.declared.rows.NoPlace.{NoPlace}
 use Rattle.lru_rows.specs.declared.rows.NoPlace.TheVariants.{Memory as NoMemory, Full as NoMore}
 use Rattle.lru_rows.specs.Rows.{most_rows, Updates}
-use Rattle.lru_entries.specs.declared.entry.Entry.{Entry}
-use Rattle.lru_entries.specs.Entries.{entry_code, entry, weight_of, IsShown, Asks, kept_of, gone_of}
+use Rattle.lru_cache.specs.declared.entry.Entry.{Entry}
+use Rattle.lru_cache.specs.Entries.{entry_code, entry, weight_of, IsShown, Asks, kept_of, gone_of}
 use Rattle.lru_cache.specs.declared.cache.Refused.{Refused}
 use Rattle.lru_cache.specs.declared.cache.NotPut.{NotPut}
 use Rattle.lru_cache.specs.declared.cache.NotPut.TheVariants.{Unmade, Refused as EntryRefused}

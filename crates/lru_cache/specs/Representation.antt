@@ -1,7 +1,7 @@
 -- What the rows of a cache stand for.
 use Rattle.std.specs.Prelude.{◌≡◌, ℕ, ◌+◌, ◌≤◌, length}
 use Rattle.lru_rows.specs.Rows.{Recency}
-use Rattle.lru_entries.specs.Entries.{entries_in, weight_in}
+use Rattle.lru_cache.specs.Entries.{entries_in, weight_in}
 use Rattle.lru_cache.specs.Cache.{Cached}
 
 module _ {K V : Type 0} where

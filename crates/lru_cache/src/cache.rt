@@ -4,12 +4,12 @@ ghost use Rattle.std.specs.Option.{option_map, option_copied};
 ghost use Rattle.lru_index.specs.Hashing.{key_hash, seeded, unseeded};
 ghost use Rattle.lru_rows.specs.Rows.{most_rows};
 ghost use Rattle.lru_cache.specs.Cache.{empty, hashes_from, entry_of, without, used, demoted, parts_of, with_entries, cause_of, Puts, PutsWeighed, PopsLast, PopsFirst, IsLast, Limits, Clears, Drains, Retains, RetainsLast, UpdatesEntry, Reweighs, Settles, UsesOrPuts, IsCache};
-ghost use Rattle.lru_entries.specs.Entries.{weight_of, entry};
+ghost use Rattle.lru_cache.specs.Entries.{weight_of, entry};
 
-use lru_entries::draining::drain;
-pub use lru_entries::entry::Entry;
-use lru_entries::keeping::{retain, retain_last};
-use lru_entries::shrinking::shrink;
+use crate::draining::drain;
+pub use crate::entry::Entry;
+use crate::keeping::{retain, retain_last};
+use crate::shrinking::shrink;
 use lru_index::alike::SameHashes;
 use lru_index::hashing::SeededHashes;
 use lru_index::keys::Query;

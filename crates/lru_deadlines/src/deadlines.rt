@@ -4,7 +4,7 @@ ghost use Rattle.std.specs.Option.{option_map, option_copied};
 ghost use Rattle.lru_index.specs.Hashing.{key_hash, seeded, unseeded};
 ghost use Rattle.lru_rows.specs.Rows.{most_rows};
 ghost use Rattle.lru_cache.specs.Cache.{empty, hashes_from, entry_of, without, demoted, with_entries, parts_of, IsCache, Puts, PopsLast, PopsFirst, Limits, Clears, Drains, Retains};
-ghost use Rattle.lru_entries.specs.Entries.{weight_of};
+ghost use Rattle.lru_cache.specs.Entries.{weight_of};
 ghost use Rattle.lru_deadlines.specs.Deadlines.{until, living, has_room, PromotesLiving, UpdatesLiving, UpdatesIfLiving, ReweighsLiving, UsesOrPutsLiving, TakesPast, Sweeps, MakesRoom, PutsAt};
 
 use lru_cache::cache::{Cache, Entry, NotPut, Refused};

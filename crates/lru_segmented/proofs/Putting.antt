@@ -3,8 +3,8 @@ use Rattle.std.proofs.Common.{◌≡◌, ℕ, ◌+◌, ◌-◌, ◌<◌, ◌≤�
 use Rattle.std.specs.Prelude.{Option, Bool}
 use Rattle.std.proofs.lemmas.List.{length-append}
 use Rattle.lru_rows.specs.Rows.{most_rows}
-use Rattle.lru_entries.specs.declared.entry.Entry.{Entry}
-use Rattle.lru_entries.specs.Entries.{entry, weight_of}
+use Rattle.lru_cache.specs.declared.entry.Entry.{Entry}
+use Rattle.lru_cache.specs.Entries.{entry, weight_of}
 use Rattle.lru_cache.specs.declared.cache.Cause.{Cause}
 use Rattle.lru_cache.specs.declared.cache.Cause.TheVariants.{TooHeavy, Full, Memory}
 use Rattle.lru_cache.specs.declared.cache.Refused.{Refused}

@@ -1,7 +1,7 @@
 -- Without a share a segmented cache is one with one order, call for call.
 use Rattle.std.specs.Prelude.{◌≡◌, ℕ, Bool, [], Option, Result, is_some}
 use Rattle.std.specs.Borrow.{MutBor}
-use Rattle.lru_entries.specs.declared.entry.Entry.{Entry}
+use Rattle.lru_cache.specs.declared.entry.Entry.{Entry}
 use Rattle.lru_cache.specs.declared.cache.Refused.{Refused}
 use Rattle.lru_cache.specs.declared.cache.NotPut.{NotPut}
 use Rattle.lru_cache.specs.Cache.{entry_of, without, used, with_entries, PopsLast as CachePopsLast, UpdatesEntry as CacheUpdatesEntry, Puts as CachePuts, UsesOrPuts as CacheUsesOrPuts, Clears as CacheClears}

@@ -1,8 +1,8 @@
 -- A cache in two segments whose entries have deadlines: what is answered at a time, and what goes.
 use Rattle.std.specs.Prelude.{◌≡◌, ℕ, ◌-◌, not, Bool, List, [], ◌++◌, length, filter, ◌⊎◌, Option, Some, None, Result, Ok, Err, if◌then◌else◌}
 use Rattle.std.specs.Borrow.{MutBor}
-use Rattle.lru_entries.specs.declared.entry.Entry.{Entry}
-use Rattle.lru_entries.specs.Entries.{entry, IsShown}
+use Rattle.lru_cache.specs.declared.entry.Entry.{Entry}
+use Rattle.lru_cache.specs.Entries.{entry, IsShown}
 use Rattle.lru_rows.specs.Rows.{Updates}
 use Rattle.lru_cache.specs.declared.cache.Refused.{Refused}
 use Rattle.lru_cache.specs.declared.cache.NotPut.{NotPut}

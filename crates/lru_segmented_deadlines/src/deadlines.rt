@@ -3,7 +3,7 @@ ghost use Rattle.std.specs.Prelude.{◌≡◌, ◌+◌, ◌≤◌, length, map, 
 ghost use Rattle.std.specs.Option.{option_map, option_copied};
 ghost use Rattle.lru_index.specs.Hashing.{key_hash, seeded, unseeded};
 ghost use Rattle.lru_rows.specs.Rows.{most_rows};
-ghost use Rattle.lru_entries.specs.Entries.{weight_of};
+ghost use Rattle.lru_cache.specs.Entries.{weight_of};
 ghost use Rattle.lru_cache.specs.Cache.{hashes_from, entry_of, parts_of};
 ghost use Rattle.lru_deadlines.specs.Deadlines.{until, living, has_room};
 ghost use Rattle.lru_segmented.specs.Segmented.{empty, entries, plain, removed, demoted, IsSegmented, LetsGo, Limits, PopsLast, PopsFirst, Drains, Puts};

@@ -5,9 +5,9 @@ use Rattle.std.specs.Option.{option_map_or}
 use Rattle.std.proofs.lemmas.Bool.{false≢true}
 use Rattle.std.proofs.lemmas.List.{length-append}
 use Rattle.std.proofs.lemmas.List.Sums.{sum_by-cons}
-use Rattle.lru_entries.specs.declared.entry.Entry.{Entry}
-use Rattle.lru_entries.specs.Entries.{entry, weight_of}
-use Rattle.lru_entries.proofs.Rows.{some_of, by_bool}
+use Rattle.lru_cache.specs.declared.entry.Entry.{Entry}
+use Rattle.lru_cache.specs.Entries.{entry, weight_of}
+use Rattle.lru_cache.proofs.Rows.{some_of, by_bool}
 use Rattle.lru_cache.specs.declared.cache.Cause.{Cause as CacheCause}
 use Rattle.lru_cache.specs.declared.cache.Cause.TheVariants.{TooHeavy, Full, Memory as NoMemory}
 use Rattle.lru_cache.specs.declared.cache.Refused.{Refused as CacheRefused}

@@ -2,7 +2,7 @@
 ghost use Rattle.std.specs.Prelude.{◌≡◌, ℕ, ◌<◌, ◌⊎◌, Ok, Err, None, is_some, length, IfOk, IfErr};
 ghost use Rattle.lru_index.specs.Hashing.{key_hash};
 ghost use Rattle.lru_cache.specs.Cache.{entry_of};
-ghost use Rattle.lru_entries.specs.Entries.{weight_of};
+ghost use Rattle.lru_cache.specs.Entries.{weight_of};
 ghost use Rattle.lru_shared.specs.Shards.{home};
 ghost use Rattle.lru_shared.specs.Calls.{ShowsEntry, VisitsEachTo, Gets, Lends, PutsMissing, RetainsShard, GetsOrPuts, EndsMaking};
 ghost use Rattle.lru_shared.specs.Relations.{IsRelated};

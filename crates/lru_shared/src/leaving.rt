@@ -2,7 +2,7 @@
 //! on at the next cache.
 ghost use Rattle.std.specs.Prelude.{◌≡◌, ◌≤◌, ◌&&◌, nat_le, [], length, reverse};
 ghost use Rattle.std.specs.List.{FoldsTo};
-ghost use Rattle.lru_entries.specs.Entries.{weight_of};
+ghost use Rattle.lru_cache.specs.Entries.{weight_of};
 ghost use Rattle.lru_cache.specs.Cache.{with_entries};
 ghost use Rattle.lru_shared.specs.Counting.{LetsGo, LimitsTo};
 

@@ -2,7 +2,7 @@
 ghost use Rattle.std.specs.Prelude.{◌≡◌, ◌<◌, ◌≤◌, ◌/◌, is_some, length, replicate, IfOk};
 ghost use Rattle.lru_index.specs.Hashing.{key_hash, seeded, unseeded};
 ghost use Rattle.lru_cache.specs.Cache.{hashes_from, entry_of};
-ghost use Rattle.lru_entries.specs.Entries.{weight_of};
+ghost use Rattle.lru_cache.specs.Entries.{weight_of};
 ghost use Rattle.lru_shared.specs.Shards.{home, Sees, Owns, OwnsEach};
 ghost use Rattle.lru_shared.specs.Turns.{InTurn, EachInTurn, GoesOn};
 ghost use Rattle.lru_shared.specs.Calls.{ShowsEntry, VisitsEach, VisitsEachTo, Gets, Lends, RetainsShard, GetsOrPuts};

@@ -4,8 +4,8 @@ use Rattle.std.specs.List.{FoldsTo}
 use Rattle.std.specs.Borrow.{Bor, MutBor}
 use Rattle.std.specs.declared.alloc.AllocError.{AllocError}
 use Rattle.lru_rows.specs.Rows.{Updates}
-use Rattle.lru_entries.specs.declared.entry.Entry.{Entry}
-use Rattle.lru_entries.specs.Entries.{entry}
+use Rattle.lru_cache.specs.declared.entry.Entry.{Entry}
+use Rattle.lru_cache.specs.Entries.{entry}
 use Rattle.lru_cache.specs.declared.cache.Refused.{Refused}
 use Rattle.lru_cache.specs.declared.cache.Cause.TheVariants.{Memory as NoMemory}
 use Rattle.lru_cache.specs.Cache.{Cached, without, with_entries, parts_of}

@@ -3,7 +3,7 @@
 ghost use Rattle.std.specs.Prelude.{◌≡◌, ◌<◌, ◌⊎◌, Ok, Err, None, is_some, length, IfOk, IfErr};
 ghost use Rattle.lru_index.specs.Hashing.{key_hash};
 ghost use Rattle.lru_deadlines.specs.Deadlines.{living};
-ghost use Rattle.lru_entries.specs.Entries.{weight_of};
+ghost use Rattle.lru_cache.specs.Entries.{weight_of};
 ghost use Rattle.lru_shared.specs.Shards.{home};
 ghost use Rattle.lru_shared.specs.Calls.{RetainsShard};
 ghost use Rattle.lru_shared.specs.Counting.{Takes, PopsShard, ClearsShard, DrainsShard, LimitsShard, PutsCounted};

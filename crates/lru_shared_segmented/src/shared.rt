@@ -1,7 +1,7 @@
 //! A segmented cache that threads share.
 ghost use Rattle.std.specs.Prelude.{◌≡◌, ◌<◌, length, vec_len, is_some, IfErr};
 ghost use Rattle.lru_cache.specs.Cache.{entry_of};
-ghost use Rattle.lru_entries.specs.Entries.{weight_of};
+ghost use Rattle.lru_cache.specs.Entries.{weight_of};
 ghost use Rattle.lru_segmented.specs.Segmented.{entries};
 ghost use Rattle.lru_shared.specs.Answers.{HandsBack};
 ghost use Rattle.lru_shared.specs.Calls.{ShowsEntry, VisitsEach};

@@ -1,5 +1,5 @@
 use Rattle.std.proofs.Common.{subst, sym, Some}
-use Rattle.lru_entries.specs.Entries.{entry}
+use Rattle.lru_cache.specs.Entries.{entry}
 use Rattle.lru_cache.specs.Cache.{PopsFirst}
 use Rattle.lru_cache.specs.Representation.{cached_in}
 use Rattle.lru_cache.proofs.Views.{view_popped_first}

@@ -1,5 +1,5 @@
 use Rattle.std.proofs.Common.{arith, sym, ap, ◌∙◌, subst, None, Ok, Err}
-use Rattle.lru_entries.specs.Entries.{entry}
+use Rattle.lru_cache.specs.Entries.{entry}
 use Rattle.lru_cache.specs.Cache.{Puts}
 use Rattle.lru_cache.specs.Representation.{cached_in}
 use Rattle.lru_cache.proofs.Views.{valid_cache, same_there, kept_put, view_put, entry_put}
