@@ -3,3 +3,9 @@ pub mod Saved
 pub mod Loaded
 pub mod Marked
 pub mod Taken
+pub mod NameLaws
+pub mod NumberLaws
+pub mod ManifestLaws
+pub mod Members
+pub mod ListingLaws
+pub mod FolderLaws

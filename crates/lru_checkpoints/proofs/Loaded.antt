@@ -11,8 +11,8 @@ use Rattle.lru_frames.specs.Frame.{frame_of, content_of, Fits}
 use Rattle.lru_frames.specs.Rows.{AreSame, IsSameRow}
 use Rattle.lru_frames.proofs.EnvelopeLaws.{one_content}
 use Rattle.lru_frames.proofs.FrameLaws.{one_frame}
-use Rattle.lru_manifests.specs.Manifests.{part_header}
-use Rattle.lru_manifests.specs.Names.{frame_path}
+use Rattle.lru_checkpoints.specs.Manifests.{part_header}
+use Rattle.lru_checkpoints.specs.Names.{frame_path}
 use Rattle.std.specs.Prelude.{Vec}
 use Rattle.std.specs.declared.alloc.Global.{Global}
 use Rattle.lru_whole_files.specs.declared.reading.Found.{Found}

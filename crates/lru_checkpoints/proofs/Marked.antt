@@ -3,7 +3,7 @@ use Rattle.std.proofs.Common.{◌≡◌, ℕ, ◌+◌, ◌*◌, List, [], ◌∷
 use Rattle.std.specs.Prelude.{map}
 use Rattle.lru_frames.specs.Words.{word}
 use Rattle.lru_frames.specs.WordLaws.{length-word}
-use Rattle.lru_manifests.specs.Manifests.{mark_row, manifest_bytes, part_header}
+use Rattle.lru_checkpoints.specs.Manifests.{mark_row, manifest_bytes, part_header}
 use Rattle.lru_frames.specs.declared.frame.Header.{Header}
 use Rattle.lru_frames.specs.declared.mark.Mark.{Mark}
 use Rattle.lru_frames.specs.declared.row.Row.{Row}

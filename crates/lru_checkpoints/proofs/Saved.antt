@@ -10,11 +10,11 @@ use Rattle.lru_folder.proofs.NamesLemmas.{path_text-injective}
 use Rattle.lru_folder.specs.Names.{shard_text}
 use Rattle.lru_frames.specs.declared.mark.Mark.{Mark}
 use Rattle.lru_frames.specs.declared.row.Row.{Row}
-use Rattle.lru_manifests.specs.declared.names.PartName.{PartName}
-use Rattle.lru_manifests.specs.declared.names.PartName.TheVariants.{Frame, Manifest, Temp}
-use Rattle.lru_manifests.specs.Manifests.{IsManifest, manifest_bytes}
-use Rattle.lru_manifests.specs.Names.{IsPart, part_path, frame_path, manifest_path, manifest_temp_path}
-use Rattle.lru_manifests.proofs.NameLaws.{one_path}
+use Rattle.lru_checkpoints.specs.declared.names.PartName.{PartName}
+use Rattle.lru_checkpoints.specs.declared.names.PartName.TheVariants.{Frame, Manifest, Temp}
+use Rattle.lru_checkpoints.specs.Manifests.{IsManifest, manifest_bytes}
+use Rattle.lru_checkpoints.specs.Names.{IsPart, part_path, frame_path, manifest_path, manifest_temp_path}
+use Rattle.lru_checkpoints.proofs.NameLaws.{one_path}
 use Rattle.lru_whole_files.specs.Touching.{IsSameBut, TouchesOnly}
 use Rattle.lru_whole_files.specs.Replacing.{IsReplaced, IsOldOrReplaced, Replaces}
 use Rattle.lru_checkpoints.specs.Checkpoints.{Shards, IsFrame, IsPartOf, AreFirm, AreMarked, AreHandedOut, FitsEach, HasFrames, HasCheckpoint, IsOldOrNew, IsWhole, SavesCheckpoint, most_shards}

@@ -3,9 +3,9 @@ use Rattle.std.proofs.Common.{◌≡◌, inl, inr, ℕ, ◌≤◌, List, length,
 use Rattle.std.specs.FinMap.{get}
 use Rattle.lru_folder.specs.Files.{Files}
 use Rattle.lru_frames.specs.declared.mark.Mark.{Mark}
-use Rattle.lru_manifests.specs.declared.manifest.Manifest.{Manifest}
-use Rattle.lru_manifests.specs.Manifests.{IsManifest, manifest_bytes}
-use Rattle.lru_manifests.specs.Names.{manifest_path}
+use Rattle.lru_checkpoints.specs.declared.manifest.Manifest.{Manifest}
+use Rattle.lru_checkpoints.specs.Manifests.{IsManifest, manifest_bytes}
+use Rattle.lru_checkpoints.specs.Names.{manifest_path}
 use Rattle.lru_checkpoints.specs.Checkpoints.{IsKnown, IsTaken, IsWhole, most_shards}
 
 -- a manifest that stands

@@ -3,7 +3,7 @@ use Rattle.std.specs.Prelude.{◌≡◌, ℕ, List, IsTrue}
 use Rattle.lru_folder.specs.Meaning.{Meaning}
 use Rattle.lru_folder.specs.Places.{folder_of, is_there}
 use Rattle.lru_folder.specs.declared.folder_call.FolderCall.TheVariants.{Rename}
-use Rattle.lru_manifests.specs.Names.{frame_path, manifest_temp_path}
+use Rattle.lru_checkpoints.specs.Names.{frame_path, manifest_temp_path}
 use Rattle.lru_whole_files.specs.Touching.{HasReason}
 use Rattle.lru_checkpoints.specs.declared.errors.CheckpointFile.{CheckpointFile}
 use Rattle.lru_checkpoints.specs.declared.errors.CheckpointFile.TheVariants.{Manifest, Shard, Names}

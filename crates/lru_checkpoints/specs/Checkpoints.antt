@@ -11,10 +11,10 @@ use Rattle.lru_frames.specs.declared.row.Row.{Row}
 use Rattle.lru_frames.specs.Envelope.{sealed}
 use Rattle.lru_frames.specs.Frame.{frame_of, header_bytes, Fits}
 use Rattle.lru_frames.specs.Marks.{mark_in, mark_of}
-use Rattle.lru_manifests.specs.declared.manifest.Manifest.{Manifest}
-use Rattle.lru_manifests.specs.declared.names.PartName.{PartName}
-use Rattle.lru_manifests.specs.Manifests.{IsManifest, part_header, manifest_bytes}
-use Rattle.lru_manifests.specs.Names.{IsPart, generation_of, part_path, frame_path, manifest_path}
+use Rattle.lru_checkpoints.specs.declared.manifest.Manifest.{Manifest}
+use Rattle.lru_checkpoints.specs.declared.names.PartName.{PartName}
+use Rattle.lru_checkpoints.specs.Manifests.{IsManifest, part_header, manifest_bytes}
+use Rattle.lru_checkpoints.specs.Names.{IsPart, generation_of, part_path, frame_path, manifest_path}
 
 -- the rows of each shard
 abbrev pub Shards : Type 0 → Type 0 → Type 0

@@ -13,8 +13,8 @@ use Rattle.lru_frames.specs.Causes.{IsWrong}
 use Rattle.lru_frames.specs.Frame.{frame_of, Fits}
 use Rattle.lru_frames.specs.Marks.{IsWrongFrame, mark_of}
 use Rattle.lru_frames.specs.Rows.{AreSame, IsSameRow}
-use Rattle.lru_manifests.specs.Manifests.{IsManifest, IsWrongManifest, part_header, manifest_bytes}
-use Rattle.lru_manifests.specs.Names.{frame_path, manifest_path}
+use Rattle.lru_checkpoints.specs.Manifests.{IsManifest, IsWrongManifest, part_header, manifest_bytes}
+use Rattle.lru_checkpoints.specs.Names.{frame_path, manifest_path}
 use Rattle.lru_whole_files.specs.declared.errors.CallFault.{CallFault}
 use Rattle.lru_whole_files.specs.declared.errors.ReadError.{ReadError}
 use Rattle.lru_whole_files.specs.declared.errors.ReadError.TheVariants as read

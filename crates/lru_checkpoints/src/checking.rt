@@ -3,8 +3,8 @@ ghost use Rattle.std.specs.Prelude.{◌≡◌, ◌≢◌, ◌↔◌, ◌<◌, �
 ghost use Rattle.std.specs.FinMap.{get};
 ghost use Rattle.lru_frames.specs.declared.mark.Mark.{Mark};
 ghost use Rattle.lru_frames.specs.Frame.{IsHeader};
-ghost use Rattle.lru_manifests.specs.Manifests.{IsManifest, part_header};
-ghost use Rattle.lru_manifests.specs.Names.{frame_path};
+ghost use Rattle.lru_checkpoints.specs.Manifests.{IsManifest, part_header};
+ghost use Rattle.lru_checkpoints.specs.Names.{frame_path};
 ghost use Rattle.lru_whole_files.specs.Touching.{TouchesNothing};
 ghost use Rattle.lru_checkpoints.specs.Checkpoints.{IsKnown, IsTaken, IsWhole, IsWholeFrame};
 ghost use Rattle.lru_checkpoints.specs.Loads.{IsFault, IsRefused, IsRefusedByCheck};
@@ -15,8 +15,8 @@ use lru_folder::folder::Folder;
 use lru_frames::frame::Header;
 use lru_frames::mark::Mark;
 use lru_frames::marked::inspect;
-use lru_manifests::manifest::Manifest;
-use lru_manifests::names::frame_path;
+use crate::manifest::Manifest;
+use crate::names::frame_path;
 use lru_whole_files::reading::{Found, read_file};
 use std::alloc::Global;
 

@@ -6,6 +6,10 @@
 
 pub mod checking;
 pub mod errors;
+pub mod laws;
+pub mod listing;
 pub mod loading;
+pub mod manifest;
+pub mod names;
 mod reading;
 pub mod saving;

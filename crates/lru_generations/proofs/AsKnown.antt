@@ -4,7 +4,7 @@ use Rattle.lru_folder.specs.Files.{Files}
 use Rattle.lru_folder.specs.Meaning.{Meaning}
 use Rattle.lru_frames.specs.declared.mark.Mark.{Mark}
 use Rattle.lru_frames.specs.declared.row.Row.{Row}
-use Rattle.lru_manifests.specs.declared.manifest.Manifest.{Manifest}
+use Rattle.lru_checkpoints.specs.declared.manifest.Manifest.{Manifest}
 use Rattle.lru_checkpoints.specs.Checkpoints.{IsTaken, IsWhole}
 use Rattle.lru_checkpoints.proofs.Saved.{leaves_more, loses_more}
 use Rattle.lru_checkpoints.proofs.Taken.{whole_taken}

@@ -9,10 +9,10 @@ use Rattle.lru_folder.proofs.LossLemmas.{loses_on}
 use Rattle.lru_folder.proofs.Moments.{goes_on}
 use Rattle.lru_folder.specs.SyncedNames.{HasNames, IsIn}
 use Rattle.lru_frames.specs.declared.row.Row.{Row}
-use Rattle.lru_manifests.specs.declared.names.PartName.{PartName}
-use Rattle.lru_manifests.specs.declared.names.PartName.TheVariants.{Frame, Manifest, Temp}
-use Rattle.lru_manifests.specs.Names.{IsPart, part_path, part_text, frame_path, manifest_path}
-use Rattle.lru_manifests.proofs.NameLaws.{has_slash-part_text}
+use Rattle.lru_checkpoints.specs.declared.names.PartName.{PartName}
+use Rattle.lru_checkpoints.specs.declared.names.PartName.TheVariants.{Frame, Manifest, Temp}
+use Rattle.lru_checkpoints.specs.Names.{IsPart, part_path, part_text, frame_path, manifest_path}
+use Rattle.lru_checkpoints.proofs.NameLaws.{has_slash-part_text}
 use Rattle.lru_whole_files.specs.Touching.{IsSameBut, TouchesOnly}
 use Rattle.lru_checkpoints.specs.declared.errors.CheckpointError.{CheckpointError}
 use Rattle.lru_checkpoints.specs.declared.errors.CheckpointError.TheVariants as error

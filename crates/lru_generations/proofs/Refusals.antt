@@ -9,8 +9,8 @@ use Rattle.lru_frames.specs.declared.frame.Header.{Header}
 use Rattle.lru_frames.specs.declared.mark.Mark.{Mark}
 use Rattle.lru_frames.specs.Causes.{IsWrong}
 use Rattle.lru_frames.specs.Marks.{IsWrongFrame}
-use Rattle.lru_manifests.specs.Manifests.{manifest_bytes}
-use Rattle.lru_manifests.specs.Names.{manifest_path, frame_path}
+use Rattle.lru_checkpoints.specs.Manifests.{manifest_bytes}
+use Rattle.lru_checkpoints.specs.Names.{manifest_path, frame_path}
 use Rattle.lru_whole_files.specs.declared.errors.CallFault.{CallFault}
 use Rattle.lru_whole_files.specs.Touching.{HasReason}
 use Rattle.lru_checkpoints.specs.declared.errors.CheckpointError.{CheckpointError}

@@ -8,10 +8,10 @@ use Rattle.std.proofs.lemmas.List.Kept.{Contains-dedup_nat, Contains-from_dedup}
 use Rattle.std.proofs.lemmas.List.Sorted.{Contains-permutation, IsPermutation-sym}
 use Rattle.lru_folder.specs.Files.{Files}
 use Rattle.lru_folder.specs.Meaning.{Meaning}
-use Rattle.lru_manifests.specs.declared.names.PartName.{PartName}
-use Rattle.lru_manifests.specs.Listing.{HasParts}
-use Rattle.lru_manifests.specs.Names.{generation_of}
-use Rattle.lru_manifests.proofs.Members.{ComeBy}
+use Rattle.lru_checkpoints.specs.declared.names.PartName.{PartName}
+use Rattle.lru_checkpoints.specs.Listing.{HasParts}
+use Rattle.lru_checkpoints.specs.Names.{generation_of}
+use Rattle.lru_checkpoints.proofs.Members.{ComeBy}
 use Rattle.lru_checkpoints.specs.declared.errors.CheckpointError.{CheckpointError}
 use Rattle.lru_checkpoints.specs.Checkpoints.{IsWhole}
 use Rattle.lru_generations.specs.Told.{AreAll, IsTold}

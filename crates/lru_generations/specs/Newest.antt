@@ -3,8 +3,8 @@ use Rattle.std.specs.Prelude.{◌≡◌, ◌↔◌, ◌<◌, ◌^◌, ℕ, List,
 use Rattle.std.specs.FinMap.{get}
 use Rattle.lru_folder.specs.Files.{Files}
 use Rattle.lru_frames.specs.declared.mark.Mark.{Mark}
-use Rattle.lru_manifests.specs.declared.manifest.Manifest.{Manifest}
-use Rattle.lru_manifests.specs.Names.{manifest_path}
+use Rattle.lru_checkpoints.specs.declared.manifest.Manifest.{Manifest}
+use Rattle.lru_checkpoints.specs.Names.{manifest_path}
 use Rattle.lru_checkpoints.specs.declared.errors.CheckpointError.{CheckpointError}
 use Rattle.lru_checkpoints.specs.Checkpoints.{IsTaken, IsWhole}
 use Rattle.lru_checkpoints.specs.Loads.{IsFault}

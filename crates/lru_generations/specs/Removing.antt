@@ -1,8 +1,8 @@
 -- Files of a checkpoint that are removed.
 use Rattle.std.specs.Prelude.{◌≡◌, ℕ, List, Contains}
-use Rattle.lru_manifests.specs.declared.names.PartName.{PartName}
-use Rattle.lru_manifests.specs.declared.names.PartName.TheVariants as part
-use Rattle.lru_manifests.specs.Names.{part_path}
+use Rattle.lru_checkpoints.specs.declared.names.PartName.{PartName}
+use Rattle.lru_checkpoints.specs.declared.names.PartName.TheVariants as part
+use Rattle.lru_checkpoints.specs.Names.{part_path}
 use Rattle.lru_checkpoints.specs.declared.errors.CheckpointFile.{CheckpointFile}
 use Rattle.lru_checkpoints.specs.declared.errors.CheckpointFile.TheVariants.{Manifest, Shard}
 use Rattle.lru_checkpoints.specs.declared.errors.CheckpointError.{CheckpointError}

@@ -6,10 +6,10 @@ use Rattle.lru_folder.specs.Folder.{LeavesOnly}
 use Rattle.lru_folder.specs.Losses.{LosesOnly}
 use Rattle.lru_folder.specs.Meaning.{Meaning}
 use Rattle.lru_frames.specs.declared.row.Row.{Row}
-use Rattle.lru_manifests.specs.declared.manifest.Manifest.{Manifest}
-use Rattle.lru_manifests.specs.declared.names.PartName.{PartName}
-use Rattle.lru_manifests.specs.Listing.{HasParts, IsAbove, IsLeftover}
-use Rattle.lru_manifests.specs.Names.{IsPart, generation_of, part_path, frame_path, manifest_temp_path}
+use Rattle.lru_checkpoints.specs.declared.manifest.Manifest.{Manifest}
+use Rattle.lru_checkpoints.specs.declared.names.PartName.{PartName}
+use Rattle.lru_checkpoints.specs.Listing.{HasParts, IsAbove, IsLeftover}
+use Rattle.lru_checkpoints.specs.Names.{IsPart, generation_of, part_path, frame_path, manifest_temp_path}
 use Rattle.lru_folder.specs.SyncedNames.{IsIn}
 use Rattle.lru_checkpoints.specs.declared.errors.CheckpointError.{CheckpointError}
 use Rattle.lru_checkpoints.specs.declared.errors.CheckpointError.TheVariants.{InUse, LastGeneration}

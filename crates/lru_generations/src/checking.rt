@@ -1,8 +1,8 @@
 //! Each generation of a folder: whole, or why it is not.
 ghost use Rattle.std.specs.Prelude.{◌≡◌, ◌↔◌, ◌⊎◌, ◌<◌, ℕ, false, map, AllPairs, Contains, IfErr, IfOk, OnOk};
 ghost use Rattle.lru_folder.specs.Names.{has_slash};
-ghost use Rattle.lru_manifests.specs.declared.names.PartName.{PartName};
-ghost use Rattle.lru_manifests.specs.Names.{generation_of};
+ghost use Rattle.lru_checkpoints.specs.declared.names.PartName.{PartName};
+ghost use Rattle.lru_checkpoints.specs.Names.{generation_of};
 ghost use Rattle.lru_whole_files.specs.Touching.{TouchesNothing};
 ghost use Rattle.lru_checkpoints.specs.Loads.{IsFault};
 ghost use Rattle.lru_generations.specs.declared.checking.Told.{Told};
@@ -13,7 +13,7 @@ use crate::listing::parts_of;
 use lru_checkpoints::checking::check_generation;
 use lru_checkpoints::errors::CheckpointError;
 use lru_folder::folder::Folder;
-use lru_manifests::names::PartName;
+use lru_checkpoints::names::PartName;
 use std::alloc::{AllocError, Global};
 
 /// A generation that a folder has a file of.

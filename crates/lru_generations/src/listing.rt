@@ -1,15 +1,15 @@
 //! The files of a checkpoint that a folder lists.
 ghost use Rattle.std.specs.Prelude.{◌≡◌, ◌↔◌, false, IfErr, IfOk, OnOk};
 ghost use Rattle.lru_folder.specs.Names.{has_slash};
-ghost use Rattle.lru_manifests.specs.Listing.{HasParts};
+ghost use Rattle.lru_checkpoints.specs.Listing.{HasParts};
 ghost use Rattle.lru_whole_files.specs.Touching.{TouchesNothing};
 ghost use Rattle.lru_checkpoints.specs.Loads.{IsFault};
 ghost use Rattle.lru_generations.specs.Faults.{IsUnlisted};
 
 use lru_checkpoints::errors::{CheckpointError, CheckpointFile};
 use lru_folder::folder::Folder;
-use lru_manifests::listing::list_parts;
-use lru_manifests::names::PartName;
+use lru_checkpoints::listing::list_parts;
+use lru_checkpoints::names::PartName;
 use lru_whole_files::errors::ReadError;
 use std::alloc::Global;
 

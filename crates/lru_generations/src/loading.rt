@@ -7,8 +7,8 @@ ghost use Rattle.lru_checkpoints.specs.Loads.{IsFault, IsRefused, IsRefusedFrame
 ghost use Rattle.lru_generations.specs.Faults.{IsFailed, IsUnlisted};
 ghost use Rattle.lru_generations.specs.Loaded.{IsLoaded, IsLoadedBelow, IsReadable, IsReadableBelow, IsSameCheckpoint, number_of};
 ghost use Rattle.lru_generations.specs.Newest.{AreGenerations, AreGenerationsBelow, ArePassed, IsAsKnown, IsBelow};
-ghost use Rattle.lru_manifests.specs.declared.names.PartName.{PartName};
-ghost use Rattle.lru_manifests.specs.Names.{generation_of};
+ghost use Rattle.lru_checkpoints.specs.declared.names.PartName.{PartName};
+ghost use Rattle.lru_checkpoints.specs.Names.{generation_of};
 
 use crate::known::Known;
 use crate::listing::parts_of;
@@ -18,8 +18,8 @@ use lru_checkpoints::loading::load_generation;
 use lru_folder::folder::Folder;
 use lru_frames::row::Row;
 use lru_frames::stored::Stored;
-use lru_manifests::listing::{generations_of, older_than};
-use lru_manifests::names::PartName;
+use lru_checkpoints::listing::{generations_of, older_than};
+use lru_checkpoints::names::PartName;
 use std::alloc::{AllocError, Global};
 
 /// A checkpoint that was loaded.

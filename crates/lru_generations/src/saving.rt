@@ -17,8 +17,8 @@ use lru_folder::folder_call::FolderCall;
 use lru_frames::mark::Mark;
 use lru_frames::source::Source;
 use lru_frames::stored::Stored;
-use lru_manifests::manifest::Manifest;
-use lru_manifests::names::PartName;
+use lru_checkpoints::manifest::Manifest;
+use lru_checkpoints::names::PartName;
 use lru_folder::synced_folder::SyncedFolder;
 use std::alloc::Global;
 

@@ -10,8 +10,8 @@ use crate::listing::parts_of;
 use crate::newest::{Newest, newest_whole};
 use crate::syncing::{claim, sync_names};
 use lru_checkpoints::errors::CheckpointError;
-use lru_manifests::listing::{generation_above, generations_of};
-use lru_manifests::names::PartName;
+use lru_checkpoints::listing::{generation_above, generations_of};
+use lru_checkpoints::names::PartName;
 use lru_folder::synced_folder::SyncedFolder;
 use std::alloc::Global;
 

@@ -8,8 +8,8 @@ use Rattle.lru_frames.specs.Words.{word}
 use Rattle.lru_checkpoints.specs.declared.errors.CheckpointError.{CheckpointError}
 use Rattle.lru_checkpoints.specs.Checkpoints.{Shards, AreHandedOut}
 use Rattle.lru_checkpoints.specs.Loads.{IsFault, IsRefused, IsRefusedFrame}
-use Rattle.lru_manifests.specs.declared.names.PartName.{PartName}
-use Rattle.lru_manifests.specs.Names.{IsPart, part_path}
+use Rattle.lru_checkpoints.specs.declared.names.PartName.{PartName}
+use Rattle.lru_checkpoints.specs.Names.{IsPart, part_path}
 use Rattle.lru_generations.specs.declared.checking.Told.{Told}
 use Rattle.lru_generations.specs.declared.loading.Loaded.{Loaded}
 use Rattle.lru_generations.specs.declared.newest.Passed.{Passed}

@@ -8,8 +8,8 @@ use Rattle.lru_frames.specs.declared.frame.Header.{Header}
 use Rattle.lru_frames.specs.declared.mark.Mark.{Mark}
 use Rattle.lru_frames.specs.Frame.{IsHeader}
 use Rattle.lru_frames.specs.Marks.{IsWrongFrame}
-use Rattle.lru_manifests.specs.Manifests.{part_header}
-use Rattle.lru_manifests.specs.Names.{frame_path}
+use Rattle.lru_checkpoints.specs.Manifests.{part_header}
+use Rattle.lru_checkpoints.specs.Names.{frame_path}
 use Rattle.lru_whole_files.proofs.Touched.{touches_started, touches_then}
 use Rattle.lru_checkpoints.specs.Checkpoints.{IsWholeFrame}
 use Rattle.lru_checkpoints.specs.Loads.{IsFault, IsRefusedByCheck}

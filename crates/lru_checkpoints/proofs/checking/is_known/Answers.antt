@@ -4,7 +4,7 @@ use Rattle.lru_frames.specs.declared.mark.Mark.{Mark}
 use Rattle.lru_frames.specs.contracts.mark.MarkPartialEq.TheImpl.{eq-value}
 use Rattle.lru_checkpoints.specs.Checkpoints.{IsKnown}
 use Rattle.std.specs.Prelude.{Option, option_copied}
-use Rattle.lru_manifests.specs.declared.manifest.Manifest.{Manifest}
+use Rattle.lru_checkpoints.specs.declared.manifest.Manifest.{Manifest}
 use Rattle.lru_checkpoints.proofs.checking.is_known.Goals as goal
 
 -- two marks are the same where their numbers are

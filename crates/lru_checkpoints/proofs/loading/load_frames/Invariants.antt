@@ -2,7 +2,7 @@ use Rattle.std.proofs.Common.{◌≡◌, ℕ, List, length, Some, slice_get}
 use Rattle.lru_folder.specs.Meaning.{Meaning}
 use Rattle.lru_frames.specs.declared.row.Row.{Row}
 use Rattle.lru_frames.specs.Marks.{mark_of}
-use Rattle.lru_manifests.specs.Manifests.{part_header}
+use Rattle.lru_checkpoints.specs.Manifests.{part_header}
 use Rattle.lru_whole_files.specs.Touching.{TouchesNothing}
 use Rattle.lru_checkpoints.specs.Checkpoints.{HasFrames, FitsEach}
 use Rattle.lru_checkpoints.specs.Loads.{rows_of}

@@ -1,7 +1,7 @@
 use Rattle.std.proofs.Common.{ℕ, List, sym, ◌∙◌, subst}
 use Rattle.lru_folder.specs.Meaning.{Meaning}
-use Rattle.lru_manifests.specs.declared.names.PartName.{PartName}
-use Rattle.lru_manifests.specs.Listing.{HasParts}
+use Rattle.lru_checkpoints.specs.declared.names.PartName.{PartName}
+use Rattle.lru_checkpoints.specs.Listing.{HasParts}
 use Rattle.lru_whole_files.proofs.Touched.{touches_then}
 use Rattle.lru_generations.specs.Told.{AreAll}
 use Rattle.lru_generations.proofs.Passing.{if_ok}

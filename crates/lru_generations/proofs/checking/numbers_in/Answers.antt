@@ -1,9 +1,9 @@
 use Rattle.std.proofs.Common.{◌≡◌, ℕ, sym, ◌∙◌}
-use Rattle.lru_manifests.specs.declared.names.PartName.{PartName}
-use Rattle.lru_manifests.specs.declared.names.PartName.TheVariants.{Frame}
-use Rattle.lru_manifests.specs.Names.{generation_of}
-use Rattle.lru_manifests.proofs.ListingLaws.{sorted_falling}
-use Rattle.lru_manifests.proofs.Members.{come_all, come_push_at}
+use Rattle.lru_checkpoints.specs.declared.names.PartName.{PartName}
+use Rattle.lru_checkpoints.specs.declared.names.PartName.TheVariants.{Frame}
+use Rattle.lru_checkpoints.specs.Names.{generation_of}
+use Rattle.lru_checkpoints.proofs.ListingLaws.{sorted_falling}
+use Rattle.lru_checkpoints.proofs.Members.{come_all, come_push_at}
 use Rattle.lru_generations.proofs.Telling.{sorted_come}
 use Rattle.lru_generations.proofs.checking.numbers_in.Goals as goal
 

@@ -2,8 +2,8 @@ use Rattle.std.proofs.Common.{◌≡◌, ◌<◌, ℕ, List, Some, sym, subst}
 use Rattle.std.specs.Prelude.{◌↔◌, Contains, IfOk, IfSome, Option}
 use Rattle.lru_folder.specs.Files.{Files}
 use Rattle.lru_folder.specs.Meaning.{Meaning}
-use Rattle.lru_manifests.specs.declared.names.PartName.{PartName}
-use Rattle.lru_manifests.specs.declared.names.PartName.TheVariants.{Manifest}
+use Rattle.lru_checkpoints.specs.declared.names.PartName.{PartName}
+use Rattle.lru_checkpoints.specs.declared.names.PartName.TheVariants.{Manifest}
 use Rattle.lru_whole_files.proofs.Touched.{touches_then}
 use Rattle.lru_checkpoints.specs.Checkpoints.{Shards, HasCheckpoint}
 use Rattle.lru_generations.specs.Loaded.{IsLoadedBelow, IsReadableBelow, IsSameCheckpoint}

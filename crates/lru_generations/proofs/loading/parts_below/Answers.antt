@@ -1,7 +1,7 @@
 use Rattle.std.proofs.Common.{◌<◌, ℕ, List, sym, subst}
 use Rattle.std.specs.Prelude.{◌↔◌, Contains, IfOk, Option}
-use Rattle.lru_manifests.specs.declared.names.PartName.{PartName}
-use Rattle.lru_manifests.specs.Names.{generation_of}
+use Rattle.lru_checkpoints.specs.declared.names.PartName.{PartName}
+use Rattle.lru_checkpoints.specs.Names.{generation_of}
 use Rattle.lru_generations.specs.Newest.{IsBelow}
 use Rattle.lru_generations.proofs.loading.parts_below.Goals as goal
 

@@ -2,8 +2,8 @@ use Rattle.std.proofs.Common.{◌≡◌, ℕ, List, [], ◌∷◌, ◌++◌, len
 use Rattle.std.specs.Prelude.{Contains, Option, option_copied}
 use Rattle.lru_folder.specs.Files.{Files}
 use Rattle.lru_folder.specs.Meaning.{Meaning}
-use Rattle.lru_manifests.specs.declared.manifest.Manifest.{Manifest}
-use Rattle.lru_manifests.specs.Manifests.{manifest_bytes}
+use Rattle.lru_checkpoints.specs.declared.manifest.Manifest.{Manifest}
+use Rattle.lru_checkpoints.specs.Manifests.{manifest_bytes}
 use Rattle.lru_whole_files.proofs.Touched.{touches_started, touches_then}
 use Rattle.lru_checkpoints.specs.Checkpoints.{IsTaken}
 use Rattle.lru_checkpoints.specs.Loads.{IsFault, IsRefused, IsRefusedByCheck}

@@ -5,9 +5,9 @@ use Rattle.std.proofs.lemmas.List.{get_or_default}
 use Rattle.std.proofs.lemmas.List.Elements.{Contains-get_or}
 use Rattle.lru_folder.specs.Meaning.{Meaning}
 use Rattle.lru_folder.proofs.FilesLemmas.{decide}
-use Rattle.lru_manifests.specs.declared.names.PartName.{PartName}
-use Rattle.lru_manifests.specs.declared.names.PartName.TheVariants.{Frame}
-use Rattle.lru_manifests.specs.Names.{part_path}
+use Rattle.lru_checkpoints.specs.declared.names.PartName.{PartName}
+use Rattle.lru_checkpoints.specs.declared.names.PartName.TheVariants.{Frame}
+use Rattle.lru_checkpoints.specs.Names.{part_path}
 use Rattle.lru_whole_files.proofs.Touched.{touches_started, touches_then, touches_more}
 use Rattle.lru_generations.specs.Removing.{IsPathOf}
 use Rattle.lru_generations.proofs.removing.remove_parts.Goals as goal

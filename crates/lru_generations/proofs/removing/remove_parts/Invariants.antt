@@ -1,8 +1,8 @@
 use Rattle.std.proofs.Common.{◌≡◌, ◌<◌, ℕ, List, None, get_or}
 use Rattle.std.specs.FinMap.{get}
 use Rattle.lru_folder.specs.Meaning.{Meaning}
-use Rattle.lru_manifests.specs.declared.names.PartName.TheVariants.{Frame}
-use Rattle.lru_manifests.specs.Names.{part_path}
+use Rattle.lru_checkpoints.specs.declared.names.PartName.TheVariants.{Frame}
+use Rattle.lru_checkpoints.specs.Names.{part_path}
 use Rattle.lru_whole_files.specs.Touching.{TouchesOnly}
 use Rattle.lru_generations.specs.Removing.{IsPathOf}
 use Rattle.lru_generations.proofs.removing.remove_parts.Given as goal
