@@ -9,3 +9,6 @@ pub mod ManifestLaws
 pub mod Members
 pub mod ListingLaws
 pub mod FolderLaws
+pub mod Touched
+pub mod Replaced
+pub mod Removed

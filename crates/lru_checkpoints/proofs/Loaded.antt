@@ -15,10 +15,10 @@ use Rattle.lru_checkpoints.specs.Manifests.{part_header}
 use Rattle.lru_checkpoints.specs.Names.{frame_path}
 use Rattle.std.specs.Prelude.{Vec}
 use Rattle.std.specs.declared.alloc.Global.{Global}
-use Rattle.lru_whole_files.specs.declared.reading.Found.{Found}
-use Rattle.lru_whole_files.specs.declared.reading.Found.TheVariants.{Bytes, TooLong}
-use Rattle.lru_whole_files.specs.Reading.{IsFound}
-use Rattle.lru_whole_files.specs.Touching.{HasReason}
+use Rattle.lru_checkpoints.specs.declared.file_reading.Found.{Found}
+use Rattle.lru_checkpoints.specs.declared.file_reading.Found.TheVariants.{Bytes, TooLong}
+use Rattle.lru_checkpoints.specs.Reading.{IsFound}
+use Rattle.lru_checkpoints.specs.Touching.{HasReason}
 use Rattle.lru_frames.specs.declared.errors.FrameError.{FrameError}
 use Rattle.lru_frames.specs.declared.errors.FrameError.TheVariants as frame
 use Rattle.lru_checkpoints.specs.declared.errors.CheckpointFile.{CheckpointFile}

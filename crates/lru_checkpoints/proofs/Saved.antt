@@ -15,8 +15,8 @@ use Rattle.lru_checkpoints.specs.declared.names.PartName.TheVariants.{Frame, Man
 use Rattle.lru_checkpoints.specs.Manifests.{IsManifest, manifest_bytes}
 use Rattle.lru_checkpoints.specs.Names.{IsPart, part_path, frame_path, manifest_path, manifest_temp_path}
 use Rattle.lru_checkpoints.proofs.NameLaws.{one_path}
-use Rattle.lru_whole_files.specs.Touching.{IsSameBut, TouchesOnly}
-use Rattle.lru_whole_files.specs.Replacing.{IsReplaced, IsOldOrReplaced, Replaces}
+use Rattle.lru_checkpoints.specs.Touching.{IsSameBut, TouchesOnly}
+use Rattle.lru_checkpoints.specs.Replacing.{IsReplaced, IsOldOrReplaced, Replaces}
 use Rattle.lru_checkpoints.specs.Checkpoints.{Shards, IsFrame, IsPartOf, AreFirm, AreMarked, AreHandedOut, FitsEach, HasFrames, HasCheckpoint, IsOldOrNew, IsWhole, SavesCheckpoint, most_shards}
 use Rattle.lru_checkpoints.proofs.Lists.{get-below}
 use Rattle.lru_checkpoints.proofs.Marked.{checkpoint_whole}

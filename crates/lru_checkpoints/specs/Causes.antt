@@ -4,7 +4,7 @@ use Rattle.lru_folder.specs.Meaning.{Meaning}
 use Rattle.lru_folder.specs.Places.{folder_of, is_there}
 use Rattle.lru_folder.specs.declared.folder_call.FolderCall.TheVariants.{Rename}
 use Rattle.lru_checkpoints.specs.Names.{frame_path, manifest_temp_path}
-use Rattle.lru_whole_files.specs.Touching.{HasReason}
+use Rattle.lru_checkpoints.specs.Touching.{HasReason}
 use Rattle.lru_checkpoints.specs.declared.errors.CheckpointFile.{CheckpointFile}
 use Rattle.lru_checkpoints.specs.declared.errors.CheckpointFile.TheVariants.{Manifest, Shard, Names}
 use Rattle.lru_checkpoints.specs.declared.errors.CheckpointError.{CheckpointError}

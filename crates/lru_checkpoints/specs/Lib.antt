@@ -5,3 +5,6 @@ pub mod Loads
 pub mod Names
 pub mod Manifests
 pub mod Listing
+pub mod Touching
+pub mod Reading
+pub mod Replacing

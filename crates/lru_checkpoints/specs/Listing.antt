@@ -2,9 +2,9 @@
 use Rattle.std.specs.Prelude.{◌≡◌, ◌↔◌, ◌⊎◌, ◌<◌, ℕ, List, Some, Contains}
 use Rattle.std.specs.FinMap.{get}
 use Rattle.lru_folder.specs.Files.{Files}
-use Rattle.lru_whole_files.specs.declared.errors.ReadError.{ReadError}
-use Rattle.lru_whole_files.specs.declared.errors.ReadError.TheVariants.{Folder, Memory}
-use Rattle.lru_whole_files.specs.Touching.{HasReason}
+use Rattle.lru_checkpoints.specs.declared.file_errors.ReadError.{ReadError}
+use Rattle.lru_checkpoints.specs.declared.file_errors.ReadError.TheVariants.{Folder, Memory}
+use Rattle.lru_checkpoints.specs.Touching.{HasReason}
 use Rattle.lru_checkpoints.specs.declared.names.PartName.{PartName}
 use Rattle.lru_checkpoints.specs.declared.names.PartName.TheVariants.{Frame, Manifest, Temp}
 use Rattle.lru_checkpoints.specs.Names.{IsPart, generation_of, part_path}

@@ -15,10 +15,10 @@ use Rattle.lru_frames.specs.Marks.{IsWrongFrame, mark_of}
 use Rattle.lru_frames.specs.Rows.{AreSame, IsSameRow}
 use Rattle.lru_checkpoints.specs.Manifests.{IsManifest, IsWrongManifest, part_header, manifest_bytes}
 use Rattle.lru_checkpoints.specs.Names.{frame_path, manifest_path}
-use Rattle.lru_whole_files.specs.declared.errors.CallFault.{CallFault}
-use Rattle.lru_whole_files.specs.declared.errors.ReadError.{ReadError}
-use Rattle.lru_whole_files.specs.declared.errors.ReadError.TheVariants as read
-use Rattle.lru_whole_files.specs.Touching.{HasReason}
+use Rattle.lru_checkpoints.specs.declared.file_errors.CallFault.{CallFault}
+use Rattle.lru_checkpoints.specs.declared.file_errors.ReadError.{ReadError}
+use Rattle.lru_checkpoints.specs.declared.file_errors.ReadError.TheVariants as read
+use Rattle.lru_checkpoints.specs.Touching.{HasReason}
 use Rattle.lru_checkpoints.specs.declared.errors.CheckpointFile.{CheckpointFile}
 use Rattle.lru_checkpoints.specs.declared.errors.CheckpointFile.TheVariants as file
 use Rattle.lru_checkpoints.specs.declared.errors.CheckpointError.{CheckpointError}

@@ -5,7 +5,7 @@ ghost use Rattle.lru_frames.specs.declared.mark.Mark.{Mark};
 ghost use Rattle.lru_frames.specs.Frame.{IsHeader};
 ghost use Rattle.lru_checkpoints.specs.Manifests.{IsManifest, part_header};
 ghost use Rattle.lru_checkpoints.specs.Names.{frame_path};
-ghost use Rattle.lru_whole_files.specs.Touching.{TouchesNothing};
+ghost use Rattle.lru_checkpoints.specs.Touching.{TouchesNothing};
 ghost use Rattle.lru_checkpoints.specs.Checkpoints.{IsKnown, IsTaken, IsWhole, IsWholeFrame};
 ghost use Rattle.lru_checkpoints.specs.Loads.{IsFault, IsRefused, IsRefusedByCheck};
 
@@ -17,7 +17,7 @@ use lru_frames::mark::Mark;
 use lru_frames::marked::inspect;
 use crate::manifest::Manifest;
 use crate::names::frame_path;
-use lru_whole_files::reading::{Found, read_file};
+use crate::file_reading::{Found, read_file};
 use std::alloc::Global;
 
 // Reads the frame of a shard, and compares it with its mark.

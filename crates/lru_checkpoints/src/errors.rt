@@ -4,7 +4,7 @@ ghost use Rattle.lru_checkpoints.specs.Loads.{IsFault};
 ghost use Rattle.lru_checkpoints.specs.declared.errors.CheckpointError.TheVariants.{Memory};
 
 use lru_frames::errors::Part;
-use lru_whole_files::errors::CallFault;
+use crate::file_errors::CallFault;
 use std::alloc::AllocError;
 use std::error::Error;
 use std::fmt;

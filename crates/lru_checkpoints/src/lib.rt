@@ -6,6 +6,11 @@
 
 pub mod checking;
 pub mod errors;
+pub mod file_errors;
+pub mod file_reading;
+pub mod file_removing;
+pub mod file_replacing;
+pub mod file_writing;
 pub mod laws;
 pub mod listing;
 pub mod loading;

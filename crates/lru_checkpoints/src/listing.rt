@@ -3,8 +3,8 @@ ghost use Rattle.std.specs.Prelude.{◌≡◌, ◌↔◌, ◌<◌, ◌≤◌, �
 ghost use Rattle.lru_folder.specs.Listings.{name_of};
 ghost use Rattle.lru_folder.specs.Names.{has_slash};
 ghost use Rattle.lru_folder.specs.Places.{can_list};
-ghost use Rattle.lru_whole_files.specs.Reading.{IfFolder};
-ghost use Rattle.lru_whole_files.specs.Touching.{TouchesNothing};
+ghost use Rattle.lru_checkpoints.specs.Reading.{IfFolder};
+ghost use Rattle.lru_checkpoints.specs.Touching.{TouchesNothing};
 ghost use Rattle.lru_checkpoints.specs.declared.names.PartName.{PartName};
 ghost use Rattle.lru_checkpoints.specs.declared.names.PartName.TheVariants.{Manifest};
 ghost use Rattle.lru_checkpoints.specs.Listing.{HasListReason, HasParts, IsAbove, IsAnyManifest, IsLeftover};
@@ -14,7 +14,7 @@ use crate::names::{PartName, part_of};
 use lru_folder::folder::Folder;
 use lru_folder::folder_call::FolderCall;
 use lru_folder::listed::Listed;
-use lru_whole_files::errors::{CallFault, ReadError};
+use crate::file_errors::{CallFault, ReadError};
 use std::alloc::{AllocError, Global};
 
 // The parts whose names are listed.

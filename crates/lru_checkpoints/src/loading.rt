@@ -8,7 +8,7 @@ ghost use Rattle.lru_frames.specs.Marks.{mark_of};
 ghost use Rattle.lru_frames.specs.Rows.{AreSame, IsSameRow};
 ghost use Rattle.lru_checkpoints.specs.Manifests.{IsManifest, part_header};
 ghost use Rattle.lru_checkpoints.specs.Names.{frame_path};
-ghost use Rattle.lru_whole_files.specs.Touching.{TouchesNothing};
+ghost use Rattle.lru_checkpoints.specs.Touching.{TouchesNothing};
 ghost use Rattle.lru_checkpoints.specs.Checkpoints.{Shards, AreMarked, FitsEach, HasCheckpoint, HasFrames, IsWhole, most_shards};
 ghost use Rattle.lru_checkpoints.specs.Loads.{AreSameShards, IsFault, IsRefused, IsRefusedFrame, rows_of};
 
@@ -22,7 +22,7 @@ use lru_frames::row::Row;
 use lru_frames::stored::Stored;
 use crate::manifest::Manifest;
 use crate::names::frame_path;
-use lru_whole_files::reading::{Found, read_file};
+use crate::file_reading::{Found, read_file};
 use std::alloc::Global;
 
 // The rows of a shard of so many, read from the frame that has this mark.

@@ -4,7 +4,7 @@ ghost use Rattle.std.specs.FinMap.{get};
 ghost use Rattle.lru_frames.specs.declared.mark.Mark.{Mark};
 ghost use Rattle.lru_checkpoints.specs.Manifests.{IsManifest, manifest_bytes};
 ghost use Rattle.lru_checkpoints.specs.Names.{manifest_path};
-ghost use Rattle.lru_whole_files.specs.Touching.{TouchesNothing};
+ghost use Rattle.lru_checkpoints.specs.Touching.{TouchesNothing};
 ghost use Rattle.lru_checkpoints.specs.Checkpoints.{most_shards};
 ghost use Rattle.lru_checkpoints.specs.Loads.{IsFault, IsRefusedManifest, refused, unread};
 
@@ -14,8 +14,8 @@ use lru_folder::folder::Folder;
 use lru_frames::errors::FrameError;
 use crate::manifest::{Manifest, decode_manifest};
 use crate::names::manifest_path;
-use lru_whole_files::errors::ReadError;
-use lru_whole_files::reading::{Found, read_file};
+use crate::file_errors::ReadError;
+use crate::file_reading::{Found, read_file};
 use std::alloc::Global;
 
 // The bytes of the longest manifest.

@@ -6,8 +6,8 @@ ghost use Rattle.lru_frames.specs.Frame.{frame_of, Fits};
 ghost use Rattle.lru_frames.specs.Marks.{mark_of};
 ghost use Rattle.lru_checkpoints.specs.Manifests.{IsManifest, part_header, manifest_bytes};
 ghost use Rattle.lru_checkpoints.specs.Names.{frame_path, manifest_path, manifest_temp_path};
-ghost use Rattle.lru_whole_files.specs.Touching.{IsWritten, TouchesOnly};
-ghost use Rattle.lru_whole_files.specs.Replacing.{IsReplaced, Replaces};
+ghost use Rattle.lru_checkpoints.specs.Touching.{IsWritten, TouchesOnly};
+ghost use Rattle.lru_checkpoints.specs.Replacing.{IsReplaced, Replaces};
 ghost use Rattle.lru_checkpoints.specs.Checkpoints.{Shards, AreFirm, AreHandedOut, AreMarked, FitsEach, HasFrames, IsFrame, most_shards};
 ghost use Rattle.lru_checkpoints.specs.Causes.{HasSaveReason, IsToldOf, IsUnnamed};
 
@@ -19,8 +19,8 @@ use lru_frames::source::Source;
 use lru_frames::stored::Stored;
 use crate::manifest::{Manifest, encode_manifest};
 use crate::names::{frame_path, manifest_path, manifest_temp_path};
-use lru_whole_files::replacing::replace_file;
-use lru_whole_files::writing::write_file;
+use crate::file_replacing::replace_file;
+use crate::file_writing::write_file;
 use std::alloc::Global;
 
 /// The most shards that a checkpoint may have.

@@ -5,7 +5,7 @@ use lru_folder::fault::FolderFault;
 use lru_folder::folder_call::FolderCall;
 use lru_frames::errors::Part;
 use lru_memory_folder::memory_folder::MemoryFolder;
-use lru_whole_files::errors::CallFault;
+use lru_checkpoints::file_errors::CallFault;
 use std::alloc::{AllocError, Global};
 use std::test::Fail;
 

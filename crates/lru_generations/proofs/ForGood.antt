@@ -13,7 +13,7 @@ use Rattle.lru_checkpoints.specs.declared.names.PartName.{PartName}
 use Rattle.lru_checkpoints.specs.declared.names.PartName.TheVariants.{Frame, Manifest, Temp}
 use Rattle.lru_checkpoints.specs.Names.{IsPart, part_path, part_text, frame_path, manifest_path}
 use Rattle.lru_checkpoints.proofs.NameLaws.{has_slash-part_text}
-use Rattle.lru_whole_files.specs.Touching.{IsSameBut, TouchesOnly}
+use Rattle.lru_checkpoints.specs.Touching.{IsSameBut, TouchesOnly}
 use Rattle.lru_checkpoints.specs.declared.errors.CheckpointError.{CheckpointError}
 use Rattle.lru_checkpoints.specs.declared.errors.CheckpointError.TheVariants as error
 use Rattle.lru_checkpoints.specs.Causes.{HasSaveReason}

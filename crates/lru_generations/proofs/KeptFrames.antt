@@ -11,7 +11,7 @@ use Rattle.lru_checkpoints.specs.declared.names.PartName.{PartName}
 use Rattle.lru_checkpoints.specs.declared.names.PartName.TheVariants.{Frame, Manifest, Temp}
 use Rattle.lru_checkpoints.specs.Listing.{IsAnyManifest, IsTemp}
 use Rattle.lru_checkpoints.specs.Names.{IsPart, generation_of, part_path, frame_path, manifest_path}
-use Rattle.lru_whole_files.specs.Touching.{IsSameBut, TouchesNothing, TouchesOnly}
+use Rattle.lru_checkpoints.specs.Touching.{IsSameBut, TouchesNothing, TouchesOnly}
 use Rattle.lru_checkpoints.specs.Checkpoints.{IsPartOf}
 use Rattle.lru_checkpoints.proofs.Saved.{one_part, leaves_more}
 use Rattle.lru_checkpoints.proofs.Taken.{taken_manifest}

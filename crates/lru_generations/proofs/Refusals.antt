@@ -11,8 +11,8 @@ use Rattle.lru_frames.specs.Causes.{IsWrong}
 use Rattle.lru_frames.specs.Marks.{IsWrongFrame}
 use Rattle.lru_checkpoints.specs.Manifests.{manifest_bytes}
 use Rattle.lru_checkpoints.specs.Names.{manifest_path, frame_path}
-use Rattle.lru_whole_files.specs.declared.errors.CallFault.{CallFault}
-use Rattle.lru_whole_files.specs.Touching.{HasReason}
+use Rattle.lru_checkpoints.specs.declared.file_errors.CallFault.{CallFault}
+use Rattle.lru_checkpoints.specs.Touching.{HasReason}
 use Rattle.lru_checkpoints.specs.declared.errors.CheckpointError.{CheckpointError}
 use Rattle.lru_checkpoints.specs.declared.errors.CheckpointError.TheVariants.{Memory, Folder, Missing, Damaged, Other, LastGeneration, InUse}
 use Rattle.lru_checkpoints.specs.Checkpoints.{IsWholeFrame}

@@ -20,7 +20,7 @@ use Rattle.lru_checkpoints.specs.declared.names.PartName.TheVariants.{Frame, Man
 use Rattle.lru_checkpoints.specs.Listing.{IsTemp}
 use Rattle.lru_checkpoints.specs.Names.{IsPart, generation_of, part_path, part_text, manifest_path}
 use Rattle.lru_checkpoints.proofs.NameLaws.{has_slash-part_text}
-use Rattle.lru_whole_files.specs.Touching.{IsSameBut, TouchesNothing, TouchesOnly}
+use Rattle.lru_checkpoints.specs.Touching.{IsSameBut, TouchesNothing, TouchesOnly}
 use Rattle.lru_checkpoints.specs.Checkpoints.{Shards, AreHandedOut, HasCheckpoint, HasNew, IsOldOrNew, IsPartOf, IsWhole, SavesCheckpoint}
 use Rattle.lru_checkpoints.proofs.Lists.{get-below, never}
 use Rattle.lru_checkpoints.proofs.Saved.{one_part, leaves_more, loses_more}

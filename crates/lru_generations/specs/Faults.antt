@@ -2,7 +2,7 @@
 use Rattle.std.specs.Prelude.{◌≡◌, ℕ, List, IsTrue}
 use Rattle.lru_folder.specs.Meaning.{Meaning}
 use Rattle.lru_folder.specs.Places.{can_list}
-use Rattle.lru_whole_files.specs.Touching.{HasReason}
+use Rattle.lru_checkpoints.specs.Touching.{HasReason}
 use Rattle.lru_checkpoints.specs.declared.errors.CheckpointFile.TheVariants as file
 use Rattle.lru_checkpoints.specs.declared.errors.CheckpointError.{CheckpointError}
 use Rattle.lru_checkpoints.specs.declared.errors.CheckpointError.TheVariants.{Memory, Folder, Missing, Damaged, Other, LastGeneration, InUse}

@@ -3,7 +3,7 @@ ghost use Rattle.std.specs.Prelude.{◌≡◌, ◌↔◌, ◌⊎◌, ◌<◌, �
 ghost use Rattle.lru_folder.specs.Names.{has_slash};
 ghost use Rattle.lru_checkpoints.specs.declared.names.PartName.{PartName};
 ghost use Rattle.lru_checkpoints.specs.Names.{generation_of};
-ghost use Rattle.lru_whole_files.specs.Touching.{TouchesNothing};
+ghost use Rattle.lru_checkpoints.specs.Touching.{TouchesNothing};
 ghost use Rattle.lru_checkpoints.specs.Loads.{IsFault};
 ghost use Rattle.lru_generations.specs.declared.checking.Told.{Told};
 ghost use Rattle.lru_generations.specs.Faults.{IsFailed, IsUnlisted};

@@ -8,7 +8,7 @@ ghost use Rattle.lru_checkpoints.specs.declared.names.PartName.{PartName};
 ghost use Rattle.lru_checkpoints.specs.declared.names.PartName.TheVariants.{Manifest};
 ghost use Rattle.lru_checkpoints.specs.Listing.{IsLeftover};
 ghost use Rattle.lru_checkpoints.specs.Names.{IsPart, part_path};
-ghost use Rattle.lru_whole_files.specs.Touching.{TouchesOnly};
+ghost use Rattle.lru_checkpoints.specs.Touching.{TouchesOnly};
 ghost use Rattle.lru_checkpoints.specs.Checkpoints.{Shards, AreHandedOut, HasCheckpoint, most_shards};
 ghost use Rattle.lru_checkpoints.specs.Loads.{IsFault};
 ghost use Rattle.lru_generations.specs.Faults.{IsFailed};

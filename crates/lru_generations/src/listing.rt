@@ -2,7 +2,7 @@
 ghost use Rattle.std.specs.Prelude.{◌≡◌, ◌↔◌, false, IfErr, IfOk, OnOk};
 ghost use Rattle.lru_folder.specs.Names.{has_slash};
 ghost use Rattle.lru_checkpoints.specs.Listing.{HasParts};
-ghost use Rattle.lru_whole_files.specs.Touching.{TouchesNothing};
+ghost use Rattle.lru_checkpoints.specs.Touching.{TouchesNothing};
 ghost use Rattle.lru_checkpoints.specs.Loads.{IsFault};
 ghost use Rattle.lru_generations.specs.Faults.{IsUnlisted};
 
@@ -10,7 +10,7 @@ use lru_checkpoints::errors::{CheckpointError, CheckpointFile};
 use lru_folder::folder::Folder;
 use lru_checkpoints::listing::list_parts;
 use lru_checkpoints::names::PartName;
-use lru_whole_files::errors::ReadError;
+use lru_checkpoints::file_errors::ReadError;
 use std::alloc::Global;
 
 // The parts that have a file in the folder. At every moment all files are as they were.

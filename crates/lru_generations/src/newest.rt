@@ -1,6 +1,6 @@
 //! The newest checkpoint that is whole.
 ghost use Rattle.std.specs.Prelude.{◌≡◌, ◌↔◌, ◌⊎◌, ◌<◌, ◌∷◌, ◌++◌, [], AllPairs, IfErr, IfOk, OnOk, option_copied};
-ghost use Rattle.lru_whole_files.specs.Touching.{TouchesNothing};
+ghost use Rattle.lru_checkpoints.specs.Touching.{TouchesNothing};
 ghost use Rattle.lru_checkpoints.specs.Loads.{IsFault, IsRefused, IsRefusedByCheck};
 ghost use Rattle.lru_generations.specs.Faults.{IsFailed};
 ghost use Rattle.lru_generations.specs.Newest.{ArePassed, HasAllManifests, IsHighestTaken};

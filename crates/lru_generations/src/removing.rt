@@ -3,7 +3,7 @@ ghost use Rattle.std.specs.Prelude.{◌≡◌, ◌↔◌, ℕ, List, None, Conta
 ghost use Rattle.std.specs.FinMap.{get};
 ghost use Rattle.lru_checkpoints.specs.declared.names.PartName.{PartName};
 ghost use Rattle.lru_checkpoints.specs.Names.{part_path};
-ghost use Rattle.lru_whole_files.specs.Touching.{TouchesOnly};
+ghost use Rattle.lru_checkpoints.specs.Touching.{TouchesOnly};
 ghost use Rattle.lru_checkpoints.specs.Loads.{IsFault};
 ghost use Rattle.lru_generations.specs.Faults.{IsFailed};
 ghost use Rattle.lru_generations.specs.Removing.{IsPathOf, NamesOnly, file_of};
@@ -11,7 +11,7 @@ ghost use Rattle.lru_generations.specs.Removing.{IsPathOf, NamesOnly, file_of};
 use lru_checkpoints::errors::{CheckpointError, CheckpointFile};
 use lru_folder::folder::Folder;
 use lru_checkpoints::names::{PartName, frame_path, manifest_path, manifest_temp_path};
-use lru_whole_files::removing::remove_file;
+use lru_checkpoints::file_removing::remove_file;
 use std::alloc::{AllocError, Global};
 
 // The path of a part's file.

@@ -2,7 +2,7 @@
 ghost use Rattle.std.specs.Prelude.{◌≡◌, ◌↔◌, ◌<◌, ◌≤◌, ◌^◌, ℕ, suc, List, false, length, IfErr, IfOk, OnOk, IsTrue};
 ghost use Rattle.lru_folder.specs.Files.{Files};
 ghost use Rattle.lru_folder.specs.Names.{has_slash};
-ghost use Rattle.lru_whole_files.specs.Touching.{TouchesOnly};
+ghost use Rattle.lru_checkpoints.specs.Touching.{TouchesOnly};
 ghost use Rattle.lru_checkpoints.specs.Checkpoints.{Shards, AreFirm, AreHandedOut, AreMarked, FitsEach, HasCheckpoint, HasFrames, IsFrame, IsWhole, SavesCheckpoint, most_shards};
 ghost use Rattle.lru_checkpoints.specs.Causes.{HasSaveReason, IsUnnamed};
 ghost use Rattle.lru_checkpoints.specs.Loads.{IsFault};

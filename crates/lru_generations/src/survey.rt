@@ -2,7 +2,7 @@
 ghost use Rattle.std.specs.Prelude.{◌≡◌, ◌↔◌, ◌<◌, ◌^◌, ℕ, List, false, IfErr, IfOk, OnOk, option_copied};
 ghost use Rattle.lru_folder.specs.Files.{Files};
 ghost use Rattle.lru_folder.specs.Names.{has_slash};
-ghost use Rattle.lru_whole_files.specs.Touching.{TouchesNothing};
+ghost use Rattle.lru_checkpoints.specs.Touching.{TouchesNothing};
 ghost use Rattle.lru_generations.specs.Saving.{AreNamed, IsSurveyed, IsUnsaved, TellsPassed};
 
 use crate::known::Known;

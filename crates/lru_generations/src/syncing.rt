@@ -10,7 +10,7 @@ ghost use Rattle.lru_generations.specs.Saving.{HasReasonOrIsInUse};
 use lru_checkpoints::errors::{CheckpointError, CheckpointFile};
 use lru_folder::folder_call::FolderCall;
 use lru_folder::synced_folder::SyncedFolder;
-use lru_whole_files::errors::CallFault;
+use lru_checkpoints::file_errors::CallFault;
 
 // Syncs the names in the folder.
 pub(crate) fn sync_names<F: SyncedFolder>(folder: &mut F, dir: &str) -> Result<(), CheckpointError>

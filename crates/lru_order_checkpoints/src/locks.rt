@@ -5,7 +5,7 @@ ghost use Rattle.lru_folder.specs.Names.{has_slash};
 ghost use Rattle.lru_frames.specs.Words.{word};
 ghost use Rattle.lru_checkpoints.specs.declared.names.PartName.{PartName};
 ghost use Rattle.lru_checkpoints.specs.Names.{IsPart, part_path};
-ghost use Rattle.lru_whole_files.specs.Touching.{TouchesNothing};
+ghost use Rattle.lru_checkpoints.specs.Touching.{TouchesNothing};
 ghost use Rattle.lru_order_captures.specs.Captures.{MayCopy};
 ghost use Rattle.lru_checkpoints.specs.Checkpoints.{Shards, AreHandedOut, most_shards};
 ghost use Rattle.lru_checkpoints.specs.Loads.{IsFault, IsRefused, IsRefusedFrame};

@@ -1,7 +1,7 @@
 use Rattle.std.proofs.Common.{rules, ◌≡◌, ℕ, List, refl, sym, ap, ◌∙◌, subst, arith, length}
 use Rattle.lru_frames.proofs.FrameLaws.{AreNarrow}
 use Rattle.lru_checkpoints.specs.Names.{frame_path}
-use Rattle.lru_whole_files.proofs.Touched.{touches_started}
+use Rattle.lru_checkpoints.proofs.Touched.{touches_started}
 use Rattle.lru_checkpoints.specs.Checkpoints.{IsWholeFrame}
 use Rattle.lru_checkpoints.proofs.Lists.{never}
 use Rattle.lru_checkpoints.proofs.Loaded.{held, too_long, one_file}

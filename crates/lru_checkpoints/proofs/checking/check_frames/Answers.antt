@@ -10,7 +10,7 @@ use Rattle.lru_frames.specs.Frame.{IsHeader}
 use Rattle.lru_frames.specs.Marks.{IsWrongFrame}
 use Rattle.lru_checkpoints.specs.Manifests.{part_header}
 use Rattle.lru_checkpoints.specs.Names.{frame_path}
-use Rattle.lru_whole_files.proofs.Touched.{touches_started, touches_then}
+use Rattle.lru_checkpoints.proofs.Touched.{touches_started, touches_then}
 use Rattle.lru_checkpoints.specs.Checkpoints.{IsWholeFrame}
 use Rattle.lru_checkpoints.specs.Loads.{IsFault, IsRefusedByCheck}
 use Rattle.lru_checkpoints.proofs.Lists.{get-below, index_is}

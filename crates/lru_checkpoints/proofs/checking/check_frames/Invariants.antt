@@ -4,7 +4,7 @@ use Rattle.lru_folder.specs.Meaning.{Meaning}
 use Rattle.lru_frames.specs.declared.mark.Mark.{Mark}
 use Rattle.lru_checkpoints.specs.Manifests.{part_header}
 use Rattle.lru_checkpoints.specs.Names.{frame_path}
-use Rattle.lru_whole_files.specs.Touching.{TouchesNothing}
+use Rattle.lru_checkpoints.specs.Touching.{TouchesNothing}
 use Rattle.lru_checkpoints.specs.Checkpoints.{IsWholeFrame}
 use Rattle.lru_checkpoints.proofs.checking.check_frames.Given as goal
 

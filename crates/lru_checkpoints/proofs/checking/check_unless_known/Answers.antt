@@ -6,7 +6,7 @@ use Rattle.lru_folder.specs.Meaning.{Meaning}
 use Rattle.lru_frames.specs.declared.mark.Mark.{Mark}
 use Rattle.lru_checkpoints.specs.Manifests.{part_header}
 use Rattle.lru_checkpoints.specs.Names.{frame_path}
-use Rattle.lru_whole_files.proofs.Touched.{touches_then}
+use Rattle.lru_checkpoints.proofs.Touched.{touches_then}
 use Rattle.lru_frames.specs.Marks.{IsWrongFrame}
 use Rattle.lru_checkpoints.specs.Checkpoints.{IsKnown, IsWholeFrame}
 use Rattle.lru_checkpoints.specs.Loads.{IsRefusedByCheck}

@@ -1,7 +1,7 @@
 use Rattle.std.proofs.Common.{ap, ◌∙◌}
 use Rattle.std.specs.Prelude.{map}
 use Rattle.lru_folder.specs.Listings.{name_of}
-use Rattle.lru_whole_files.proofs.Touched.{touches_started, touches_looked}
+use Rattle.lru_checkpoints.proofs.Touched.{touches_started, touches_looked}
 use Rattle.lru_checkpoints.proofs.FolderLaws.{has_parts}
 use Rattle.lru_checkpoints.proofs.listing.list_parts.Goals as goal
 

@@ -1,7 +1,7 @@
 use Rattle.std.proofs.Common.{rules, ◌≡◌, refl, sym, ap, ◌∙◌, arith, length}
 use Rattle.lru_frames.specs.Frame.{frame_of}
 use Rattle.lru_checkpoints.specs.Names.{frame_path}
-use Rattle.lru_whole_files.proofs.Touched.{touches_started}
+use Rattle.lru_checkpoints.proofs.Touched.{touches_started}
 use Rattle.lru_checkpoints.proofs.Loaded.{held, too_long, one_file}
 use Rattle.lru_checkpoints.proofs.Marked.{frame_length, frame_alike}
 use Rattle.lru_checkpoints.proofs.loading.load_frame.Goals as goal

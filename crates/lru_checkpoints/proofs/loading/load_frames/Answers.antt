@@ -12,7 +12,7 @@ use Rattle.lru_frames.specs.Frame.{frame_of, Fits}
 use Rattle.lru_frames.specs.Marks.{mark_of}
 use Rattle.lru_checkpoints.specs.Manifests.{part_header}
 use Rattle.lru_checkpoints.specs.Names.{frame_path}
-use Rattle.lru_whole_files.proofs.Touched.{touches_started, touches_then}
+use Rattle.lru_checkpoints.proofs.Touched.{touches_started, touches_then}
 use Rattle.lru_checkpoints.specs.Loads.{IsFault, IsOtherFrame, IsRefusedFrame, rows_of}
 use Rattle.lru_checkpoints.proofs.Lists.{get-below, get-there, index_is, each-push}
 use Rattle.lru_checkpoints.proofs.Loaded.{refused_from}

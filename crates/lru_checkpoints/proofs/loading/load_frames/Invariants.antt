@@ -3,7 +3,7 @@ use Rattle.lru_folder.specs.Meaning.{Meaning}
 use Rattle.lru_frames.specs.declared.row.Row.{Row}
 use Rattle.lru_frames.specs.Marks.{mark_of}
 use Rattle.lru_checkpoints.specs.Manifests.{part_header}
-use Rattle.lru_whole_files.specs.Touching.{TouchesNothing}
+use Rattle.lru_checkpoints.specs.Touching.{TouchesNothing}
 use Rattle.lru_checkpoints.specs.Checkpoints.{HasFrames, FitsEach}
 use Rattle.lru_checkpoints.specs.Loads.{rows_of}
 use Rattle.lru_checkpoints.proofs.loading.load_frames.Given as goal

@@ -4,7 +4,7 @@ use Rattle.lru_folder.specs.Meaning.{Meaning}
 use Rattle.lru_frames.specs.declared.errors.FrameError.TheVariants.{Damaged}
 use Rattle.lru_frames.specs.declared.mark.Mark.{Mark}
 use Rattle.lru_checkpoints.specs.Manifests.{part_header}
-use Rattle.lru_whole_files.proofs.Touched.{touches_then}
+use Rattle.lru_checkpoints.proofs.Touched.{touches_then}
 use Rattle.lru_frames.specs.Causes.{IsWrong}
 use Rattle.lru_checkpoints.specs.Checkpoints.{AreMarked, FitsEach, HasFrames}
 use Rattle.lru_checkpoints.specs.Loads.{IsOtherFrame, IsRefusedFrame, rows_of}

@@ -1,7 +1,7 @@
 use Rattle.std.proofs.Common.{refl, ap, ◌∙◌, arith, length}
 use Rattle.lru_checkpoints.specs.Manifests.{manifest_bytes}
 use Rattle.lru_checkpoints.specs.Names.{manifest_path}
-use Rattle.lru_whole_files.proofs.Touched.{touches_started}
+use Rattle.lru_checkpoints.proofs.Touched.{touches_started}
 use Rattle.lru_checkpoints.proofs.Loaded.{too_long, one_file}
 use Rattle.lru_checkpoints.proofs.Marked.{manifest_length}
 use Rattle.lru_checkpoints.proofs.reading.load_manifest.Goals as goal

@@ -1,7 +1,7 @@
 use Rattle.std.proofs.Common.{◌≡◌, ℕ, List, ◌∙◌, subst}
 use Rattle.lru_folder.specs.Meaning.{Meaning}
-use Rattle.lru_whole_files.specs.Touching.{TouchesOnly}
-use Rattle.lru_whole_files.proofs.Touched.{touches_started}
+use Rattle.lru_checkpoints.specs.Touching.{TouchesOnly}
+use Rattle.lru_checkpoints.proofs.Touched.{touches_started}
 use Rattle.lru_checkpoints.proofs.saving.save_frame.Goals as goal
 
 pub returns-in_default-clause-touches : goal.returns-in_default-clause-touches

@@ -8,8 +8,8 @@ use Rattle.lru_frames.specs.Frame.{frame_of, Fits}
 use Rattle.lru_frames.specs.Marks.{mark_of}
 use Rattle.lru_checkpoints.specs.Manifests.{part_header}
 use Rattle.lru_checkpoints.specs.Names.{frame_path}
-use Rattle.lru_whole_files.specs.Touching.{IsWritten}
-use Rattle.lru_whole_files.proofs.Touched.{touches_started, touches_then, touches_more}
+use Rattle.lru_checkpoints.specs.Touching.{IsWritten}
+use Rattle.lru_checkpoints.proofs.Touched.{touches_started, touches_then, touches_more}
 use Rattle.lru_checkpoints.specs.Checkpoints.{IsFrame, most_shards}
 use Rattle.lru_checkpoints.proofs.Lists.{get-below, get-kept, get-last, each-push}
 use Rattle.lru_checkpoints.proofs.Saved.{one_frame_path}

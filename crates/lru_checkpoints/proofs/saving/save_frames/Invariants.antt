@@ -1,7 +1,7 @@
 use Rattle.std.proofs.Common.{◌≡◌, ℕ, List, Some, length, slice_get}
 use Rattle.lru_folder.specs.Meaning.{Meaning}
 use Rattle.lru_frames.specs.declared.row.Row.{Row}
-use Rattle.lru_whole_files.specs.Touching.{TouchesOnly}
+use Rattle.lru_checkpoints.specs.Touching.{TouchesOnly}
 use Rattle.lru_checkpoints.specs.Checkpoints.{Shards, AreFirm, AreMarked, FitsEach, HasFrames, IsFrame}
 use Rattle.lru_checkpoints.proofs.saving.save_frames.Given as goal
 

@@ -2,9 +2,9 @@ use Rattle.std.proofs.Common.{◌≡◌, ℕ, List, ◌∙◌, sym, subst}
 use Rattle.lru_folder.specs.Meaning.{Meaning}
 use Rattle.lru_checkpoints.specs.Manifests.{manifest_bytes}
 use Rattle.lru_checkpoints.specs.Names.{manifest_path, manifest_temp_path}
-use Rattle.lru_whole_files.specs.Touching.{TouchesOnly}
-use Rattle.lru_whole_files.proofs.Touched.{touches_started}
-use Rattle.lru_whole_files.proofs.Replaced.{not_yet}
+use Rattle.lru_checkpoints.specs.Touching.{TouchesOnly}
+use Rattle.lru_checkpoints.proofs.Touched.{touches_started}
+use Rattle.lru_checkpoints.proofs.Replaced.{not_yet}
 use Rattle.lru_checkpoints.proofs.Saved.{temp-apart-manifest}
 use Rattle.lru_checkpoints.proofs.saving.save_manifest.Goals as goal
 

@@ -2,7 +2,7 @@ use Rattle.std.proofs.Common.{ℕ, List, sym, ◌∙◌, subst}
 use Rattle.lru_folder.specs.Meaning.{Meaning}
 use Rattle.lru_checkpoints.specs.declared.names.PartName.{PartName}
 use Rattle.lru_checkpoints.specs.Listing.{HasParts}
-use Rattle.lru_whole_files.proofs.Touched.{touches_then}
+use Rattle.lru_checkpoints.proofs.Touched.{touches_then}
 use Rattle.lru_generations.specs.Told.{AreAll}
 use Rattle.lru_generations.proofs.Passing.{if_ok}
 use Rattle.lru_generations.proofs.Telling.{all_so, told_again}

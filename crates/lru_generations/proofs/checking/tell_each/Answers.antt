@@ -2,7 +2,7 @@ use Rattle.std.proofs.Common.{◌≡◌, ℕ, List, [], ◌∷◌, ◌++◌, len
 use Rattle.std.proofs.lemmas.List.{take_all}
 use Rattle.std.specs.Prelude.{Contains, map}
 use Rattle.lru_folder.specs.Meaning.{Meaning}
-use Rattle.lru_whole_files.proofs.Touched.{touches_started, touches_then}
+use Rattle.lru_checkpoints.proofs.Touched.{touches_started, touches_then}
 use Rattle.lru_generations.specs.declared.checking.Told.{Told}
 use Rattle.lru_generations.specs.Told.{IsTold}
 use Rattle.lru_generations.proofs.Passing.{each_more, map_more}

@@ -1,7 +1,7 @@
 use Rattle.std.proofs.Common.{◌≡◌, take}
 use Rattle.std.specs.Prelude.{Contains, map}
 use Rattle.lru_folder.specs.Meaning.{Meaning}
-use Rattle.lru_whole_files.specs.Touching.{TouchesNothing}
+use Rattle.lru_checkpoints.specs.Touching.{TouchesNothing}
 use Rattle.lru_generations.specs.declared.checking.Told.{Told}
 use Rattle.lru_generations.specs.Told.{IsTold}
 use Rattle.lru_generations.proofs.checking.tell_each.Given as goal

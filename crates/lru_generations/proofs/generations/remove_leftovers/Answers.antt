@@ -2,7 +2,7 @@ use Rattle.std.proofs.Common.{List, sym, subst}
 use Rattle.std.specs.Prelude.{Contains}
 use Rattle.lru_folder.specs.Meaning.{Meaning}
 use Rattle.lru_checkpoints.specs.declared.names.PartName.{PartName}
-use Rattle.lru_whole_files.proofs.Touched.{touches_started, touches_more}
+use Rattle.lru_checkpoints.proofs.Touched.{touches_started, touches_more}
 use Rattle.lru_checkpoints.proofs.Lists.{on_ok}
 use Rattle.lru_generations.specs.Removing.{IsPathOf}
 use Rattle.lru_generations.specs.Saving.{IsLeft}

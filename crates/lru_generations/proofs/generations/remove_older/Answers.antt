@@ -8,8 +8,8 @@ use Rattle.lru_checkpoints.specs.declared.names.PartName.{PartName}
 use Rattle.lru_checkpoints.specs.declared.names.PartName.TheVariants.{Manifest}
 use Rattle.lru_checkpoints.specs.Listing.{IsAnyManifest}
 use Rattle.lru_checkpoints.specs.Names.{IsPart, generation_of, manifest_path}
-use Rattle.lru_whole_files.specs.Touching.{IsSameBut}
-use Rattle.lru_whole_files.proofs.Touched.{touches_started, touches_then, touches_more}
+use Rattle.lru_checkpoints.specs.Touching.{IsSameBut}
+use Rattle.lru_checkpoints.proofs.Touched.{touches_started, touches_then, touches_more}
 use Rattle.lru_checkpoints.proofs.Lists.{on_ok}
 use Rattle.lru_checkpoints.proofs.Saved.{leaves_more}
 use Rattle.lru_generations.specs.Newest.{HasManifest}

@@ -12,7 +12,7 @@ use Rattle.lru_checkpoints.proofs.Saved.{leaves_more}
 use Rattle.lru_generations.specs.Newest.{HasManifest}
 use Rattle.lru_generations.proofs.KeptFrames.{among_three, kept_all, kept_left, kept_saved, older_apart}
 use Rattle.lru_checkpoints.specs.Names.{IsPart}
-use Rattle.lru_whole_files.specs.Touching.{TouchesOnly}
+use Rattle.lru_checkpoints.specs.Touching.{TouchesOnly}
 use Rattle.lru_checkpoints.proofs.Lists.{on_ok}
 use Rattle.lru_generations.specs.Saving.{IsLeft, IsOlder}
 use Rattle.lru_generations.proofs.SavedNext.{next_nothing, next_left, next_saved, next_all, still_good, unused, whole_kept}

@@ -4,7 +4,7 @@ use Rattle.lru_folder.specs.Files.{Files}
 use Rattle.lru_folder.specs.Meaning.{Meaning}
 use Rattle.lru_checkpoints.specs.declared.names.PartName.{PartName}
 use Rattle.lru_checkpoints.specs.declared.names.PartName.TheVariants.{Manifest}
-use Rattle.lru_whole_files.proofs.Touched.{touches_then}
+use Rattle.lru_checkpoints.proofs.Touched.{touches_then}
 use Rattle.lru_checkpoints.specs.Checkpoints.{Shards, HasCheckpoint}
 use Rattle.lru_generations.specs.Loaded.{IsLoadedBelow, IsReadableBelow, IsSameCheckpoint}
 use Rattle.lru_generations.specs.Newest.{AreGenerationsBelow, IsAsKnown, IsBelow}

@@ -6,7 +6,7 @@ use Rattle.lru_folder.specs.Files.{Files}
 use Rattle.lru_folder.specs.Meaning.{Meaning}
 use Rattle.lru_checkpoints.specs.declared.manifest.Manifest.{Manifest}
 use Rattle.lru_checkpoints.specs.Manifests.{manifest_bytes}
-use Rattle.lru_whole_files.proofs.Touched.{touches_started, touches_then}
+use Rattle.lru_checkpoints.proofs.Touched.{touches_started, touches_then}
 use Rattle.lru_checkpoints.specs.Checkpoints.{HasCheckpoint, IsWhole}
 use Rattle.lru_checkpoints.specs.Loads.{IsFault, IsRefused, IsRefusedFrame, rows_of}
 use Rattle.lru_generations.specs.declared.newest.Passed.{Passed}

@@ -1,7 +1,7 @@
 use Rattle.std.proofs.Common.{◌≡◌, take}
 use Rattle.std.specs.Prelude.{Contains, option_copied}
 use Rattle.lru_folder.specs.Meaning.{Meaning}
-use Rattle.lru_whole_files.specs.Touching.{TouchesNothing}
+use Rattle.lru_checkpoints.specs.Touching.{TouchesNothing}
 use Rattle.lru_checkpoints.specs.Loads.{IsFault, IsRefused, IsRefusedByCheck}
 use Rattle.lru_generations.specs.declared.newest.Passed.{Passed}
 use Rattle.lru_generations.specs.Newest.{IsTakenAt}

@@ -4,8 +4,8 @@ use Rattle.lru_folder.specs.Files.{Files}
 use Rattle.lru_folder.specs.Meaning.{Meaning}
 use Rattle.lru_folder.proofs.FilesLemmas.{get-remove_same}
 use Rattle.lru_checkpoints.specs.Names.{part_path}
-use Rattle.lru_whole_files.specs.Touching.{TouchesOnly}
-use Rattle.lru_whole_files.proofs.Touched.{touches_started}
+use Rattle.lru_checkpoints.specs.Touching.{TouchesOnly}
+use Rattle.lru_checkpoints.proofs.Touched.{touches_started}
 use Rattle.lru_generations.proofs.removing.remove_part.Goals as goal
 
 pub returns-in_default-clause-touches : goal.returns-in_default-clause-touches

@@ -8,7 +8,7 @@ use Rattle.lru_folder.proofs.FilesLemmas.{decide}
 use Rattle.lru_checkpoints.specs.declared.names.PartName.{PartName}
 use Rattle.lru_checkpoints.specs.declared.names.PartName.TheVariants.{Frame}
 use Rattle.lru_checkpoints.specs.Names.{part_path}
-use Rattle.lru_whole_files.proofs.Touched.{touches_started, touches_then, touches_more}
+use Rattle.lru_checkpoints.proofs.Touched.{touches_started, touches_then, touches_more}
 use Rattle.lru_generations.specs.Removing.{IsPathOf}
 use Rattle.lru_generations.proofs.removing.remove_parts.Goals as goal
 

@@ -3,7 +3,7 @@ use Rattle.std.specs.FinMap.{get}
 use Rattle.lru_folder.specs.Meaning.{Meaning}
 use Rattle.lru_checkpoints.specs.declared.names.PartName.TheVariants.{Frame}
 use Rattle.lru_checkpoints.specs.Names.{part_path}
-use Rattle.lru_whole_files.specs.Touching.{TouchesOnly}
+use Rattle.lru_checkpoints.specs.Touching.{TouchesOnly}
 use Rattle.lru_generations.specs.Removing.{IsPathOf}
 use Rattle.lru_generations.proofs.removing.remove_parts.Given as goal
 

@@ -1,7 +1,7 @@
 use Rattle.std.proofs.Common.{◌≡◌, ◌<◌, ◌^◌, inl, inr, refl, ◌∙◌, arith}
 use Rattle.lru_folder.specs.Meaning.{Meaning}
 use Rattle.lru_checkpoints.specs.Names.{frame_path, manifest_temp_path}
-use Rattle.lru_whole_files.proofs.Touched.{touches_started, touches_then, touches_more}
+use Rattle.lru_checkpoints.proofs.Touched.{touches_started, touches_then, touches_more}
 use Rattle.lru_generations.specs.Saving.{IsUnfinished}
 use Rattle.lru_generations.proofs.saving.clear.Goals as goal
 

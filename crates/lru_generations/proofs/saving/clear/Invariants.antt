@@ -1,6 +1,6 @@
 use Rattle.std.proofs.Common.{◌≡◌}
 use Rattle.lru_folder.specs.Meaning.{Meaning}
-use Rattle.lru_whole_files.specs.Touching.{TouchesOnly}
+use Rattle.lru_checkpoints.specs.Touching.{TouchesOnly}
 use Rattle.lru_generations.specs.Saving.{IsUnfinished}
 use Rattle.lru_generations.proofs.saving.clear.Given as goal
 

@@ -2,7 +2,7 @@ use Rattle.std.proofs.Common.{◌≡◌, inl, inr, refl, sym, subst}
 use Rattle.lru_folder.specs.Files.{Files}
 use Rattle.lru_folder.specs.Meaning.{Meaning}
 use Rattle.lru_checkpoints.specs.Names.{frame_path, manifest_path, manifest_temp_path}
-use Rattle.lru_whole_files.proofs.Touched.{touches_then, touches_more}
+use Rattle.lru_checkpoints.proofs.Touched.{touches_then, touches_more}
 use Rattle.lru_checkpoints.specs.Causes.{IsUnnamed}
 use Rattle.lru_checkpoints.specs.Checkpoints.{HasCheckpoint, IsFrame, IsWhole}
 use Rattle.lru_checkpoints.proofs.Lists.{never}

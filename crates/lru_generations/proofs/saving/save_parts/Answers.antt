@@ -1,4 +1,4 @@
-use Rattle.lru_whole_files.proofs.Touched.{touches_looked}
+use Rattle.lru_checkpoints.proofs.Touched.{touches_looked}
 use Rattle.lru_checkpoints.specs.Checkpoints.{IsFrame}
 use Rattle.lru_generations.proofs.saving.save_parts.Goals as goal
 

@@ -5,7 +5,7 @@ use Rattle.lru_folder.specs.Meaning.{Meaning}
 use Rattle.lru_checkpoints.specs.declared.names.PartName.{PartName}
 use Rattle.lru_checkpoints.specs.declared.names.PartName.TheVariants.{Manifest}
 use Rattle.lru_checkpoints.specs.Listing.{HasParts, IsAbove}
-use Rattle.lru_whole_files.proofs.Touched.{touches_started, touches_then, touches_looked}
+use Rattle.lru_checkpoints.proofs.Touched.{touches_started, touches_then, touches_looked}
 use Rattle.lru_generations.specs.Newest.{AreGenerations, HasAllManifests, IsHighestTaken}
 use Rattle.lru_checkpoints.specs.declared.errors.CheckpointError.{CheckpointError}
 use Rattle.lru_generations.specs.Saving.{HasReasonOrIsInUse, IsUnsaved}
