@@ -14,8 +14,8 @@
 
 mod store;
 
-use lru_generations::generations::save;
-use lru_generations::loading::{Loaded, load};
+use lru_checkpoints::generations::save;
+use lru_checkpoints::newest_loading::{Loaded, load};
 use lru_host_folder::host_folder::HostFolder;
 use lru_order_captures::cores::{CoreSource, restore_shards};
 use rand::rngs::StdRng;

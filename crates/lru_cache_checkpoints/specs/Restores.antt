@@ -8,8 +8,8 @@ use Rattle.lru_cache.specs.Cache.{Cached, parts_of}
 use Rattle.lru_checkpoints.specs.declared.errors.CheckpointError.{CheckpointError}
 use Rattle.lru_checkpoints.specs.Checkpoints.{Shards, HasCheckpoint}
 use Rattle.lru_checkpoints.specs.Loads.{IsFault}
-use Rattle.lru_generations.specs.declared.loading.Checkpoint.{Checkpoint}
-use Rattle.lru_generations.specs.Loaded.{IsLoaded, IsReadable, IsSameCheckpoint, number_of}
+use Rattle.lru_checkpoints.specs.declared.newest_loading.Checkpoint.{Checkpoint}
+use Rattle.lru_checkpoints.specs.Loaded.{IsLoaded, IsReadable, IsSameCheckpoint, number_of}
 use Rattle.lru_cache_captures.specs.Captures.{PutsShards, MayPutShards}
 use Rattle.lru_cache_checkpoints.specs.declared.restored.Restored.{Restored}
 use Rattle.lru_cache_checkpoints.specs.declared.restored.RestoreError.{RestoreError}

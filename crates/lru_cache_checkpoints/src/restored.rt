@@ -4,8 +4,8 @@ ghost use Rattle.lru_cache_checkpoints.specs.declared.restored.RestoreError.TheV
 
 use lru_cache::cache::Refused;
 use lru_checkpoints::errors::CheckpointError;
-use lru_generations::known::Known;
-use lru_generations::newest::Passed;
+use lru_checkpoints::known::Known;
+use lru_checkpoints::newest::Passed;
 
 /// What a load put back.
 #[derive(Debug, Drop)]

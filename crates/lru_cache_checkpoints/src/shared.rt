@@ -8,9 +8,9 @@ ghost use Rattle.lru_checkpoints.specs.Touching.{TouchesNothing};
 ghost use Rattle.lru_cache_captures.specs.Captures.{MayCopy};
 ghost use Rattle.lru_checkpoints.specs.Checkpoints.{Shards, AreHandedOut, most_shards};
 ghost use Rattle.lru_checkpoints.specs.Loads.{IsFault, IsRefused, IsRefusedFrame};
-ghost use Rattle.lru_generations.specs.Faults.{IsFailed, IsUnlisted};
-ghost use Rattle.lru_generations.specs.Newest.{AreGenerations, ArePassed, IsAsKnown, IsHighestTaken, IsNewest};
-ghost use Rattle.lru_generations.specs.Saving.{IsForGood, IsOlder, IsUnsaved, IsUnused, SavesAfter, SavesNext, TellsPassed};
+ghost use Rattle.lru_checkpoints.specs.Faults.{IsFailed, IsUnlisted};
+ghost use Rattle.lru_checkpoints.specs.Newest.{AreGenerations, ArePassed, IsAsKnown, IsHighestTaken, IsNewest};
+ghost use Rattle.lru_checkpoints.specs.Saving.{IsForGood, IsOlder, IsUnsaved, IsUnused, SavesAfter, SavesNext, TellsPassed};
 ghost use Rattle.lru_cache_checkpoints.specs.Restores.{IfUnloaded, MayRestore};
 
 use crate::restored::{RestoreError, Restored};
@@ -18,16 +18,16 @@ use lru_cache_captures::shared::{SharedSource, restore_shards};
 use lru_checkpoints::errors::CheckpointError;
 use lru_folder::folder::Folder;
 use lru_frames::stored::Stored;
-use lru_generations::generations::{Saved, save, save_after};
-use lru_generations::known::Known;
-use lru_generations::loading::{Loaded, load};
+use lru_checkpoints::generations::{Saved, save, save_after};
+use lru_checkpoints::known::Known;
+use lru_checkpoints::newest_loading::{Loaded, load};
 use lru_shared::shared::SharedCache;
 use lru_folder::synced_folder::SyncedFolder;
 use std::alloc::Global;
 use std::hash::Hash;
 use std::sync::Wait;
 
-/// Saves the entries of a shared cache as the next checkpoint, of N shards, as `save` of `lru_generations` does. A shard is copied
+/// Saves the entries of a shared cache as the next checkpoint, of N shards, as `save` of `lru_checkpoints` does. A shard is copied
 /// under its lock when its turn comes, and the lock is free again before its copies are encoded and written.
 pub fn save_shared<F: SyncedFolder, K: Hash + Clone + Stored, V: Clone + Stored, const N: usize>(
     rt: &impl Wait,
@@ -69,7 +69,7 @@ pub fn save_shared<F: SyncedFolder, K: Hash + Clone + Stored, V: Clone + Stored,
     save(alloc, folder, dir, file_name, &SharedSource { rt, cache })
 }
 
-/// Saves as `save_shared` does, but need not read the frames of the checkpoint that is known, as `save_after` of `lru_generations`.
+/// Saves as `save_shared` does, but need not read the frames of the checkpoint that is known, as `save_after` of `lru_checkpoints`.
 pub fn save_shared_after<
     F: SyncedFolder,
     K: Hash + Clone + Stored,

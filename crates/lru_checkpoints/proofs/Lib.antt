@@ -12,3 +12,10 @@ pub mod FolderLaws
 pub mod Touched
 pub mod Replaced
 pub mod Removed
+pub mod ForGood
+pub mod SavedNext
+pub mod Passing
+pub mod Refusals
+pub mod Telling
+pub mod KeptFrames
+pub mod AsKnown

@@ -8,3 +8,9 @@ pub mod Listing
 pub mod Touching
 pub mod Reading
 pub mod Replacing
+pub mod Newest
+pub mod Faults
+pub mod Loaded
+pub mod Removing
+pub mod Saving
+pub mod Told

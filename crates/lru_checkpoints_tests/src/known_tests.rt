@@ -2,8 +2,8 @@
 use crate::fixture::{are_passed, empty, load_newest, save_known, save_next, two, what_loads};
 use lru_checkpoints::errors::{CheckpointError, CheckpointFile};
 use lru_frames::errors::Part;
-use lru_generations::generations::Saved;
-use lru_generations::known::Known;
+use lru_checkpoints::generations::Saved;
+use lru_checkpoints::known::Known;
 use lru_memory_folder::memory_folder::MemoryFolder;
 use std::alloc::Global;
 use std::test::Fail;

@@ -7,10 +7,10 @@ use Rattle.lru_checkpoints.specs.declared.errors.CheckpointFile.TheVariants as f
 use Rattle.lru_checkpoints.specs.declared.errors.CheckpointError.{CheckpointError}
 use Rattle.lru_checkpoints.specs.declared.errors.CheckpointError.TheVariants as error
 use Rattle.lru_checkpoints.specs.Texts.{error_text}
-use Rattle.lru_generations.specs.declared.checking.Told.{Told}
-use Rattle.lru_generations.specs.declared.loading.Checkpoint.{Checkpoint}
-use Rattle.lru_generations.specs.declared.loading.Loaded.{Loaded}
-use Rattle.lru_generations.specs.declared.newest.Passed.{Passed}
+use Rattle.lru_checkpoints.specs.declared.generation_checks.Told.{Told}
+use Rattle.lru_checkpoints.specs.declared.newest_loading.Checkpoint.{Checkpoint}
+use Rattle.lru_checkpoints.specs.declared.newest_loading.Loaded.{Loaded}
+use Rattle.lru_checkpoints.specs.declared.newest.Passed.{Passed}
 use Rattle.lru_operations.specs.declared.requests.Misuse.{Misuse}
 use Rattle.lru_operations.specs.declared.requests.Misuse.TheVariants as misuse
 use Rattle.lru_operations.specs.declared.outcome.Verdict.{Verdict}

@@ -5,9 +5,9 @@ ghost use Rattle.lru_operations.specs.Texts.{checked_status, is_damaged, is_whol
 
 use crate::requests::Misuse;
 use lru_checkpoints::errors::{CheckpointError, CheckpointFile};
-use lru_generations::checking::Told;
-use lru_generations::loading::Loaded;
-use lru_generations::newest::Passed;
+use lru_checkpoints::generation_checks::Told;
+use lru_checkpoints::newest_loading::Loaded;
+use lru_checkpoints::newest::Passed;
 
 /// Whether a generation is whole.
 #[derive(Clone, Copy, Debug, PartialEq, Eq)]
