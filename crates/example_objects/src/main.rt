@@ -17,7 +17,7 @@ mod store;
 use lru_checkpoints::generations::save;
 use lru_checkpoints::newest_loading::{Loaded, load};
 use lru_host_folder::host_folder::HostFolder;
-use lru_order_captures::cores::{CoreSource, restore_shards};
+use lru_order_checkpoints::core_captures::{CoreSource, restore_shards};
 use rand::rngs::StdRng;
 use rand_core::SeedableRng;
 use std::env::Env;

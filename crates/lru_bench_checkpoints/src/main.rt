@@ -12,7 +12,7 @@ use lru_checkpoints::generations::{save, save_after};
 use lru_checkpoints::known::Known;
 use lru_checkpoints::newest_loading::{Checkpoint, load};
 use lru_host_folder::host_folder::HostFolder;
-use lru_order_captures::cores::restore_shards;
+use lru_order_checkpoints::core_captures::restore_shards;
 use std::alloc::{AllocError, Global};
 use std::env::Env;
 use std::process::ExitCode;

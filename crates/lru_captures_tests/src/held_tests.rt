@@ -13,7 +13,7 @@ use lru_checkpoints::generations::save;
 use lru_checkpoints::newest_loading::{Loaded, load};
 use lru_locks::lru::Lru;
 use lru_memory_folder::memory_folder::MemoryFolder;
-use lru_order_captures::locks::LruSource;
+use lru_order_checkpoints::shared_captures::LruSource;
 use std::alloc::{AllocError, Global};
 use std::sync::Wait;
 use std::sync::atomic::{AtomicBool, Ordering};

@@ -11,7 +11,7 @@ use lru_frames::row::Row;
 use lru_checkpoints::generations::Saved;
 use lru_locks::lru::Lru;
 use lru_memory_folder::memory_folder::MemoryFolder;
-use lru_order_captures::{cores, locks};
+use lru_order_checkpoints::{cores, locks};
 use lru_order_checkpoints::cores::{load_core, save_core, save_core_after};
 use lru_order_checkpoints::locks::{load_lru, save_lru, save_lru_after};
 use lru_shared::shared::SharedCache;

@@ -14,7 +14,7 @@ use lru_checkpoints::generations::save;
 use lru_checkpoints::newest_loading::{Loaded, load};
 use lru_locks::lru::Lru;
 use lru_memory_folder::memory_folder::MemoryFolder;
-use lru_order_captures::{cores, locks, snapshots};
+use lru_order_checkpoints::{cores, locks, snapshots};
 use lru_shared::shared::SharedCache;
 use std::alloc::{AllocError, Global};
 use std::sync::Wait;

@@ -21,7 +21,7 @@ use lru_frames::stored::Stored;
 use lru_checkpoints::generations::{Saved, save, save_after};
 use lru_checkpoints::known::Known;
 use lru_checkpoints::newest_loading::{Loaded, load};
-use lru_order_captures::cores::{CoreSource, restore_shards};
+use crate::core_captures::{CoreSource, restore_shards};
 use lru_folder::synced_folder::SyncedFolder;
 use std::alloc::Global;
 
