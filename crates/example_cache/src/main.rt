@@ -9,7 +9,7 @@
 #![tactic(auto)]
 
 use lru_cache::cache::Cache;
-use lru_cache_captures::caches::{CacheSource, restore_shards};
+use lru_cache_checkpoints::cache_captures::{CacheSource, restore_shards};
 use lru_checkpoints::generations::save;
 use lru_checkpoints::newest_loading::{Loaded, load};
 use lru_host_folder::host_folder::HostFolder;

@@ -10,7 +10,7 @@ use Rattle.lru_deadlines.specs.declared.deadlines.Until.{Until}
 use Rattle.lru_checkpoints.specs.Loads.{IsFault}
 use Rattle.lru_checkpoints.specs.declared.newest_loading.Checkpoint.{Checkpoint}
 use Rattle.lru_checkpoints.specs.Loaded.{number_of}
-use Rattle.lru_cache_captures.specs.Deadlines.{IsDeadlineCopy, PutsDeadlines}
+use Rattle.lru_cache_checkpoints.specs.CapturedDeadlines.{IsDeadlineCopy, PutsDeadlines}
 use Rattle.lru_cache_checkpoints.specs.Restores.{IsFound}
 use Rattle.lru_cache_checkpoints.specs.declared.restored.Restored.{Restored}
 use Rattle.lru_cache_checkpoints.specs.declared.restored.RestoreError.{RestoreError}

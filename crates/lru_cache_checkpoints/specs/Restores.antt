@@ -10,7 +10,7 @@ use Rattle.lru_checkpoints.specs.Checkpoints.{Shards, HasCheckpoint}
 use Rattle.lru_checkpoints.specs.Loads.{IsFault}
 use Rattle.lru_checkpoints.specs.declared.newest_loading.Checkpoint.{Checkpoint}
 use Rattle.lru_checkpoints.specs.Loaded.{IsLoaded, IsReadable, IsSameCheckpoint, number_of}
-use Rattle.lru_cache_captures.specs.Captures.{PutsShards, MayPutShards}
+use Rattle.lru_cache_checkpoints.specs.Captures.{PutsShards, MayPutShards}
 use Rattle.lru_cache_checkpoints.specs.declared.restored.Restored.{Restored}
 use Rattle.lru_cache_checkpoints.specs.declared.restored.RestoreError.{RestoreError}
 use Rattle.lru_cache_checkpoints.specs.declared.restored.RestoreError.TheVariants.{Unloaded, Refused}

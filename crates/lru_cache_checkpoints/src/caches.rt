@@ -14,7 +14,7 @@ ghost use Rattle.lru_cache_checkpoints.specs.Restores.{IfUnloaded, IsCopyOf, Res
 
 use crate::restored::{RestoreError, Restored};
 use lru_cache::cache::Cache;
-use lru_cache_captures::caches::{CacheSource, restore_shards};
+use crate::cache_captures::{CacheSource, restore_shards};
 use lru_checkpoints::errors::CheckpointError;
 use lru_folder::folder::Folder;
 use lru_frames::stored::Stored;

@@ -14,7 +14,7 @@ ghost use Rattle.lru_cache_checkpoints.specs.Restores.{IfUnloaded};
 ghost use Rattle.lru_cache_checkpoints.specs.Deadlines.{until_bytes, IsUntil, IsDeadlinesOf, RestoresDeadlines};
 
 use crate::restored::{RestoreError, Restored};
-use lru_cache_captures::deadlines::{DeadlineSource, restore_shards};
+use crate::deadline_captures::{DeadlineSource, restore_shards};
 use lru_checkpoints::errors::CheckpointError;
 use lru_deadlines::deadlines::{DeadlineCache, Until};
 use lru_folder::folder::Folder;

@@ -1,11 +1,16 @@
 //! Caches saved as checkpoints and loaded again, each by one call.
 //!
 //! A save lasts once it answers Ok, and a load answers the newest checkpoint that is whole. It puts copies
-//! (`lru_cache_captures`) and generations (`lru_checkpoints`) together, and adds nothing of its own.
+//! (`lru_cache_checkpoints`) and generations (`lru_checkpoints`) together, and adds nothing of its own.
 #![tactic(auto)]
 
+pub mod cache_captures;
 pub mod caches;
+pub mod deadline_captures;
 pub mod deadlines;
+pub mod laws;
 pub mod restored;
 pub mod shared;
+pub mod shared_captures;
+pub mod shared_deadline_captures;
 pub mod shared_deadlines;

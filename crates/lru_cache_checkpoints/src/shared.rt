@@ -5,7 +5,7 @@ ghost use Rattle.lru_folder.specs.Names.{has_slash};
 ghost use Rattle.lru_checkpoints.specs.declared.names.PartName.{PartName};
 ghost use Rattle.lru_checkpoints.specs.Names.{IsPart, part_path};
 ghost use Rattle.lru_checkpoints.specs.Touching.{TouchesNothing};
-ghost use Rattle.lru_cache_captures.specs.Captures.{MayCopy};
+ghost use Rattle.lru_cache_checkpoints.specs.Captures.{MayCopy};
 ghost use Rattle.lru_checkpoints.specs.Checkpoints.{Shards, AreHandedOut, most_shards};
 ghost use Rattle.lru_checkpoints.specs.Loads.{IsFault, IsRefused, IsRefusedFrame};
 ghost use Rattle.lru_checkpoints.specs.Faults.{IsFailed, IsUnlisted};
@@ -14,7 +14,7 @@ ghost use Rattle.lru_checkpoints.specs.Saving.{IsForGood, IsOlder, IsUnsaved, Is
 ghost use Rattle.lru_cache_checkpoints.specs.Restores.{IfUnloaded, MayRestore};
 
 use crate::restored::{RestoreError, Restored};
-use lru_cache_captures::shared::{SharedSource, restore_shards};
+use crate::shared_captures::{SharedSource, restore_shards};
 use lru_checkpoints::errors::CheckpointError;
 use lru_folder::folder::Folder;
 use lru_frames::stored::Stored;

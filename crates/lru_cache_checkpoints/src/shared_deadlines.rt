@@ -1,18 +1,18 @@
-//! A cache that threads share, whose entries end, saved. `restore_shards` of `lru_cache_captures::shared_deadlines` puts what was
+//! A cache that threads share, whose entries end, saved. `restore_shards` of `lru_cache_checkpoints::shared_deadlines` puts what was
 //! loaded back: ends and deadlines stay what they were, in the caller's unit of time.
 ghost use Rattle.std.specs.Prelude.{◌≡◌, ◌↔◌, ◌≤◌, ℕ, List, false, None, Some, IfErr, IfOk, OnOk, option_copied};
 ghost use Rattle.std.specs.FinMap.{get};
 ghost use Rattle.lru_folder.specs.Names.{has_slash};
 ghost use Rattle.lru_checkpoints.specs.declared.names.PartName.{PartName};
 ghost use Rattle.lru_checkpoints.specs.Names.{IsPart, part_path};
-ghost use Rattle.lru_cache_captures.specs.Ages.{MayCopyAged};
+ghost use Rattle.lru_cache_checkpoints.specs.CapturedAges.{MayCopyAged};
 ghost use Rattle.lru_checkpoints.specs.Checkpoints.{Shards, AreHandedOut, most_shards};
 ghost use Rattle.lru_checkpoints.specs.Loads.{IsFault};
 ghost use Rattle.lru_checkpoints.specs.Newest.{IsAsKnown, IsHighestTaken, IsNewest};
 ghost use Rattle.lru_checkpoints.specs.Saving.{IsForGood, IsOlder, IsUnsaved, IsUnused, SavesAfter, SavesNext, TellsPassed};
 ghost use Rattle.lru_cache_checkpoints.specs.Ages.{aged_bytes, IsAged};
 
-use lru_cache_captures::shared_deadlines::SharedDeadlineSource;
+use crate::shared_deadline_captures::SharedDeadlineSource;
 use lru_checkpoints::errors::CheckpointError;
 use lru_frames::stored::Stored;
 use lru_checkpoints::generations::{Saved, save, save_after};

@@ -1,6 +1,6 @@
 //! Saves and loads of caches and orders, each by one call.
 use lru_cache::cache::Cache;
-use lru_cache_captures::{caches, deadlines, shared};
+use lru_cache_checkpoints::{caches, deadlines, shared};
 use lru_cache_checkpoints::caches::{load_cache, save_cache, save_cache_after};
 use lru_cache_checkpoints::deadlines::{load_deadlines, save_deadlines, save_deadlines_after};
 use lru_cache_checkpoints::shared::{load_shared, save_shared, save_shared_after};

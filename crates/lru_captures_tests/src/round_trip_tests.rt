@@ -3,7 +3,7 @@ ghost use Rattle.std.specs.Prelude.{◌<◌, ◌≤◌};
 ghost use Rattle.lru_checkpoints.specs.Checkpoints.{most_shards};
 
 use lru_cache::cache::Cache;
-use lru_cache_captures::{caches, shared};
+use lru_cache_checkpoints::{caches, shared};
 use lru_checkpoints::errors::CheckpointError;
 use lru_cores::lru_core::LruCore;
 use lru_folder::folder::Folder;

@@ -2,7 +2,7 @@
 //! is there at the end, or was made for a key that others had put meanwhile; and the counts say how. A value that comes out is
 //! its key's.
 use crate::deadline_counted::{Counted, Ledger};
-use lru_cache_captures::shared_deadlines::capture_shard;
+use lru_cache_checkpoints::shared_deadline_captures::capture_shard;
 use lru_shared::counts::Counts;
 use lru_shared_deadlines::shared::{Ages, Gone, Limits, SharedDeadlineCache};
 use std::alloc::{AllocError, Global};
