@@ -10,8 +10,8 @@ use Rattle.lru_segmented.specs.Segmented.{entries}
 use Rattle.lru_segmented.specs.Segmented.{Puts as PutsLower}
 use Rattle.lru_admission.specs.Sketch.{Counted}
 use Rattle.lru_admission.specs.Admission.{watched, PutsIfAsked}
-use Rattle.lru_traces.specs.declared.player.Request.{Request}
-use Rattle.lru_traces.specs.Traces.{load}
+use Rattle.lru_policies.specs.declared.player.Request.{Request}
+use Rattle.lru_policies.specs.Traces.{load}
 use Rattle.lru_policies.specs.Policies.{Plain, InSegments, Asking, Unseen, after_use}
 
 abbrev pub Object : Type 0

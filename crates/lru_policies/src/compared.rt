@@ -4,8 +4,8 @@ ghost use Rattle.std.specs.List.{All};
 
 use crate::future::only_size;
 use crate::policies::{MANY, POLICIES, Policy, Refusal, hits};
-use lru_traces::player::Request;
-use lru_traces::table::Percent;
+use crate::player::Request;
+use crate::table::Percent;
 use std::alloc::Global;
 use std::fmt;
 use std::fmt::Display;

@@ -2,7 +2,7 @@
 
 use crate::compared::{Name, Row, is_exact};
 use crate::policies::{POLICIES, Policy};
-use lru_traces::player::Request;
+use crate::player::Request;
 use std::fmt;
 use std::fmt::Display;
 

@@ -3,7 +3,7 @@ ghost use Rattle.std.specs.Prelude.{◌≡◌, ◌≤◌, max, length, vec_len, 
 ghost use Rattle.std.specs.List.{All};
 
 use lru_rows::rows::Rows;
-use lru_traces::player::Request;
+use crate::player::Request;
 use std::alloc::{AllocError, Global};
 use std::collections::BTreeSet;
 

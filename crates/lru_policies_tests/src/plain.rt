@@ -2,7 +2,7 @@
 use lru_index::hashing::{SeededHashes, hash_of};
 use lru_policies::policies::Policy;
 use lru_admission::sketch::Sketch;
-use lru_traces::player::Request;
+use lru_policies::player::Request;
 use std::alloc::{AllocError, Global};
 
 /// What objects weigh together.

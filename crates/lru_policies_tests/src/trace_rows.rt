@@ -1,14 +1,14 @@
 //! Tables of lines, of shares and of limits, each gone through by one function.
-use lru_traces::limits::{LimitFault, add_limit, limit_of};
-use lru_traces::numbers::NumberFault;
-use lru_traces::one_pass::{are_of_size_one, play_all};
-use lru_traces::player::{Request, Tally, play};
-use lru_traces::plot::{Counted, Plot};
-use lru_traces::program::{BadLine, read_trace};
-use lru_traces::progress::Progress;
-use lru_traces::requests::{Format, LineFault, format_of, read_request, request_of};
-use lru_traces::settings::{Asked, asked_by};
-use lru_traces::table::Percent;
+use lru_policies::limits::{LimitFault, add_limit, limit_of};
+use lru_policies::numbers::NumberFault;
+use lru_policies::one_pass::{are_of_size_one, play_all};
+use lru_policies::player::{Request, Tally, play};
+use lru_policies::plot::{Counted, Plot};
+use lru_policies::plain_program::{BadLine, read_trace};
+use lru_policies::progress::Progress;
+use lru_policies::requests::{Format, LineFault, format_of, read_request, request_of};
+use lru_policies::settings::{Asked, asked_by};
+use lru_policies::table::Percent;
 use std::alloc::{AllocError, Global};
 use std::io;
 use std::test::Fail;

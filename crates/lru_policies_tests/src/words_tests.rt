@@ -2,7 +2,7 @@
 use lru_policies::compared::{Head, Line, is_exact, row_of};
 use lru_policies::sampling::Estimate;
 use lru_policies::words::{Asked, asked_of};
-use lru_traces::player::Request;
+use lru_policies::player::Request;
 use std::alloc::{AllocError, Global};
 use std::test::Fail;
 
