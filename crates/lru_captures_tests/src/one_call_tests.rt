@@ -1,6 +1,6 @@
 //! Saves and loads of caches and orders, each by one call.
 use lru_cache::cache::Cache;
-use lru_cache_checkpoints::{caches, deadlines, shared};
+use lru_cache_checkpoints::{cache_captures, deadline_captures, shared_captures};
 use lru_cache_checkpoints::caches::{load_cache, save_cache, save_cache_after};
 use lru_cache_checkpoints::deadlines::{load_deadlines, save_deadlines, save_deadlines_after};
 use lru_cache_checkpoints::shared::{load_shared, save_shared, save_shared_after};
@@ -11,7 +11,7 @@ use lru_frames::row::Row;
 use lru_checkpoints::generations::Saved;
 use lru_locks::lru::Lru;
 use lru_memory_folder::memory_folder::MemoryFolder;
-use lru_order_checkpoints::{cores, locks};
+use lru_order_checkpoints::{core_captures, shared_captures as lru_captures};
 use lru_order_checkpoints::cores::{load_core, save_core, save_core_after};
 use lru_order_checkpoints::locks::{load_lru, save_lru, save_lru_after};
 use lru_shared::shared::SharedCache;
@@ -69,7 +69,7 @@ fn is_cache_there(alloc: Global, folder: &mut MemoryFolder, generation: u64) -> 
     let restored = load_cache(alloc, folder, "d", "c", &mut again)?;
     let is_told = (restored.generation == Some(generation)) & (restored.left_out == 0);
     let is_known = restored.known.is_some();
-    Ok(is_told & is_known & are_as_put(&caches::capture_cache(alloc, &again)?))
+    Ok(is_told & is_known & are_as_put(&cache_captures::capture_cache(alloc, &again)?))
 }
 
 fn cache_comes_back(alloc: Global) -> Result<bool, Fail> {
@@ -148,7 +148,7 @@ fn are_deadlines_there(
     let restored = load_deadlines(alloc, folder, "d", "c", &mut again)?;
     let is_told = (restored.generation == Some(generation)) & (restored.left_out == 0);
     let is_known = restored.known.is_some();
-    let rows = deadlines::capture_deadlines(alloc, &again)?;
+    let rows = deadline_captures::capture_deadlines(alloc, &again)?;
     Ok(is_told & is_known & are_deadlines_as_put(&rows))
 }
 
@@ -170,7 +170,7 @@ fn deadlines_stand_in_front(alloc: Global) -> Result<bool, Fail> {
     let mut again: DeadlineCache<u64, u64> = DeadlineCache::new(alloc, LIMIT, 9)?;
     again.put_until(4, 8, 1, 50, |_gone| {})?;
     load_deadlines(alloc, &mut folder, "d", "c", &mut again)?;
-    let rows = deadlines::capture_deadlines(alloc, &again)?;
+    let rows = deadline_captures::capture_deadlines(alloc, &again)?;
     match rows.as_slice() {
         [first, second] => Ok((first.key == 3) & (second.key == 4)),
         _ => Ok(false),
@@ -197,7 +197,7 @@ fn shards_are_their_own<R: Wait>(
     cache: &SharedCache<u64, u64, 2>,
 ) -> Result<bool, Fail> {
     for shard in 0..2usize {
-        let rows = shared::capture_shard(rt, alloc, cache, shard)?;
+        let rows = shared_captures::capture_shard(rt, alloc, cache, shard)?;
         let is_whole = rows.len() == cache.shard_len(rt, shard);
         if !is_whole || !rows.iter().all(|row| row.weight == weight_of(row.key)) {
             return Ok(false);
@@ -290,7 +290,7 @@ fn is_core_there(alloc: Global, folder: &mut MemoryFolder, generation: u64) -> R
     let mut again: LruCore<(u64, u64), 2> = LruCore::with_capacity(alloc, LIMIT, 4)?;
     let restored = load_core(alloc, folder, "d", "c", &mut again)?;
     let is_told = (restored.generation == Some(generation)) & restored.known.is_some();
-    Ok(is_told & are_as_admitted(&cores::capture_shard(alloc, &again, 1)?))
+    Ok(is_told & are_as_admitted(&core_captures::capture_shard(alloc, &again, 1)?))
 }
 
 fn core_comes_back(alloc: Global) -> Result<bool, Fail> {
@@ -337,7 +337,7 @@ fn is_lru_there<R: Wait>(
     let again: Lru<(u64, u64), 2> = Lru::with_capacity(alloc, LIMIT, 4)?;
     let restored = load_lru(rt, alloc, folder, "d", "c", &again)?;
     let is_told = (restored.generation == Some(generation)) & restored.known.is_some();
-    Ok(is_told & are_as_admitted(&locks::capture_shard(rt, alloc, &again, 1)?))
+    Ok(is_told & are_as_admitted(&lru_captures::capture_shard(rt, alloc, &again, 1)?))
 }
 
 fn lru_comes_back<R: Wait>(rt: &R, alloc: Global) -> Result<bool, Fail> {

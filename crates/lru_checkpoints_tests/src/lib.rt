@@ -10,6 +10,8 @@ mod claims;
 #[cfg(test)]
 mod crash_tests;
 #[cfg(test)]
+mod crc_tests;
+#[cfg(test)]
 mod damage_tests;
 #[cfg(test)]
 mod error_tests;
