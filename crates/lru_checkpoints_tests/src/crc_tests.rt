@@ -1,5 +1,5 @@
 //! The check of bytes: as it was published, and as it comes bit by bit.
-use lru_crc64::crc64;
+use lru_frames::crc64;
 use std::test::Fail;
 
 // The check bit by bit, with nothing of the code above.

@@ -1,9 +1,15 @@
 //! The bytes of one shard's checkpoint: rows in a frame that is read whole or refused.
 //!
 //! A frame is read exactly as it was written, or refused as damaged or for want of memory. `Stored` are the types that may be
-//! saved. It stands on the check (`lru_crc64`).
+//! saved. It stands on the check (`lru_frames`).
 #![tactic(auto)]
 
+mod crc;
+mod crc_lanes;
+pub mod crc_laws;
+mod crc_tables;
+mod crc_windows;
+mod crc_words;
 mod envelope;
 pub mod errors;
 pub mod frame;
@@ -15,3 +21,5 @@ mod rows;
 pub mod source;
 pub mod stored;
 mod words;
+
+pub use crc::crc64;
