@@ -1,6 +1,6 @@
 //! A cache in two segments whose entries have deadlines, small enough to be told by hand.
 use lru_deadlines::deadlines::Until;
-use lru_segmented_deadlines::deadlines::SegmentedDeadlineCache;
+use lru_segmented::segmented_deadlines::SegmentedDeadlineCache;
 use std::alloc::{AllocError, Global};
 use std::test::Fail;
 

@@ -10,3 +10,5 @@ pub mod Receding
 pub mod Retained
 pub mod Drained
 pub mod Putting
+pub mod Answered
+pub mod Living

@@ -4,3 +4,4 @@ pub mod Representation
 pub mod Retained
 pub mod Scans
 pub mod Laws
+pub mod SegmentedDeadlines

@@ -9,3 +9,4 @@ pub mod laws;
 pub(crate) mod seat;
 pub(crate) mod seats;
 pub mod segmented;
+pub mod segmented_deadlines;
