@@ -1,5 +1,5 @@
 //! A shard in two segments, small enough to be told by hand.
-use lru_segmented_unit::unit::SegmentedUnit;
+use lru_segmented::segmented_unit::SegmentedUnit;
 use lru_shard::unit::Cause;
 use std::alloc::{AllocError, Global};
 use std::test::Fail;

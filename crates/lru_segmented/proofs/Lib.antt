@@ -12,3 +12,6 @@ pub mod Drained
 pub mod Putting
 pub mod Answered
 pub mod Living
+pub mod UnitPutting
+pub mod AsRows
+pub mod UnitWalked

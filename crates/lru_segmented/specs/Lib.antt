@@ -5,3 +5,5 @@ pub mod Retained
 pub mod Scans
 pub mod Laws
 pub mod SegmentedDeadlines
+pub mod SegmentedUnit
+pub mod UnitLaws

@@ -10,3 +10,5 @@ pub(crate) mod seat;
 pub(crate) mod seats;
 pub mod segmented;
 pub mod segmented_deadlines;
+pub mod segmented_unit;
+pub mod unit_laws;

@@ -18,7 +18,7 @@ use Rattle.lru_shard.proofs.Refusals.{refusal_none, refusal_weight, refusal_leng
 use Rattle.lru_segmented.specs.Segmented.{Segmented, entries, plain, removed, with_segments, with_more, LetsGo, Rejoins, Puts}
 use Rattle.lru_segmented.proofs.Lists.{nil_append, without_absent, without-append, weight-append, weight-cons}
 use Rattle.lru_segmented.proofs.Plain.{recedes_leaves}
-use Rattle.lru_segmented_unit.specs.SegmentedUnit.{sized, sized_with, IsUnit, Admitted, Admits}
+use Rattle.lru_segmented.specs.SegmentedUnit.{sized, sized_with, IsUnit, Admitted, Admits}
 
 module _ {T : Type 0} (k : ℕ) where
   abbrev counted : List (Entry ℕ T) → ℕ

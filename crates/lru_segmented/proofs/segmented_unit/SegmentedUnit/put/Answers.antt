@@ -1,8 +1,8 @@
 use Rattle.std.proofs.Common.{subst, sym}
-use Rattle.lru_segmented_unit.specs.SegmentedUnit.{Admits}
-use Rattle.lru_segmented_unit.proofs.Putting.{put_admits, put_refused}
-use Rattle.lru_segmented_unit.proofs.unit.SegmentedUnit.put.Goals as goal
-use Rattle.lru_segmented_unit.proofs.unit.SegmentedUnit.put.Goals.{in-Ok, in-Err}
+use Rattle.lru_segmented.specs.SegmentedUnit.{Admits}
+use Rattle.lru_segmented.proofs.UnitPutting.{put_admits, put_refused}
+use Rattle.lru_segmented.proofs.segmented_unit.SegmentedUnit.put.Goals as goal
+use Rattle.lru_segmented.proofs.segmented_unit.SegmentedUnit.put.Goals.{in-Ok, in-Err}
 
 pub returns : goal.returns
 returns g c =

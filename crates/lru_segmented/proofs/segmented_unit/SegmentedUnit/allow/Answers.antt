@@ -2,8 +2,8 @@ use Rattle.std.proofs.Common.{sym, arith}
 use Rattle.std.specs.Prelude.{nat_eq}
 use Rattle.lru_segmented.specs.Segmented.{entries}
 use Rattle.lru_cache.specs.Cache.{entry_of}
-use Rattle.lru_segmented_unit.proofs.Putting.{none_found, one_found, old_within, old_heavy, old_light}
-use Rattle.lru_segmented_unit.proofs.unit.SegmentedUnit.allow.Goals as goal
+use Rattle.lru_segmented.proofs.UnitPutting.{none_found, one_found, old_within, old_heavy, old_light}
+use Rattle.lru_segmented.proofs.segmented_unit.SegmentedUnit.allow.Goals as goal
 
 pub allow_new-requires-clause-absent : goal.allow_new-requires-clause-absent
 allow_new-requires-clause-absent g c = none_found (entry_of nat_eq (entries c.args.self.now) c.args.key) (sym c.in_default.ensures)

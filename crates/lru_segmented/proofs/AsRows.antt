@@ -17,8 +17,8 @@ use Rattle.lru_shard.specs.Unit.{accessed, weight_at as row_weight_at, Admits as
 use Rattle.lru_segmented.specs.Segmented.{Segmented, entries, plain, removed, Uses}
 use Rattle.lru_segmented.proofs.Lists.{without_absent, without-append}
 use Rattle.lru_segmented.proofs.Plain.{upper_none, balanced, plain_uses, plain_removes, plain_pops}
-use Rattle.lru_segmented_unit.specs.SegmentedUnit.{pair_of, sized, sized_with, weight_at, IsUnit, Admitted, Admits, Evicts}
-use Rattle.lru_segmented_unit.specs.Laws.{as_row, rows_of, shard_of, IsPlain}
+use Rattle.lru_segmented.specs.SegmentedUnit.{pair_of, sized, sized_with, weight_at, IsUnit, Admitted, Admits, Evicts}
+use Rattle.lru_segmented.specs.UnitLaws.{as_row, rows_of, shard_of, IsPlain}
 
 before : {A : Type 0} (xs ys : List A) → take (length xs) (xs ++ ys) ≡ xs
 before [] ys = refl

@@ -4,8 +4,8 @@ use Rattle.std.specs.Prelude.{Option, Result, nat_eq}
 use Rattle.lru_cache.specs.Cache.{entry_of}
 use Rattle.lru_shard.specs.declared.unit.Refused.{Refused}
 use Rattle.lru_segmented.specs.Segmented.{Segmented, entries}
-use Rattle.lru_segmented_unit.specs.SegmentedUnit.{Admitted, Admits, Evicts}
-use Rattle.lru_segmented_unit.specs.Laws.{Call, Admit, Evict, Walks}
+use Rattle.lru_segmented.specs.SegmentedUnit.{Admitted, Admits, Evicts}
+use Rattle.lru_segmented.specs.UnitLaws.{Call, Admit, Evict, Walks}
 
 module _ {T S : Type 0} where
   -- an admit of a key that has no row

@@ -1,7 +1,7 @@
 use Rattle.std.proofs.Common.{ℕ, ap, arith}
 use Rattle.lru_segmented.specs.Segmented.{Segmented}
-use Rattle.lru_segmented_unit.proofs.Putting.{new_long, new_heavy, new_light}
-use Rattle.lru_segmented_unit.proofs.unit.SegmentedUnit.allow_new.Goals as goal
+use Rattle.lru_segmented.proofs.UnitPutting.{new_long, new_heavy, new_light}
+use Rattle.lru_segmented.proofs.segmented_unit.SegmentedUnit.allow_new.Goals as goal
 
 pub overflow_sub-cap : goal.overflow_sub-cap
 overflow_sub-cap g c = omega (arith, c.requires.valid.valid.fits.0, c.cap.ensures, c.used_weight.ensures)

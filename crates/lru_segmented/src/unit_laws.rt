@@ -1,6 +1,6 @@
 //! What a missing share and a walk make of a shard in two segments. These functions do nothing: their contracts are laws about
 //! the contracts of the shard's calls.
-ghost use Rattle.lru_segmented_unit.specs.Laws.{PlainWithoutShare, NoWalkEvicts};
+ghost use Rattle.lru_segmented.specs.UnitLaws.{PlainWithoutShare, NoWalkEvicts};
 
 /// With a share of nothing for the upper segment, `admit`, `access`, `remove` and `evict` answer what those of an `LruUnit` do
 /// on the same rows in one order, are refused where those are, and leave the same rows.

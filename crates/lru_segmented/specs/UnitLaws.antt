@@ -7,7 +7,7 @@ use Rattle.lru_shard.specs.Row.{Row, row, row_of, is_held, without, last_row, wi
 use Rattle.lru_shard.specs.Shard.{Shard, shard}
 use Rattle.lru_shard.specs.Unit.{accessed, Admits as ShardAdmits}
 use Rattle.lru_segmented.specs.Segmented.{Segmented, entries, removed, Uses}
-use Rattle.lru_segmented_unit.specs.SegmentedUnit.{IsUnit, Admits, Evicts, pair_of}
+use Rattle.lru_segmented.specs.SegmentedUnit.{IsUnit, Admits, Evicts, pair_of}
 
 module _ {T : Type 0} where
   -- ---- one order
