@@ -8,3 +8,4 @@
 pub mod calls;
 pub mod inclusion;
 pub mod lru_core;
+pub mod tiered;

@@ -1,4 +1,4 @@
-//! Tests of `lru_shard`, `lru_cores`, `lru_cores` and `lru_tiers`: worked rows as lists of calls, two cores side by side, calls with
+//! Tests of `lru_shard`, `lru_cores`: worked rows as lists of calls, two cores side by side, calls with
 //! closures and looks, and the spread of the draws.
 //!
 //! What is expected is worked out by hand, or is what a plain simulation answers, and never what the program answered.

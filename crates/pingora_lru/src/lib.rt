@@ -13,7 +13,7 @@ pub use lru_list::linked_list;
 pub use lru_locks::lru;
 pub use lru_locks::lru::Lru;
 pub use lru_shard::{totals, unit};
-pub use lru_tiers::tiered;
+pub use lru_cores::tiered;
 
 /// Batches of admissions to an [`Lru`].
 pub mod batch {
