@@ -5,12 +5,12 @@ ghost use Rattle.lru_index.specs.Hashing.{key_hash};
 ghost use Rattle.lru_policies.specs.declared.player.Request.{Request};
 ghost use Rattle.lru_policies.specs.Policies.{Counts, AsksFirstCome, AsksSegments, AsksSketch};
 
+use crate::player::Request;
 use crate::policies::Refusal;
 use lru_admission::admission::{AskingCache, NotAdmitted};
 use lru_cache::cache::{Cache, Cause};
 use lru_index::hashing::{SeededHasher, SeededHashes};
 use lru_segmented::segmented::SegmentedCache;
-use crate::player::Request;
 use std::hash::{BuildHasher, Hash, Hasher};
 
 /// A cache under a policy of its own.

@@ -3,8 +3,8 @@ ghost use Rattle.std.specs.Prelude.{◌≡◌, ◌≤◌, length, IfOk};
 ghost use Rattle.std.specs.List.{All};
 
 use crate::future::only_size;
-use crate::policies::{MANY, POLICIES, Policy, Refusal, hits};
 use crate::player::Request;
+use crate::policies::{MANY, POLICIES, Policy, Refusal, hits};
 use crate::table::Percent;
 use std::alloc::Global;
 use std::fmt;

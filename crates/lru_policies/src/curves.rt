@@ -1,8 +1,8 @@
 //! A plot of what each policy finds, as SVG.
 
 use crate::compared::{Name, Row, is_exact};
-use crate::policies::{POLICIES, Policy};
 use crate::player::Request;
+use crate::policies::{POLICIES, Policy};
 use std::fmt;
 use std::fmt::Display;
 

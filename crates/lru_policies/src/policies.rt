@@ -10,12 +10,12 @@ ghost use Rattle.lru_policies.specs.Policies.{Finds, AsksFirstCome, AsksSegments
 
 use crate::asked::hits_in;
 use crate::future::{hits_at_best, next_uses};
+use crate::player::{Request, play};
 use lru_admission::admission::AskingCache;
 use lru_cache::cache::Cache;
 use lru_index::hashing::{SeededHasher, SeededHashes};
 use lru_segmented::segmented::SegmentedCache;
 use lru_shard::unit::Cause;
-use crate::player::{Request, play};
 use std::alloc::{AllocError, Global};
 use std::fmt;
 use std::fmt::Display;

@@ -3,12 +3,12 @@
 use crate::compared::{Head, Line, Row, is_exact, row_of};
 use crate::curves::Curves;
 use crate::made::{Recipe, keys_of};
-use crate::sampling::Sample;
-use crate::words::{Asked, Comparison, asked_of};
-use crate::player::Request;
 use crate::plain_program;
 use crate::plain_program::{BadLine, read_into, read_trace};
+use crate::player::Request;
 use crate::progress::Progress;
+use crate::sampling::Sample;
+use crate::words::{Asked, Comparison, asked_of};
 use std::io::{BufReader, BufWriter, Write};
 use std::process::ExitCode;
 use std::{env, fs, io};

@@ -9,12 +9,12 @@ ghost use Rattle.lru_index.specs.Hashing.{key_hash};
 ghost use Rattle.lru_policies.specs.Policies.{is_chosen};
 
 use crate::asked::passed;
+use crate::plain_program::Takes;
+use crate::player::Request;
 use crate::policies::Refusal;
+use crate::table::Percent;
 use lru_cache::cache::Cache;
 use lru_index::hashing::{SeededHasher, SeededHashes, hash_of};
-use crate::player::Request;
-use crate::plain_program::Takes;
-use crate::table::Percent;
 use std::alloc::{AllocError, Global};
 use std::collections::BTreeMap;
 use std::fmt;

@@ -1,9 +1,9 @@
 //! What the words of the program ask for, beside what `lru_policies` knows.
 
-use crate::made::{Kind, Recipe};
-use crate::sampling::MOST_RATE;
 use crate::limits::{LimitFault, add_limit, limit_of};
+use crate::made::{Kind, Recipe};
 use crate::numbers::number_from;
+use crate::sampling::MOST_RATE;
 use std::alloc::{AllocError, Global};
 use std::fmt;
 use std::fmt::Display;
