@@ -8,7 +8,7 @@
 //! says which, and status 2. A checkpoint that was not loaded or saved: a line that says why, and status 1.
 #![tactic(auto)]
 
-use lru_cache::cache::Cache;
+use lru_owned_cache::cache::Cache;
 use lru_cache_checkpoints::cache_captures::{CacheSource, restore_shards};
 use lru_checkpoints::generations::save;
 use lru_checkpoints::newest_loading::{Loaded, load};

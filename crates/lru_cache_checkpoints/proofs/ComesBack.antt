@@ -7,12 +7,12 @@ use Rattle.std.proofs.lemmas.List.Sums.{sum_by-cons, sum_by-append}
 use Rattle.lru_frames.specs.declared.row.Row.{Row}
 use Rattle.lru_frames.specs.Copies.{AreEach, IsEntryCopy}
 use Rattle.lru_rows.specs.Rows.{most_rows}
-use Rattle.lru_cache.specs.declared.entry.Entry.{Entry}
-use Rattle.lru_cache.specs.Entries.{weight_of}
-use Rattle.lru_cache.specs.declared.cache.Cause.{Cause}
-use Rattle.lru_cache.specs.declared.cache.Cause.TheVariants.{Memory, TooHeavy, Full}
-use Rattle.lru_cache.specs.declared.cache.Refused.{Refused}
-use Rattle.lru_cache.specs.Cache.{Cached, Fit, IsCache, Leaves, MayRefuse, without, parts_of}
+use Rattle.lru_owned_cache.specs.declared.entry.Entry.{Entry}
+use Rattle.lru_owned_cache.specs.Entries.{weight_of}
+use Rattle.lru_owned_cache.specs.declared.cache.Cause.{Cause}
+use Rattle.lru_owned_cache.specs.declared.cache.Cause.TheVariants.{Memory, TooHeavy, Full}
+use Rattle.lru_owned_cache.specs.declared.cache.Refused.{Refused}
+use Rattle.lru_owned_cache.specs.Cache.{Cached, Fit, IsCache, Leaves, MayRefuse, without, parts_of}
 use Rattle.lru_cache_checkpoints.specs.Captures.{PutsEntries, PutsOrLeaves, entry_of}
 
 abbrev one_if : Bool → ℕ

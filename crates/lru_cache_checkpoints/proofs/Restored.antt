@@ -5,9 +5,9 @@ use Rattle.std.specs.declared.alloc.Global.{Global}
 use Rattle.lru_frames.specs.Copies.{AreEach, IsEntryCopy}
 use Rattle.std.proofs.lemmas.Bool.{false≢true}
 use Rattle.lru_frames.specs.declared.row.Row.{Row}
-use Rattle.lru_cache.specs.declared.entry.Entry.{Entry}
-use Rattle.lru_cache.specs.declared.cache.Refused.{Refused}
-use Rattle.lru_cache.specs.Cache.{Cached, parts_of}
+use Rattle.lru_owned_cache.specs.declared.entry.Entry.{Entry}
+use Rattle.lru_owned_cache.specs.declared.cache.Refused.{Refused}
+use Rattle.lru_owned_cache.specs.Cache.{Cached, parts_of}
 use Rattle.lru_shared.specs.Related.{MayPutRelated}
 use Rattle.lru_cache_checkpoints.specs.Captures.{MayCopy, PutsEntries, PutsOrLeaves, MayPutOrLeave, MayPutEntries}
 

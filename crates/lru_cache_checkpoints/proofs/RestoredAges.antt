@@ -4,7 +4,7 @@ use Rattle.std.specs.Prelude.{ℕ, Bool, Option, false, Result, Vec, map, IfOk}
 use Rattle.std.specs.declared.alloc.Global.{Global}
 use Rattle.lru_frames.specs.Copies.{AreEach}
 use Rattle.lru_frames.specs.declared.row.Row.{Row}
-use Rattle.lru_cache.specs.Cache.{Cached, parts_of}
+use Rattle.lru_owned_cache.specs.Cache.{Cached, parts_of}
 use Rattle.lru_deadlines.specs.declared.deadlines.Until.{Until}
 use Rattle.lru_shared_deadlines.specs.declared.ages.Aged.{Aged}
 use Rattle.lru_shared_deadlines.specs.Calls.{Ends}

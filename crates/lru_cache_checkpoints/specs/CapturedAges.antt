@@ -3,8 +3,8 @@ use Rattle.std.specs.Prelude.{◌≡◌, ◌⊎◌, ℕ, ◌+◌, ◌^◌, ◌-�
 use Rattle.std.specs.declared.alloc.Global.{Global}
 use Rattle.lru_frames.specs.declared.row.Row.{Row}
 use Rattle.lru_frames.specs.Copies.{AreEach}
-use Rattle.lru_cache.specs.declared.cache.Refused as cached
-use Rattle.lru_cache.specs.Cache.{Cached, parts_of}
+use Rattle.lru_owned_cache.specs.declared.cache.Refused as cached
+use Rattle.lru_owned_cache.specs.Cache.{Cached, parts_of}
 use Rattle.lru_deadlines.specs.declared.deadlines.Until.{Until}
 use Rattle.lru_shared_deadlines.specs.declared.ages.Aged.{Aged}
 use Rattle.lru_cache_checkpoints.specs.Captures.{MayPutEntries}

@@ -2,8 +2,8 @@
 use Rattle.std.specs.Prelude.{◌≡◌, ◌⊎◌, ℕ, ◌+◌, ◌-◌, ◌^◌, min, Bool, List, [], ◌∷◌, map, reverse, Vec, Result, Ok, Err}
 use Rattle.std.specs.declared.alloc.Global.{Global}
 use Rattle.lru_frames.specs.declared.row.Row.{Row}
-use Rattle.lru_cache.specs.declared.cache.Refused as cached
-use Rattle.lru_cache.specs.Cache.{Cached}
+use Rattle.lru_owned_cache.specs.declared.cache.Refused as cached
+use Rattle.lru_owned_cache.specs.Cache.{Cached}
 use Rattle.lru_cache_checkpoints.specs.Captures.{PutsEntries}
 use Rattle.lru_deadlines.specs.declared.deadlines.Until.{Until}
 use Rattle.lru_deadlines.specs.Deadlines.{until}

@@ -2,11 +2,11 @@
 use Rattle.std.specs.Prelude.{◌≡◌, ◌⊎◌, ℕ, suc, ◌+◌, ◌-◌, ◌^◌, min, cond, Bool, true, false, List, [], ◌∷◌, map, reverse, Vec, Result, Ok, Err}
 use Rattle.std.specs.declared.alloc.Global.{Global}
 use Rattle.lru_frames.specs.declared.row.Row.{Row}
-use Rattle.lru_cache.specs.declared.entry.Entry.{Entry}
-use Rattle.lru_cache.specs.declared.cache.Cause.TheVariants.{TooHeavy}
-use Rattle.lru_cache.specs.declared.cache.Refused as cached
-use Rattle.lru_cache.specs.Cache.{Cached, with_entries, without, parts_of, Leaves, MayRefuse}
-use Rattle.lru_cache.specs.Entries.{entry}
+use Rattle.lru_owned_cache.specs.declared.entry.Entry.{Entry}
+use Rattle.lru_owned_cache.specs.declared.cache.Cause.TheVariants.{TooHeavy}
+use Rattle.lru_owned_cache.specs.declared.cache.Refused as cached
+use Rattle.lru_owned_cache.specs.Cache.{Cached, with_entries, without, parts_of, Leaves, MayRefuse}
+use Rattle.lru_owned_cache.specs.Entries.{entry}
 use Rattle.lru_frames.specs.Copies.{AreEach, IsEntryCopy}
 
 -- rows may be the copies of a cache: there are entries of which they are

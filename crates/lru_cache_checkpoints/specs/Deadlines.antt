@@ -4,8 +4,8 @@ use Rattle.lru_folder.specs.Files.{Files}
 use Rattle.lru_frames.specs.declared.row.Row.{Row}
 use Rattle.lru_frames.specs.Words.{word}
 use Rattle.lru_frames.specs.Copies.{AreEach}
-use Rattle.lru_cache.specs.declared.cache.Refused as cached
-use Rattle.lru_cache.specs.Cache.{Cached, parts_of}
+use Rattle.lru_owned_cache.specs.declared.cache.Refused as cached
+use Rattle.lru_owned_cache.specs.Cache.{Cached, parts_of}
 use Rattle.lru_deadlines.specs.declared.deadlines.Until.{Until}
 use Rattle.lru_checkpoints.specs.Loads.{IsFault}
 use Rattle.lru_checkpoints.specs.declared.newest_loading.Checkpoint.{Checkpoint}

@@ -3,8 +3,8 @@ use Rattle.std.specs.Prelude.{◌≡◌, ◌<◌, ℕ, Bool, List, Option, None,
 use Rattle.lru_folder.specs.Files.{Files}
 use Rattle.lru_frames.specs.declared.row.Row.{Row}
 use Rattle.lru_frames.specs.Copies.{AreEach, IsEntryCopy}
-use Rattle.lru_cache.specs.declared.cache.Refused as cached
-use Rattle.lru_cache.specs.Cache.{Cached, parts_of}
+use Rattle.lru_owned_cache.specs.declared.cache.Refused as cached
+use Rattle.lru_owned_cache.specs.Cache.{Cached, parts_of}
 use Rattle.lru_checkpoints.specs.declared.errors.CheckpointError.{CheckpointError}
 use Rattle.lru_checkpoints.specs.Checkpoints.{Shards, HasCheckpoint}
 use Rattle.lru_checkpoints.specs.Loads.{IsFault}

@@ -1,10 +1,10 @@
 //! The entries of a cache of one owner.
 ghost use Rattle.std.specs.Prelude.{IfOk, map, reverse};
-ghost use Rattle.lru_cache.specs.Cache.{parts_of};
+ghost use Rattle.lru_owned_cache.specs.Cache.{parts_of};
 ghost use Rattle.lru_frames.specs.Copies.{AreEach, IsEntryCopy};
 ghost use Rattle.lru_cache_checkpoints.specs.Captures.{PutsEntries, PutsOrLeaves, PutsShards};
 
-use lru_cache::cache::{Cache, Cause, Refused};
+use lru_owned_cache::cache::{Cache, Cause, Refused};
 use lru_frames::frame::Header;
 use lru_frames::mark::Mark;
 use lru_frames::marked::encode_marked;
@@ -39,7 +39,7 @@ pub struct CacheSource<'a, K: Hash, V> {
 
 impl<'a, K: Hash + Clone + Stored, V: Clone + Stored> Source<K, V> for CacheSource<'a, K, V> {
     ghost use Rattle.std.specs.Prelude.{map};
-    ghost use Rattle.lru_cache.specs.Cache.{parts_of};
+    ghost use Rattle.lru_owned_cache.specs.Cache.{parts_of};
     ghost use Rattle.lru_frames.specs.Copies.{AreEach, IsEntryCopy};
 
     ghost count = { λ source. 1 };

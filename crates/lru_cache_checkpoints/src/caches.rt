@@ -13,7 +13,7 @@ ghost use Rattle.lru_checkpoints.specs.Saving.{IsForGood, IsOlder, IsUnsaved, Is
 ghost use Rattle.lru_cache_checkpoints.specs.Restores.{IfUnloaded, IsCopyOf, Restores};
 
 use crate::restored::{RestoreError, Restored};
-use lru_cache::cache::Cache;
+use lru_owned_cache::cache::Cache;
 use crate::cache_captures::{CacheSource, restore_shards};
 use lru_checkpoints::errors::CheckpointError;
 use lru_folder::folder::Folder;

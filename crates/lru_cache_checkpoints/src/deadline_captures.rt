@@ -1,11 +1,11 @@
 //! The entries of a cache of one owner that have deadlines. A row's data are a value and its deadline.
 ghost use Rattle.std.specs.Prelude.{IfOk, map, reverse};
-ghost use Rattle.lru_cache.specs.Cache.{parts_of};
+ghost use Rattle.lru_owned_cache.specs.Cache.{parts_of};
 ghost use Rattle.lru_frames.specs.Copies.{AreEach};
 ghost use Rattle.lru_cache_checkpoints.specs.Captures.{PutsEntries, PutsOrLeaves};
 ghost use Rattle.lru_cache_checkpoints.specs.CapturedDeadlines.{IsDeadlineCopy, PutsDeadlines, until_row};
 
-use lru_cache::cache::{Cause, Refused};
+use lru_owned_cache::cache::{Cause, Refused};
 use lru_deadlines::deadlines::{DeadlineCache, Until};
 use lru_frames::frame::Header;
 use lru_frames::mark::Mark;
@@ -44,7 +44,7 @@ pub struct DeadlineSource<'a, K: Hash, V> {
 impl<'a, K: Hash + Clone + Stored, V: Clone + Stored> Source<K, (V, u64)>
     for DeadlineSource<'a, K, V> {
     ghost use Rattle.std.specs.Prelude.{map};
-    ghost use Rattle.lru_cache.specs.Cache.{parts_of};
+    ghost use Rattle.lru_owned_cache.specs.Cache.{parts_of};
     ghost use Rattle.lru_frames.specs.Copies.{AreEach};
     ghost use Rattle.lru_cache_checkpoints.specs.CapturedDeadlines.{IsDeadlineCopy};
 

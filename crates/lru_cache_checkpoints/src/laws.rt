@@ -2,9 +2,9 @@
 ghost use Rattle.std.specs.Prelude.{◌≡◌, ℕ, List, [], Bool, Result, MatchResult, map, reverse};
 ghost use Rattle.lru_frames.specs.declared.row.Row.{Row};
 ghost use Rattle.lru_frames.specs.Copies.{AreEach, IsEntryCopy};
-ghost use Rattle.lru_cache.specs.declared.cache.Cause.TheVariants.{Memory};
-ghost use Rattle.lru_cache.specs.declared.cache.Refused as cached;
-ghost use Rattle.lru_cache.specs.Cache.{Cached, IsCache, parts_of};
+ghost use Rattle.lru_owned_cache.specs.declared.cache.Cause.TheVariants.{Memory};
+ghost use Rattle.lru_owned_cache.specs.declared.cache.Refused as cached;
+ghost use Rattle.lru_owned_cache.specs.Cache.{Cached, IsCache, parts_of};
 ghost use Rattle.lru_cache_checkpoints.specs.Captures.{PutsEntries, entry_of};
 
 use std::hash::Hash;

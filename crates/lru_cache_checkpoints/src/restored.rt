@@ -2,7 +2,7 @@
 ghost use Rattle.std.specs.Prelude.{◌≡◌};
 ghost use Rattle.lru_cache_checkpoints.specs.declared.restored.RestoreError.TheVariants as why;
 
-use lru_cache::cache::Refused;
+use lru_owned_cache::cache::Refused;
 use lru_checkpoints::errors::CheckpointError;
 use lru_checkpoints::known::Known;
 use lru_checkpoints::newest::Passed;

@@ -3,7 +3,7 @@ ghost use Rattle.std.specs.Prelude.{◌<◌, IfOk, reverse};
 ghost use Rattle.lru_cache_checkpoints.specs.Captures.{MayCopy, MayPutOrLeave, MayPutEntries, MayPutShards};
 
 use crate::cache_captures::capture_cache;
-use lru_cache::cache::{Cause, Refused};
+use lru_owned_cache::cache::{Cause, Refused};
 use lru_frames::frame::Header;
 use lru_frames::mark::Mark;
 use lru_frames::marked::encode_marked;

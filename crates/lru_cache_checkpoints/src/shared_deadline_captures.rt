@@ -1,12 +1,12 @@
 //! The entries of a cache that threads share, whose entries end. A row's data are a value, the time at which it ends, and its
 //! deadline.
 ghost use Rattle.std.specs.Prelude.{◌<◌, IfOk, map, reverse};
-ghost use Rattle.lru_cache.specs.Cache.{parts_of};
+ghost use Rattle.lru_owned_cache.specs.Cache.{parts_of};
 ghost use Rattle.lru_frames.specs.Copies.{AreEach};
 ghost use Rattle.lru_cache_checkpoints.specs.Captures.{MayPutEntries, MayPutOrLeave};
 ghost use Rattle.lru_cache_checkpoints.specs.CapturedAges.{IsAgedCopy, MayCopyAged, MayPutAged, aged_row};
 
-use lru_cache::cache::{Cause, Refused};
+use lru_owned_cache::cache::{Cause, Refused};
 use lru_deadlines::deadlines::{DeadlineCache, Until};
 use lru_frames::frame::Header;
 use lru_frames::mark::Mark;

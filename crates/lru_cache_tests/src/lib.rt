@@ -1,4 +1,4 @@
-//! Tests of `lru_cache` and `lru_deadlines`: lists of calls worked out by hand, keys that are texts, what is dropped, and want of
+//! Tests of `lru_owned_cache` and `lru_deadlines`: lists of calls worked out by hand, keys that are texts, what is dropped, and want of
 //! memory.
 //!
 //! What is expected is worked out by hand, or is what a plain simulation answers, and never what the program answered.

@@ -1,5 +1,5 @@
 //! A cache in two segments, small enough to be told by hand.
-use lru_cache::cache::{Cache, Cause};
+use lru_owned_cache::cache::{Cache, Cause};
 use lru_segmented::segmented::SegmentedCache;
 use std::alloc::{AllocError, Global};
 use std::test::Fail;

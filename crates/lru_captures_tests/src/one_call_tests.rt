@@ -1,5 +1,5 @@
 //! Saves and loads of caches and orders, each by one call.
-use lru_cache::cache::Cache;
+use lru_owned_cache::cache::Cache;
 use lru_cache_checkpoints::{cache_captures, deadline_captures, shared_captures};
 use lru_cache_checkpoints::caches::{load_cache, save_cache, save_cache_after};
 use lru_cache_checkpoints::deadlines::{load_deadlines, save_deadlines, save_deadlines_after};

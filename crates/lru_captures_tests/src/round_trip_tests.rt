@@ -2,7 +2,7 @@
 ghost use Rattle.std.specs.Prelude.{◌<◌, ◌≤◌};
 ghost use Rattle.lru_checkpoints.specs.Checkpoints.{most_shards};
 
-use lru_cache::cache::Cache;
+use lru_owned_cache::cache::Cache;
 use lru_cache_checkpoints::{cache_captures, shared_captures};
 use lru_checkpoints::errors::CheckpointError;
 use lru_cores::lru_core::LruCore;

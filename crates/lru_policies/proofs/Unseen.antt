@@ -3,9 +3,9 @@ use Rattle.std.proofs.Common.{◌≡◌, ◌∙◌, sym, ap, subst, refl, ℕ, L
 use Rattle.std.specs.Prelude.{Option, Some, None, Ok, false, is_some, nat_eq}
 use Rattle.std.specs.List.{FoldsTo}
 use Rattle.lru_index.specs.declared.hashing.SeededHashes.{SeededHashes}
-use Rattle.lru_cache.specs.declared.entry.Entry.{Entry}
-use Rattle.lru_cache.specs.Entries.{IsShown}
-use Rattle.lru_cache.specs.Cache.{Puts, entry_of}
+use Rattle.lru_owned_cache.specs.declared.entry.Entry.{Entry}
+use Rattle.lru_owned_cache.specs.Entries.{IsShown}
+use Rattle.lru_owned_cache.specs.Cache.{Puts, entry_of}
 use Rattle.lru_segmented.specs.Segmented.{entries}
 use Rattle.lru_segmented.specs.Segmented.{Puts as PutsLower}
 use Rattle.lru_admission.specs.Sketch.{Counted}

@@ -2,7 +2,7 @@
 use Rattle.std.specs.Prelude.{◌≡◌, ℕ, ◌+◌, ◌*◌, ◌/◌, ◌<◌, ◌⊎◌, min, List, Bool, true, false, None, Ok, IsSome, nat_eq, nat_lt, ◌^◌, if◌then◌else◌}
 use Rattle.std.specs.List.{FoldsTo}
 use Rattle.lru_index.specs.declared.hashing.SeededHashes.{SeededHashes}
-use Rattle.lru_cache.specs.Cache.{Cached, Puts, entry_of, used, with_entries}
+use Rattle.lru_owned_cache.specs.Cache.{Cached, Puts, entry_of, used, with_entries}
 use Rattle.lru_segmented.specs.Segmented.{Segmented, Uses, entries}
 use Rattle.lru_segmented.specs.Segmented.{Puts as PutsLower}
 use Rattle.lru_admission.specs.Sketch.{counted}

@@ -1,7 +1,7 @@
 //! Policies: what a cache keeps.
 ghost use Rattle.std.specs.Prelude.{◌≡◌, ◌≤◌, ℕ, length, IfOk};
 ghost use Rattle.lru_index.specs.Hashing.{key_hash, unseeded};
-ghost use Rattle.lru_cache.specs.Cache.{empty, hashes_from};
+ghost use Rattle.lru_owned_cache.specs.Cache.{empty, hashes_from};
 ghost use Rattle.lru_segmented.specs.Segmented.{empty as segments};
 ghost use Rattle.lru_admission.specs.Sketch.{fresh};
 ghost use Rattle.lru_admission.specs.Admission.{watched};
@@ -12,7 +12,7 @@ use crate::asked::hits_in;
 use crate::future::{hits_at_best, next_uses};
 use crate::player::{Request, play};
 use lru_admission::admission::AskingCache;
-use lru_cache::cache::Cache;
+use lru_owned_cache::cache::Cache;
 use lru_index::hashing::{SeededHasher, SeededHashes};
 use lru_segmented::segmented::SegmentedCache;
 use lru_shard::unit::Cause;

@@ -13,7 +13,7 @@ use crate::plain_program::Takes;
 use crate::player::Request;
 use crate::policies::Refusal;
 use crate::table::Percent;
-use lru_cache::cache::Cache;
+use lru_owned_cache::cache::Cache;
 use lru_index::hashing::{SeededHasher, SeededHashes, hash_of};
 use std::alloc::{AllocError, Global};
 use std::collections::BTreeMap;

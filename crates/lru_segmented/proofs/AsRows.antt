@@ -6,10 +6,10 @@ use Rattle.std.proofs.lemmas.Bool.{eqb-true, false≢true}
 use Rattle.std.proofs.lemmas.List.{length-map, length_push, map-append, get_or_push}
 use Rattle.std.proofs.lemmas.List.Sums.{sum_by-cons}
 use Rattle.std.proofs.lemmas.Option.{slice_get-get_or}
-use Rattle.lru_cache.specs.declared.entry.Entry.{Entry}
-use Rattle.lru_cache.specs.Entries.{entry, weight_of as entries_weigh}
-use Rattle.lru_cache.proofs.Rows.{some_of, by_bool}
-use Rattle.lru_cache.specs.Cache.{Cached, entry_of, without as entries_without, used, with_entries}
+use Rattle.lru_owned_cache.specs.declared.entry.Entry.{Entry}
+use Rattle.lru_owned_cache.specs.Entries.{entry, weight_of as entries_weigh}
+use Rattle.lru_owned_cache.proofs.Rows.{some_of, by_bool}
+use Rattle.lru_owned_cache.specs.Cache.{Cached, entry_of, without as entries_without, used, with_entries}
 use Rattle.lru_shard.specs.declared.unit.Refused.{Refused}
 use Rattle.lru_shard.specs.Row.{Row, row, weight_of, row_of, is_held, without, with_first, last_row, without_last, pair_of as pair_of_row}
 use Rattle.lru_shard.specs.Shard.{size_of, refusal, MayRefuse, shard}

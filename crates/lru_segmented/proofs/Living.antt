@@ -4,9 +4,9 @@ use Rattle.std.proofs.lemmas.Bool.{false≢true}
 use Rattle.std.specs.Prelude.{Bool, Option, Result, is_some, filter, if◌then◌else◌}
 use Rattle.std.specs.Borrow.{MutBor}
 use Rattle.std.specs.List.{FoldsTo}
-use Rattle.lru_cache.specs.declared.entry.Entry.{Entry}
-use Rattle.lru_cache.specs.Entries.{IsShown}
-use Rattle.lru_cache.specs.declared.cache.Refused.{Refused}
+use Rattle.lru_owned_cache.specs.declared.entry.Entry.{Entry}
+use Rattle.lru_owned_cache.specs.Entries.{IsShown}
+use Rattle.lru_owned_cache.specs.declared.cache.Refused.{Refused}
 use Rattle.lru_deadlines.specs.declared.deadlines.Until.{Until}
 use Rattle.lru_deadlines.specs.Deadlines.{where_it, living, is_past, last_of, look, has_room}
 use Rattle.lru_segmented.specs.Segmented.{Segmented, entries, plain, UpdatesEntry, Puts}

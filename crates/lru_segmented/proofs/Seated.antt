@@ -11,8 +11,8 @@ use Rattle.lru_rows.specs.declared.rows.NoPlace.{NoPlace}
 use Rattle.lru_rows.specs.declared.rows.NoPlace.TheVariants.{Memory, Full}
 use Rattle.lru_rows.specs.declared.rows.Taken.{Taken}
 use Rattle.lru_rows.specs.Rows.{Placed, placed, Recency, recency, row_at, row_of, IsAt, IsRecency, Finds, without, promoted, demoted, with_value, first_row, last_row, taken, most_rows, LacksPlace, entry_of as rows_entry_of}
-use Rattle.lru_cache.specs.Entries.{weight_in}
-use Rattle.lru_cache.proofs.Rows.{some_of, places, places_here, places-append, without_absent, row_first, row_place, by_place, weight-cons, weight-append, weight-without, length-without}
+use Rattle.lru_owned_cache.specs.Entries.{weight_in}
+use Rattle.lru_owned_cache.proofs.Rows.{some_of, places, places_here, places-append, without_absent, row_first, row_place, by_place, weight-cons, weight-append, weight-without, length-without}
 use Rattle.lru_pairs.specs.Beside.{row_after, row_before, put_before}
 use Rattle.lru_segmented.specs.declared.seat.Seat.{Seat}
 use Rattle.lru_segmented.specs.Seats.{Seated, seated, rows, lifted, sunk, LowersLast}

@@ -5,13 +5,13 @@ use Rattle.std.specs.Option.{option_map_or}
 use Rattle.std.proofs.lemmas.Bool.{false≢true}
 use Rattle.std.proofs.lemmas.List.{length-append}
 use Rattle.std.proofs.lemmas.List.Sums.{sum_by-cons}
-use Rattle.lru_cache.specs.declared.entry.Entry.{Entry}
-use Rattle.lru_cache.specs.Entries.{entry, weight_of}
-use Rattle.lru_cache.proofs.Rows.{some_of, by_bool}
-use Rattle.lru_cache.specs.declared.cache.Cause.{Cause as CacheCause}
-use Rattle.lru_cache.specs.declared.cache.Cause.TheVariants.{TooHeavy, Full, Memory as NoMemory}
-use Rattle.lru_cache.specs.declared.cache.Refused.{Refused as CacheRefused}
-use Rattle.lru_cache.specs.Cache.{Fit, Leaves, MayRefuse as CacheMayRefuse, entry_of, without}
+use Rattle.lru_owned_cache.specs.declared.entry.Entry.{Entry}
+use Rattle.lru_owned_cache.specs.Entries.{entry, weight_of}
+use Rattle.lru_owned_cache.proofs.Rows.{some_of, by_bool}
+use Rattle.lru_owned_cache.specs.declared.cache.Cause.{Cause as CacheCause}
+use Rattle.lru_owned_cache.specs.declared.cache.Cause.TheVariants.{TooHeavy, Full, Memory as NoMemory}
+use Rattle.lru_owned_cache.specs.declared.cache.Refused.{Refused as CacheRefused}
+use Rattle.lru_owned_cache.specs.Cache.{Fit, Leaves, MayRefuse as CacheMayRefuse, entry_of, without}
 use Rattle.lru_shard.specs.declared.unit.Cause.TheVariants.{Memory, Weight, Length}
 use Rattle.lru_shard.specs.Shard.{refusal, and_row, MayRefuse}
 use Rattle.lru_shard.proofs.Refusals.{refusal_none, refusal_weight, refusal_length, allowed_light, allowed_short}

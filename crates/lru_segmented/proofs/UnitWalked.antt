@@ -1,7 +1,7 @@
 -- What a walk of admits and evictions makes of the upper segment.
 use Rattle.std.proofs.Common.{◌≡◌, ℕ, ◌<◌, List, [], ◌∷◌, length, Some, None, Ok, Err, ap, ◌∙◌, subst, inl, inr, arith}
 use Rattle.std.specs.Prelude.{Option, Result, nat_eq}
-use Rattle.lru_cache.specs.Cache.{entry_of}
+use Rattle.lru_owned_cache.specs.Cache.{entry_of}
 use Rattle.lru_shard.specs.declared.unit.Refused.{Refused}
 use Rattle.lru_segmented.specs.Segmented.{Segmented, entries}
 use Rattle.lru_segmented.specs.SegmentedUnit.{Admitted, Admits, Evicts}

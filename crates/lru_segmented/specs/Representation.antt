@@ -2,8 +2,8 @@
 use Rattle.std.specs.Prelude.{◌≡◌, ℕ, ◌+◌, ◌≤◌, ◌==◌, Bool, true, false, not, List, [], ◌∷◌, ◌++◌, length, map, filter, count_by, Option, None, Some, if◌then◌else◌}
 use Rattle.std.specs.Option.{option_map}
 use Rattle.lru_rows.specs.Rows.{Placed, placed, Recency, recency, row_at, first_row, last_row, with_value, most_rows}
-use Rattle.lru_cache.specs.Entries.{entries_in, weight_in}
-use Rattle.lru_cache.specs.Partings.{RowsFit}
+use Rattle.lru_owned_cache.specs.Entries.{entries_in, weight_in}
+use Rattle.lru_owned_cache.specs.Partings.{RowsFit}
 use Rattle.lru_pairs.specs.Beside.{row_after, row_before}
 use Rattle.lru_segmented.specs.declared.seat.Seat.{Seat}
 use Rattle.lru_segmented.specs.Segmented.{Segmented}

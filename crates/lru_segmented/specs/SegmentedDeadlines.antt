@@ -1,11 +1,11 @@
 -- A cache in two segments whose entries have deadlines: what is answered at a time, and what goes.
 use Rattle.std.specs.Prelude.{◌≡◌, ℕ, ◌-◌, not, Bool, List, [], ◌++◌, length, filter, ◌⊎◌, Option, Some, None, Result, Ok, Err, if◌then◌else◌}
 use Rattle.std.specs.Borrow.{MutBor}
-use Rattle.lru_cache.specs.declared.entry.Entry.{Entry}
-use Rattle.lru_cache.specs.Entries.{entry, IsShown}
+use Rattle.lru_owned_cache.specs.declared.entry.Entry.{Entry}
+use Rattle.lru_owned_cache.specs.Entries.{entry, IsShown}
 use Rattle.lru_rows.specs.Rows.{Updates}
-use Rattle.lru_cache.specs.declared.cache.Refused.{Refused}
-use Rattle.lru_cache.specs.declared.cache.NotPut.{NotPut}
+use Rattle.lru_owned_cache.specs.declared.cache.Refused.{Refused}
+use Rattle.lru_owned_cache.specs.declared.cache.NotPut.{NotPut}
 use Rattle.lru_deadlines.specs.declared.deadlines.Until.{Until}
 use Rattle.lru_deadlines.specs.Deadlines.{look, is_past, last_of, before_last, has_room, living, past_of}
 use Rattle.lru_segmented.specs.Segmented.{Segmented, entries, plain, with_segments, removed, Raises, Uses, UpdatesEntry, Puts, UsesOrPuts}

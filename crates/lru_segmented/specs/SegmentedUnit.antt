@@ -1,9 +1,9 @@
 -- A shard in two segments, under a cap: what its calls answer, and what they leave of both. It is seen as a cache whose keys are numbers, of which the cap is the most weight.
 use Rattle.std.specs.Prelude.{◌≡◌, ℕ, nat_eq, List, ◌∷◌, length, Option, Some, None, Result, Ok, Err}
 use Rattle.std.specs.Option.{option_map_or}
-use Rattle.lru_cache.specs.declared.entry.Entry.{Entry}
-use Rattle.lru_cache.specs.Entries.{entry, weight_of}
-use Rattle.lru_cache.specs.Cache.{entry_of, without}
+use Rattle.lru_owned_cache.specs.declared.entry.Entry.{Entry}
+use Rattle.lru_owned_cache.specs.Entries.{entry, weight_of}
+use Rattle.lru_owned_cache.specs.Cache.{entry_of, without}
 use Rattle.lru_shard.specs.declared.unit.Refused.{Refused}
 use Rattle.lru_shard.specs.Shard.{Size, and_row, refusal, MayRefuse, most_rows}
 use Rattle.lru_segmented.specs.Segmented.{Segmented, entries, with_more, removed, IsSegmented, Rejoins, PopsLast}

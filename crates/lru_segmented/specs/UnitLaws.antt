@@ -1,7 +1,7 @@
 -- What a missing share and a walk make of a shard in two segments.
 use Rattle.std.specs.Prelude.{◌≡◌, ℕ, ◌<◌, nat_eq, Bool, List, [], ◌∷◌, length, map, option_map, Option, None, Result}
-use Rattle.lru_cache.specs.declared.entry.Entry.{Entry}
-use Rattle.lru_cache.specs.Cache.{entry_of}
+use Rattle.lru_owned_cache.specs.declared.entry.Entry.{Entry}
+use Rattle.lru_owned_cache.specs.Cache.{entry_of}
 use Rattle.lru_shard.specs.declared.unit.Refused.{Refused}
 use Rattle.lru_shard.specs.Row.{Row, row, row_of, is_held, without, last_row, without_last, pair_of as pair_of_row}
 use Rattle.lru_shard.specs.Shard.{Shard, shard}

@@ -4,7 +4,7 @@ ghost use Rattle.std.specs.Option.{option_map};
 ghost use Rattle.lru_index.specs.Hashing.{key_hash};
 ghost use Rattle.lru_rows.specs.Rows.{row_at, row_of, IsAt, IsRecency, Finds, first_row, last_row, entry_of, taken, without, most_rows, Updates};
 ghost use Rattle.lru_pairs.specs.Beside.{row_before};
-ghost use Rattle.lru_cache.specs.Entries.{weight_in};
+ghost use Rattle.lru_owned_cache.specs.Entries.{weight_in};
 ghost use Rattle.lru_segmented.specs.Seats.{seated, rows, lifted, sunk, Lowers, LowersLast, Pushes, UpdatesAt};
 ghost use Rattle.lru_segmented.specs.Representation.{seat, passed, begun, upper_end, Marks};
 

@@ -3,14 +3,14 @@ ghost use Rattle.std.specs.Prelude.{◌≡◌, ◌+◌, ◌≤◌, length, map, 
 ghost use Rattle.std.specs.Option.{option_map, option_copied};
 ghost use Rattle.lru_index.specs.Hashing.{key_hash, seeded, unseeded};
 ghost use Rattle.lru_rows.specs.Rows.{most_rows};
-ghost use Rattle.lru_cache.specs.Entries.{weight_of};
-ghost use Rattle.lru_cache.specs.Cache.{hashes_from, entry_of, parts_of};
+ghost use Rattle.lru_owned_cache.specs.Entries.{weight_of};
+ghost use Rattle.lru_owned_cache.specs.Cache.{hashes_from, entry_of, parts_of};
 ghost use Rattle.lru_deadlines.specs.Deadlines.{until, living, has_room};
 ghost use Rattle.lru_segmented.specs.Segmented.{empty, entries, plain, removed, demoted, IsSegmented, LetsGo, Limits, PopsLast, PopsFirst, Drains, Puts};
 ghost use Rattle.lru_segmented.specs.Retained.{Retains};
 ghost use Rattle.lru_segmented.specs.SegmentedDeadlines.{PromotesLiving, UpdatesLiving, UpdatesIfLiving, UsesOrPutsLiving, TakesPast, Sweeps, MakesRoom, PutsAt};
 
-use lru_cache::cache::{Entry, NotPut, Refused};
+use lru_owned_cache::cache::{Entry, NotPut, Refused};
 use lru_deadlines::deadlines::{LOOK, Until};
 use lru_index::alike::SameHashes;
 use lru_index::hashing::SeededHashes;

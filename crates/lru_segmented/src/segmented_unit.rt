@@ -2,13 +2,13 @@
 ghost use Rattle.std.specs.Prelude.{◌≡◌, ◌<◌, length, map, is_some, nat_eq, option_map, Some, None, IfOk, IfErr};
 ghost use Rattle.std.specs.Option.{option_copied, option_map_or};
 ghost use Rattle.lru_index.specs.Hashing.{seeded, unseeded};
-ghost use Rattle.lru_cache.specs.Entries.{weight_of, entry};
-ghost use Rattle.lru_cache.specs.Cache.{hashes_from, entry_of, parts_of, IsLast};
+ghost use Rattle.lru_owned_cache.specs.Entries.{weight_of, entry};
+ghost use Rattle.lru_owned_cache.specs.Cache.{hashes_from, entry_of, parts_of, IsLast};
 ghost use Rattle.lru_shard.specs.Shard.{most_rows, refusal, and_row};
 ghost use Rattle.lru_segmented.specs.Segmented.{empty, entries, removed, Uses};
 ghost use Rattle.lru_segmented.specs.SegmentedUnit.{pair_of, sized, sized_with, IsUnit, Admits, Evicts};
 
-use lru_cache::cache::Entry;
+use lru_owned_cache::cache::Entry;
 use lru_index::hashing::SeededHashes;
 use lru_list::linked_list::MOST_ITEMS;
 use crate::iter::SegmentedEntries;

@@ -8,7 +8,7 @@ ghost use Rattle.lru_shared.specs.Related.{KeepsRelation};
 
 use crate::limits::Limits;
 use crate::one::Shard;
-use lru_cache::cache::{Entry, Refused};
+use lru_owned_cache::cache::{Entry, Refused};
 use lru_index::alike::SameHashes;
 use lru_index::keys::Query;
 use std::alloc::AllocError;

@@ -6,7 +6,7 @@ use crate::kept::Kept;
 use crate::limits::Limits;
 use crate::one::Shard;
 use crate::relations::Relation;
-use lru_cache::cache::{Entry, Refused};
+use lru_owned_cache::cache::{Entry, Refused};
 use lru_index::alike::SameHashes;
 use lru_index::keys::Query;
 use std::alloc::AllocError;

@@ -15,7 +15,7 @@ use crate::related::RelatedShard;
 pub use crate::relations::{Anything, Relation};
 use crate::{calls, turns};
 use crossbeam_utils::CachePadded;
-use lru_cache::cache::{Cache, Entry, Refused};
+use lru_owned_cache::cache::{Cache, Entry, Refused};
 use lru_index::alike::SameHashes;
 use lru_index::hashing::SeededHashes;
 use lru_index::keys::Query;

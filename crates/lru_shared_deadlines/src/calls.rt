@@ -3,7 +3,7 @@
 ghost use Rattle.std.specs.Prelude.{◌≡◌, ◌<◌, ◌⊎◌, Ok, Err, None, is_some, length, IfOk, IfErr};
 ghost use Rattle.lru_index.specs.Hashing.{key_hash};
 ghost use Rattle.lru_deadlines.specs.Deadlines.{living};
-ghost use Rattle.lru_cache.specs.Entries.{weight_of};
+ghost use Rattle.lru_owned_cache.specs.Entries.{weight_of};
 ghost use Rattle.lru_shared.specs.Shards.{home};
 ghost use Rattle.lru_shared.specs.Calls.{RetainsShard};
 ghost use Rattle.lru_shared.specs.Counting.{Takes, PopsShard, ClearsShard, DrainsShard, LimitsShard, PutsCounted};
@@ -12,7 +12,7 @@ ghost use Rattle.lru_shared_deadlines.specs.Calls.{ShowsLiving, Lends, Gets, Swe
 use crate::ages::{Aged, Gone, Moment};
 use crate::one;
 use crate::one::Shard;
-use lru_cache::cache::{Cause, Refused};
+use lru_owned_cache::cache::{Cause, Refused};
 use lru_deadlines::deadlines::Until;
 use lru_index::alike::SameHashes;
 use lru_index::hashing::hash_of;

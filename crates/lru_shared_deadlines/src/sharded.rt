@@ -1,9 +1,9 @@
 //! A cache whose entries end, of one owner, in shards: what a shared one is behind its locks.
 ghost use Rattle.std.specs.Prelude.{◌≡◌, ◌+◌, ◌<◌, ◌/◌, ◌%◌, is_some, length, replicate, IfOk};
 ghost use Rattle.lru_index.specs.Hashing.{key_hash, seeded, unseeded};
-ghost use Rattle.lru_cache.specs.Cache.{hashes_from};
+ghost use Rattle.lru_owned_cache.specs.Cache.{hashes_from};
 ghost use Rattle.lru_deadlines.specs.Deadlines.{living};
-ghost use Rattle.lru_cache.specs.Entries.{weight_of};
+ghost use Rattle.lru_owned_cache.specs.Entries.{weight_of};
 ghost use Rattle.lru_shared.specs.Shards.{home, Sees, Owns};
 ghost use Rattle.lru_shared_deadlines.specs.Ages.{moment};
 ghost use Rattle.lru_shared_deadlines.specs.Calls.{ShowsLiving, Lends, Gets, SweepsShard, PutsIn, VisitsEach, GetsOrPuts};
@@ -17,7 +17,7 @@ use crate::ages::Moment;
 pub use crate::ages::{Aged, Ages, Gone};
 use crate::calls;
 use crate::one::Shard;
-use lru_cache::cache::Refused;
+use lru_owned_cache::cache::Refused;
 use lru_deadlines::deadlines::{DeadlineCache, Until};
 use lru_index::alike::SameHashes;
 use lru_index::hashing::SeededHashes;

@@ -13,7 +13,7 @@ use crate::calls;
 use crate::one::Shard;
 use crate::sharded::empty_shards;
 use crossbeam_utils::CachePadded;
-use lru_cache::cache::Refused;
+use lru_owned_cache::cache::Refused;
 use lru_deadlines::deadlines::{DeadlineCache, Until};
 use lru_index::alike::SameHashes;
 use lru_index::hashing::SeededHashes;

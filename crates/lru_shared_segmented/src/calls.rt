@@ -1,8 +1,8 @@
 //! The calls on keys and values that stand in shards, written once: of shards of one owner and of shards behind locks.
 ghost use Rattle.std.specs.Prelude.{◌≡◌, ◌<◌, ◌⊎◌, Ok, Err, None, is_some, length, IfOk, IfErr};
 ghost use Rattle.lru_index.specs.Hashing.{key_hash};
-ghost use Rattle.lru_cache.specs.Cache.{entry_of};
-ghost use Rattle.lru_cache.specs.Entries.{weight_of};
+ghost use Rattle.lru_owned_cache.specs.Cache.{entry_of};
+ghost use Rattle.lru_owned_cache.specs.Entries.{weight_of};
 ghost use Rattle.lru_segmented.specs.Segmented.{entries};
 ghost use Rattle.lru_shared.specs.Shards.{home};
 ghost use Rattle.lru_shared.specs.Calls.{ShowsEntry, VisitsEach};
@@ -11,7 +11,7 @@ ghost use Rattle.lru_shared_segmented.specs.Making.{PutsMissing, GetsOrPuts, End
 
 use crate::one;
 use crate::one::Shard;
-use lru_cache::cache::{Cause, Entry, Refused};
+use lru_owned_cache::cache::{Cause, Entry, Refused};
 use lru_index::alike::SameHashes;
 use lru_index::hashing::hash_of;
 use lru_index::keys::Query;

@@ -1,13 +1,13 @@
 //! What is done to one shard and counted, by a hash that was made to tell the shard.
 ghost use Rattle.std.specs.Prelude.{◌≡◌, is_some};
 ghost use Rattle.lru_index.specs.Hashing.{key_hash};
-ghost use Rattle.lru_cache.specs.Cache.{entry_of};
+ghost use Rattle.lru_owned_cache.specs.Cache.{entry_of};
 ghost use Rattle.lru_segmented.specs.Segmented.{entries};
 ghost use Rattle.lru_shared.specs.Calls.{ShowsEntry, VisitsEach};
 ghost use Rattle.lru_shared_segmented.specs.Calls.{whole, Gets, Lends, Takes, PopsShard, ClearsShard, LimitsShard, PutsCounted};
 ghost use Rattle.lru_shared_segmented.specs.Making.{PutsMissing};
 
-use lru_cache::cache::{Entry, Refused};
+use lru_owned_cache::cache::{Entry, Refused};
 use lru_index::alike::SameHashes;
 use lru_index::keys::Query;
 use lru_segmented::segmented::SegmentedCache;

@@ -1,8 +1,8 @@
 //! A segmented cache of one owner in shards: what a shared one is behind its locks.
 ghost use Rattle.std.specs.Prelude.{◌≡◌, ◌<◌, ◌/◌, is_some, length, replicate, IfOk};
 ghost use Rattle.lru_index.specs.Hashing.{key_hash, seeded, unseeded};
-ghost use Rattle.lru_cache.specs.Cache.{hashes_from, entry_of};
-ghost use Rattle.lru_cache.specs.Entries.{weight_of};
+ghost use Rattle.lru_owned_cache.specs.Cache.{hashes_from, entry_of};
+ghost use Rattle.lru_owned_cache.specs.Entries.{weight_of};
 ghost use Rattle.lru_segmented.specs.Segmented.{entries};
 ghost use Rattle.lru_shared.specs.Shards.{home, Sees, Owns};
 ghost use Rattle.lru_shared.specs.Calls.{ShowsEntry, VisitsEach};
@@ -13,7 +13,7 @@ ghost use Rattle.lru_shared_segmented.specs.Sharded.{empty_shard, empty_shards};
 
 use crate::calls;
 use crate::one::Shard;
-use lru_cache::cache::{Entry, Refused};
+use lru_owned_cache::cache::{Entry, Refused};
 use lru_index::alike::SameHashes;
 use lru_index::hashing::SeededHashes;
 use lru_index::keys::Query;

@@ -1,7 +1,7 @@
 //! A segmented cache that threads share.
 ghost use Rattle.std.specs.Prelude.{◌≡◌, ◌<◌, length, vec_len, is_some, IfErr};
-ghost use Rattle.lru_cache.specs.Cache.{entry_of};
-ghost use Rattle.lru_cache.specs.Entries.{weight_of};
+ghost use Rattle.lru_owned_cache.specs.Cache.{entry_of};
+ghost use Rattle.lru_owned_cache.specs.Entries.{weight_of};
 ghost use Rattle.lru_segmented.specs.Segmented.{entries};
 ghost use Rattle.lru_shared.specs.Answers.{HandsBack};
 ghost use Rattle.lru_shared.specs.Calls.{ShowsEntry, VisitsEach};
@@ -12,7 +12,7 @@ use crate::calls;
 use crate::one::Shard;
 use crate::sharded::empty_shards;
 use crossbeam_utils::CachePadded;
-use lru_cache::cache::{Entry, Refused};
+use lru_owned_cache::cache::{Entry, Refused};
 use lru_index::alike::SameHashes;
 use lru_index::hashing::SeededHashes;
 use lru_index::keys::Query;

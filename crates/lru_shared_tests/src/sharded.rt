@@ -1,7 +1,7 @@
 //! Shards of one owner: each call, and that a shared cache does behind its locks what they do.
 ghost use Rattle.std.specs.Prelude.{◌<◌};
 
-use lru_cache::cache::Entry;
+use lru_owned_cache::cache::Entry;
 use lru_index::hashing::SeededHashes;
 use lru_shared::counts::Counts;
 use lru_shared::sharded::ShardedCache;

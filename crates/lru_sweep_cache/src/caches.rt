@@ -1,5 +1,5 @@
 //! A cache that grows, has room made, and is full.
-use lru_cache::cache::{Cache, Cause, Entry, NotPut, Refused};
+use lru_owned_cache::cache::{Cache, Cause, Entry, NotPut, Refused};
 use std::alloc::{AllocError, Global};
 use std::io;
 use std::io::Write;

@@ -1,5 +1,5 @@
 //! A cache with deadlines that grows, and is swept.
-use lru_cache::cache::{Cause, Entry, Refused};
+use lru_owned_cache::cache::{Cause, Entry, Refused};
 use lru_deadlines::deadlines::{DeadlineCache, Until};
 use std::alloc::{AllocError, Global};
 use std::io;

@@ -1,5 +1,5 @@
 //! A segmented cache that grows: a refused put leaves both segments as they are.
-use lru_cache::cache::{Cause, Entry, Refused};
+use lru_owned_cache::cache::{Cause, Entry, Refused};
 use lru_segmented::segmented::SegmentedCache;
 use std::alloc::{AllocError, Global};
 use std::io;

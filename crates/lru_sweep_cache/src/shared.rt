@@ -1,5 +1,5 @@
 //! A shared cache of texts, whose clones take memory too.
-use lru_cache::cache::Cause;
+use lru_owned_cache::cache::Cause;
 use lru_shared::shared::{NotGot, SharedCache};
 use std::alloc::{AllocError, Global};
 use std::io;

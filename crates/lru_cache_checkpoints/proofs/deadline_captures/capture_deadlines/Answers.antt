@@ -1,6 +1,6 @@
 use Rattle.std.proofs.Common.{ℕ, List, [], ◌∷◌, ◌++◌, refl, sym, ap, ◌∙◌, subst, ◌≡◌, append_assoc, append-nil}
 use Rattle.std.specs.Prelude.{map}
-use Rattle.lru_cache.specs.Cache.{parts_of}
+use Rattle.lru_owned_cache.specs.Cache.{parts_of}
 use Rattle.lru_frames.specs.Copies.{AreEach}
 use Rattle.lru_deadlines.specs.declared.deadlines.Until.{Until}
 use Rattle.lru_cache_checkpoints.specs.CapturedDeadlines.{IsDeadlineCopy}

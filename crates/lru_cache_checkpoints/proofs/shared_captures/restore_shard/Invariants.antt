@@ -1,7 +1,7 @@
 use Rattle.std.proofs.Common.{◌≡◌, ℕ, ◌+◌, ◌≤◌, length}
 use Rattle.std.specs.Prelude.{Result, reverse}
 use Rattle.std.specs.Vec.Iter.{into_iter_items, into_iter_len}
-use Rattle.lru_cache.specs.declared.cache.Refused.{Refused}
+use Rattle.lru_owned_cache.specs.declared.cache.Refused.{Refused}
 use Rattle.lru_cache_checkpoints.specs.Captures.{MayPutEntries}
 use Rattle.lru_cache_checkpoints.proofs.shared_captures.restore_shard.Given as goal
 

@@ -1,6 +1,6 @@
 use Rattle.std.proofs.Common.{sym, subst}
 use Rattle.std.specs.Prelude.{map}
-use Rattle.lru_cache.specs.Cache.{parts_of}
+use Rattle.lru_owned_cache.specs.Cache.{parts_of}
 use Rattle.lru_frames.specs.Copies.{AreEach}
 use Rattle.lru_cache_checkpoints.specs.CapturedDeadlines.{IsDeadlineCopy}
 use Rattle.lru_cache_checkpoints.proofs.Restored.{if_all_ok}

@@ -1,7 +1,7 @@
 use Rattle.std.proofs.Common.{sym, arith}
 use Rattle.std.specs.Prelude.{nat_eq}
 use Rattle.lru_segmented.specs.Segmented.{entries}
-use Rattle.lru_cache.specs.Cache.{entry_of}
+use Rattle.lru_owned_cache.specs.Cache.{entry_of}
 use Rattle.lru_segmented.proofs.UnitPutting.{none_found, one_found, old_within, old_heavy, old_light}
 use Rattle.lru_segmented.proofs.segmented_unit.SegmentedUnit.allow.Goals as goal
 
