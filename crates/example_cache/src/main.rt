@@ -10,8 +10,8 @@
 
 use lru_owned_cache::cache::Cache;
 use lru_cache_checkpoints::cache_captures::{CacheSource, restore_shards};
-use lru_checkpoints::generations::save;
-use lru_checkpoints::newest_loading::{Loaded, load};
+use lru_generations::generations::save;
+use lru_generations::newest_loading::{Loaded, load};
 use lru_host_folder::host_folder::HostFolder;
 use std::io::ErrorKind;
 use std::process::ExitCode;

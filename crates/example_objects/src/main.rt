@@ -14,8 +14,8 @@
 
 mod store;
 
-use lru_checkpoints::generations::save;
-use lru_checkpoints::newest_loading::{Loaded, load};
+use lru_generations::generations::save;
+use lru_generations::newest_loading::{Loaded, load};
 use lru_host_folder::host_folder::HostFolder;
 use lru_order_checkpoints::core_captures::{CoreSource, restore_shards};
 use rand::rngs::StdRng;

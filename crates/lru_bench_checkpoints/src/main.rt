@@ -8,9 +8,9 @@
 
 use lru_cores::lru_core::LruCore;
 use lru_frames::row::Row;
-use lru_checkpoints::generations::{save, save_after};
-use lru_checkpoints::known::Known;
-use lru_checkpoints::newest_loading::{Checkpoint, load};
+use lru_generations::generations::{save, save_after};
+use lru_generations::known::Known;
+use lru_generations::newest_loading::{Checkpoint, load};
 use lru_host_folder::host_folder::HostFolder;
 use lru_order_checkpoints::core_captures::restore_shards;
 use std::alloc::{AllocError, Global};

@@ -2,30 +2,30 @@
 ghost use Rattle.std.specs.Prelude.{◌≡◌, ◌↔◌, ◌⊎◌, ℕ, List, false, None, Some, IfErr, IfOk, IfSome, OnOk, option_copied};
 ghost use Rattle.std.specs.FinMap.{get};
 ghost use Rattle.lru_folder.specs.Names.{has_slash};
-ghost use Rattle.lru_checkpoints.specs.declared.names.PartName.{PartName};
-ghost use Rattle.lru_checkpoints.specs.Names.{IsPart, part_path};
-ghost use Rattle.lru_checkpoints.specs.Touching.{TouchesNothing};
-ghost use Rattle.lru_checkpoints.specs.Checkpoints.{Shards, AreHandedOut};
-ghost use Rattle.lru_checkpoints.specs.Loads.{IsFault, IsRefused, IsRefusedFrame};
-ghost use Rattle.lru_checkpoints.specs.Faults.{IsFailed, IsUnlisted};
-ghost use Rattle.lru_checkpoints.specs.Newest.{AreGenerations, ArePassed, IsAsKnown, IsHighestTaken, IsNewest};
-ghost use Rattle.lru_checkpoints.specs.Saving.{IsForGood, IsOlder, IsUnsaved, IsUnused, SavesAfter, SavesNext, TellsPassed};
+ghost use Rattle.lru_generations.specs.declared.names.PartName.{PartName};
+ghost use Rattle.lru_generations.specs.Names.{IsPart, part_path};
+ghost use Rattle.lru_generations.specs.Touching.{TouchesNothing};
+ghost use Rattle.lru_generations.specs.Checkpoints.{Shards, AreHandedOut};
+ghost use Rattle.lru_generations.specs.Loads.{IsFault, IsRefused, IsRefusedFrame};
+ghost use Rattle.lru_generations.specs.Faults.{IsFailed, IsUnlisted};
+ghost use Rattle.lru_generations.specs.Newest.{AreGenerations, ArePassed, IsAsKnown, IsHighestTaken, IsNewest};
+ghost use Rattle.lru_generations.specs.Saving.{IsForGood, IsOlder, IsUnsaved, IsUnused, SavesAfter, SavesNext, TellsPassed};
 ghost use Rattle.lru_cache_checkpoints.specs.Restores.{IfUnloaded, IsCopyOf, Restores};
 
 use crate::restored::{RestoreError, Restored};
 use lru_owned_cache::cache::Cache;
 use crate::cache_captures::{CacheSource, restore_shards};
-use lru_checkpoints::errors::CheckpointError;
+use lru_generations::errors::CheckpointError;
 use lru_folder::folder::Folder;
 use lru_frames::stored::Stored;
-use lru_checkpoints::generations::{Saved, save, save_after};
-use lru_checkpoints::known::Known;
-use lru_checkpoints::newest_loading::{Loaded, load};
+use lru_generations::generations::{Saved, save, save_after};
+use lru_generations::known::Known;
+use lru_generations::newest_loading::{Loaded, load};
 use lru_folder::synced_folder::SyncedFolder;
 use std::alloc::Global;
 use std::hash::Hash;
 
-/// Saves the entries of a cache as the next checkpoint, of one shard, as `save` of `lru_checkpoints` does.
+/// Saves the entries of a cache as the next checkpoint, of one shard, as `save` of `lru_generations` does.
 pub fn save_cache<F: SyncedFolder, K: Hash + Clone + Stored, V: Clone + Stored>(
     alloc: Global,
     folder: &mut F,
@@ -64,7 +64,7 @@ pub fn save_cache<F: SyncedFolder, K: Hash + Clone + Stored, V: Clone + Stored>(
     save(alloc, folder, dir, file_name, &CacheSource { cache })
 }
 
-/// Saves as `save_cache` does, but need not read the frames of the checkpoint that is known, as `save_after` of `lru_checkpoints`.
+/// Saves as `save_cache` does, but need not read the frames of the checkpoint that is known, as `save_after` of `lru_generations`.
 pub fn save_cache_after<F: SyncedFolder, K: Hash + Clone + Stored, V: Clone + Stored>(
     alloc: Global,
     folder: &mut F,

@@ -1,7 +1,7 @@
 //! Caches saved as checkpoints and loaded again, each by one call.
 //!
 //! A save lasts once it answers Ok, and a load answers the newest checkpoint that is whole. It puts copies
-//! (`lru_cache_checkpoints`) and generations (`lru_checkpoints`) together, and adds nothing of its own.
+//! (`lru_cache_checkpoints`) and generations (`lru_generations`) together, and adds nothing of its own.
 #![tactic(auto)]
 
 pub mod cache_captures;

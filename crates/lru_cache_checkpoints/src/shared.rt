@@ -2,32 +2,32 @@
 ghost use Rattle.std.specs.Prelude.{◌≡◌, ◌↔◌, ◌⊎◌, ◌≤◌, ℕ, List, false, None, Some, IfErr, IfOk, IfSome, OnOk, option_copied};
 ghost use Rattle.std.specs.FinMap.{get};
 ghost use Rattle.lru_folder.specs.Names.{has_slash};
-ghost use Rattle.lru_checkpoints.specs.declared.names.PartName.{PartName};
-ghost use Rattle.lru_checkpoints.specs.Names.{IsPart, part_path};
-ghost use Rattle.lru_checkpoints.specs.Touching.{TouchesNothing};
+ghost use Rattle.lru_generations.specs.declared.names.PartName.{PartName};
+ghost use Rattle.lru_generations.specs.Names.{IsPart, part_path};
+ghost use Rattle.lru_generations.specs.Touching.{TouchesNothing};
 ghost use Rattle.lru_cache_checkpoints.specs.Captures.{MayCopy};
-ghost use Rattle.lru_checkpoints.specs.Checkpoints.{Shards, AreHandedOut, most_shards};
-ghost use Rattle.lru_checkpoints.specs.Loads.{IsFault, IsRefused, IsRefusedFrame};
-ghost use Rattle.lru_checkpoints.specs.Faults.{IsFailed, IsUnlisted};
-ghost use Rattle.lru_checkpoints.specs.Newest.{AreGenerations, ArePassed, IsAsKnown, IsHighestTaken, IsNewest};
-ghost use Rattle.lru_checkpoints.specs.Saving.{IsForGood, IsOlder, IsUnsaved, IsUnused, SavesAfter, SavesNext, TellsPassed};
+ghost use Rattle.lru_generations.specs.Checkpoints.{Shards, AreHandedOut, most_shards};
+ghost use Rattle.lru_generations.specs.Loads.{IsFault, IsRefused, IsRefusedFrame};
+ghost use Rattle.lru_generations.specs.Faults.{IsFailed, IsUnlisted};
+ghost use Rattle.lru_generations.specs.Newest.{AreGenerations, ArePassed, IsAsKnown, IsHighestTaken, IsNewest};
+ghost use Rattle.lru_generations.specs.Saving.{IsForGood, IsOlder, IsUnsaved, IsUnused, SavesAfter, SavesNext, TellsPassed};
 ghost use Rattle.lru_cache_checkpoints.specs.Restores.{IfUnloaded, MayRestore};
 
 use crate::restored::{RestoreError, Restored};
 use crate::shared_captures::{SharedSource, restore_shards};
-use lru_checkpoints::errors::CheckpointError;
+use lru_generations::errors::CheckpointError;
 use lru_folder::folder::Folder;
 use lru_frames::stored::Stored;
-use lru_checkpoints::generations::{Saved, save, save_after};
-use lru_checkpoints::known::Known;
-use lru_checkpoints::newest_loading::{Loaded, load};
+use lru_generations::generations::{Saved, save, save_after};
+use lru_generations::known::Known;
+use lru_generations::newest_loading::{Loaded, load};
 use lru_shared::shared::SharedCache;
 use lru_folder::synced_folder::SyncedFolder;
 use std::alloc::Global;
 use std::hash::Hash;
 use std::sync::Wait;
 
-/// Saves the entries of a shared cache as the next checkpoint, of N shards, as `save` of `lru_checkpoints` does. A shard is copied
+/// Saves the entries of a shared cache as the next checkpoint, of N shards, as `save` of `lru_generations` does. A shard is copied
 /// under its lock when its turn comes, and the lock is free again before its copies are encoded and written.
 pub fn save_shared<F: SyncedFolder, K: Hash + Clone + Stored, V: Clone + Stored, const N: usize>(
     rt: &impl Wait,
@@ -69,7 +69,7 @@ pub fn save_shared<F: SyncedFolder, K: Hash + Clone + Stored, V: Clone + Stored,
     save(alloc, folder, dir, file_name, &SharedSource { rt, cache })
 }
 
-/// Saves as `save_shared` does, but need not read the frames of the checkpoint that is known, as `save_after` of `lru_checkpoints`.
+/// Saves as `save_shared` does, but need not read the frames of the checkpoint that is known, as `save_after` of `lru_generations`.
 pub fn save_shared_after<
     F: SyncedFolder,
     K: Hash + Clone + Stored,

@@ -3,27 +3,27 @@
 ghost use Rattle.std.specs.Prelude.{◌≡◌, ◌↔◌, ◌≤◌, ℕ, List, false, None, Some, IfErr, IfOk, OnOk, option_copied};
 ghost use Rattle.std.specs.FinMap.{get};
 ghost use Rattle.lru_folder.specs.Names.{has_slash};
-ghost use Rattle.lru_checkpoints.specs.declared.names.PartName.{PartName};
-ghost use Rattle.lru_checkpoints.specs.Names.{IsPart, part_path};
+ghost use Rattle.lru_generations.specs.declared.names.PartName.{PartName};
+ghost use Rattle.lru_generations.specs.Names.{IsPart, part_path};
 ghost use Rattle.lru_cache_checkpoints.specs.CapturedAges.{MayCopyAged};
-ghost use Rattle.lru_checkpoints.specs.Checkpoints.{Shards, AreHandedOut, most_shards};
-ghost use Rattle.lru_checkpoints.specs.Loads.{IsFault};
-ghost use Rattle.lru_checkpoints.specs.Newest.{IsAsKnown, IsHighestTaken, IsNewest};
-ghost use Rattle.lru_checkpoints.specs.Saving.{IsForGood, IsOlder, IsUnsaved, IsUnused, SavesAfter, SavesNext, TellsPassed};
+ghost use Rattle.lru_generations.specs.Checkpoints.{Shards, AreHandedOut, most_shards};
+ghost use Rattle.lru_generations.specs.Loads.{IsFault};
+ghost use Rattle.lru_generations.specs.Newest.{IsAsKnown, IsHighestTaken, IsNewest};
+ghost use Rattle.lru_generations.specs.Saving.{IsForGood, IsOlder, IsUnsaved, IsUnused, SavesAfter, SavesNext, TellsPassed};
 ghost use Rattle.lru_cache_checkpoints.specs.Ages.{aged_bytes, IsAged};
 
 use crate::shared_deadline_captures::SharedDeadlineSource;
-use lru_checkpoints::errors::CheckpointError;
+use lru_generations::errors::CheckpointError;
 use lru_frames::stored::Stored;
-use lru_checkpoints::generations::{Saved, save, save_after};
-use lru_checkpoints::known::Known;
+use lru_generations::generations::{Saved, save, save_after};
+use lru_generations::known::Known;
 use lru_shared_deadlines::shared::SharedDeadlineCache;
 use lru_folder::synced_folder::SyncedFolder;
 use std::alloc::Global;
 use std::hash::Hash;
 use std::sync::Wait;
 
-/// Saves the entries of a shared cache that end as the next checkpoint, of N shards, as `save` of `lru_checkpoints` does. A shard
+/// Saves the entries of a shared cache that end as the next checkpoint, of N shards, as `save` of `lru_generations` does. A shard
 /// is copied under its lock when its turn comes, and the lock is free again before its copies are encoded and written.
 pub fn save_shared_deadlines<
     F: SyncedFolder,
@@ -76,7 +76,7 @@ pub fn save_shared_deadlines<
     )
 }
 
-/// Saves as `save_shared_deadlines` does, but need not read the frames of the checkpoint that is known, as `save_after` of `lru_checkpoints`.
+/// Saves as `save_shared_deadlines` does, but need not read the frames of the checkpoint that is known, as `save_after` of `lru_generations`.
 pub fn save_shared_deadlines_after<
     F: SyncedFolder,
     K: Hash + Clone + Stored,

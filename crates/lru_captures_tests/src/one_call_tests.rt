@@ -8,7 +8,7 @@ use lru_cores::lru_core::LruCore;
 use lru_deadlines::deadlines::DeadlineCache;
 use lru_folder::folder::Folder;
 use lru_frames::row::Row;
-use lru_checkpoints::generations::Saved;
+use lru_generations::generations::Saved;
 use lru_locks::lru::Lru;
 use lru_memory_folder::memory_folder::MemoryFolder;
 use lru_order_checkpoints::{core_captures, shared_captures as lru_captures};

@@ -1,17 +1,17 @@
 //! Rows captured, saved, loaded and put back.
 ghost use Rattle.std.specs.Prelude.{◌<◌, ◌≤◌};
-ghost use Rattle.lru_checkpoints.specs.Checkpoints.{most_shards};
+ghost use Rattle.lru_generations.specs.Checkpoints.{most_shards};
 
 use lru_owned_cache::cache::Cache;
 use lru_cache_checkpoints::{cache_captures, shared_captures};
-use lru_checkpoints::errors::CheckpointError;
+use lru_generations::errors::CheckpointError;
 use lru_cores::lru_core::LruCore;
 use lru_folder::folder::Folder;
 use lru_frames::row::Row;
 use lru_frames::source::Source;
 use lru_frames::stored::Stored;
-use lru_checkpoints::generations::save;
-use lru_checkpoints::newest_loading::{Loaded, load};
+use lru_generations::generations::save;
+use lru_generations::newest_loading::{Loaded, load};
 use lru_locks::lru::Lru;
 use lru_memory_folder::memory_folder::MemoryFolder;
 use lru_order_checkpoints::{core_captures, shared_captures as lru_captures, snapshots};

@@ -1,7 +1,7 @@
 //! Which calls of the system a save of a checkpoint makes, in which order.
 use crate::script::Script;
 use lru_frames::row::Row;
-use lru_checkpoints::generations::save;
+use lru_generations::generations::save;
 use lru_host_folder::host_folder::SystemFolder;
 use std::io::ErrorKind;
 use std::test::Fail;

@@ -1,4 +1,4 @@
-//! Tests of `lru_frames`, `lru_checkpoints`.
+//! Tests of `lru_frames`, `lru_generations`.
 //!
 //! What is expected is worked out by hand, or is what a plain simulation answers, and never what the program answered.
 #![tactic(auto)]

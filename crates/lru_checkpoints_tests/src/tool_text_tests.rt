@@ -1,7 +1,7 @@
 //! Worked texts. They were written by hand.
 use crate::tool_fixture::{Run, answers, empty, other_run_on_empty};
 use lru_frames::row::Row;
-use lru_checkpoints::generations::save;
+use lru_generations::generations::save;
 use std::alloc::{AllocError, Global};
 use std::test::Fail;
 

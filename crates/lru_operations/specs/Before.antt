@@ -2,7 +2,7 @@
 use Rattle.std.specs.Prelude.{◌<◌, ◌^◌, ℕ, List}
 use Rattle.lru_folder.specs.Files.{Files}
 use Rattle.lru_frames.specs.Words.{word}
-use Rattle.lru_checkpoints.specs.Loaded.{IsReadable}
+use Rattle.lru_generations.specs.Loaded.{IsReadable}
 
 abbrev pub IsWord : ℕ → Type 0
 IsWord n = n < 2 ^ 64

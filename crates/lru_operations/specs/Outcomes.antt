@@ -5,19 +5,19 @@ use Rattle.std.specs.FinMap.{get}
 use Rattle.lru_folder.specs.Meaning.{Meaning}
 use Rattle.lru_frames.specs.declared.row.Row.{Row}
 use Rattle.lru_frames.specs.Words.{word}
-use Rattle.lru_checkpoints.specs.declared.errors.CheckpointError.{CheckpointError}
-use Rattle.lru_checkpoints.specs.Checkpoints.{Shards, AreHandedOut}
-use Rattle.lru_checkpoints.specs.Loads.{IsFault, IsRefused, IsRefusedFrame}
-use Rattle.lru_checkpoints.specs.declared.names.PartName.{PartName}
-use Rattle.lru_checkpoints.specs.Names.{IsPart, part_path}
-use Rattle.lru_checkpoints.specs.declared.generation_checks.Told.{Told}
-use Rattle.lru_checkpoints.specs.declared.newest_loading.Loaded.{Loaded}
-use Rattle.lru_checkpoints.specs.declared.newest.Passed.{Passed}
-use Rattle.lru_checkpoints.specs.Faults.{IsFailed, IsUnlisted}
-use Rattle.lru_checkpoints.specs.Loaded.{IsLoaded, IsLoadedBelow, number_of}
-use Rattle.lru_checkpoints.specs.Newest.{AreGenerations, AreGenerationsBelow, ArePassed, IsHighest, IsNewest}
-use Rattle.lru_checkpoints.specs.Saving.{IsForGood, IsOlder, IsUnremoved, IsUnsaved, IsUnused, SavesNext, TellsPassed}
-use Rattle.lru_checkpoints.specs.Told.{AreAll, IsTold}
+use Rattle.lru_generations.specs.declared.errors.CheckpointError.{CheckpointError}
+use Rattle.lru_generations.specs.Checkpoints.{Shards, AreHandedOut}
+use Rattle.lru_generations.specs.Loads.{IsFault, IsRefused, IsRefusedFrame}
+use Rattle.lru_generations.specs.declared.names.PartName.{PartName}
+use Rattle.lru_generations.specs.Names.{IsPart, part_path}
+use Rattle.lru_generations.specs.declared.generation_checks.Told.{Told}
+use Rattle.lru_generations.specs.declared.newest_loading.Loaded.{Loaded}
+use Rattle.lru_generations.specs.declared.newest.Passed.{Passed}
+use Rattle.lru_generations.specs.Faults.{IsFailed, IsUnlisted}
+use Rattle.lru_generations.specs.Loaded.{IsLoaded, IsLoadedBelow, number_of}
+use Rattle.lru_generations.specs.Newest.{AreGenerations, AreGenerationsBelow, ArePassed, IsHighest, IsNewest}
+use Rattle.lru_generations.specs.Saving.{IsForGood, IsOlder, IsUnremoved, IsUnsaved, IsUnused, SavesNext, TellsPassed}
+use Rattle.lru_generations.specs.Told.{AreAll, IsTold}
 use Rattle.lru_operations.specs.declared.outcome.Outcome.{Outcome}
 use Rattle.lru_operations.specs.declared.outcome.Outcome.TheVariants as outcome
 use Rattle.lru_operations.specs.declared.requests.Misuse.TheVariants as misuse

@@ -3,14 +3,14 @@ use Rattle.std.specs.Prelude.{ℕ, Bool, true, false, List, [], ◌∷◌, ◌++
 use Rattle.std.specs.declared.alloc.Global.{Global}
 use Rattle.std.specs.List.{flat_map, list_any}
 use Rattle.lru_frames.specs.declared.row.Row.{Row}
-use Rattle.lru_checkpoints.specs.declared.errors.CheckpointFile.TheVariants as file
-use Rattle.lru_checkpoints.specs.declared.errors.CheckpointError.{CheckpointError}
-use Rattle.lru_checkpoints.specs.declared.errors.CheckpointError.TheVariants as error
-use Rattle.lru_checkpoints.specs.Texts.{error_text}
-use Rattle.lru_checkpoints.specs.declared.generation_checks.Told.{Told}
-use Rattle.lru_checkpoints.specs.declared.newest_loading.Checkpoint.{Checkpoint}
-use Rattle.lru_checkpoints.specs.declared.newest_loading.Loaded.{Loaded}
-use Rattle.lru_checkpoints.specs.declared.newest.Passed.{Passed}
+use Rattle.lru_generations.specs.declared.errors.CheckpointFile.TheVariants as file
+use Rattle.lru_generations.specs.declared.errors.CheckpointError.{CheckpointError}
+use Rattle.lru_generations.specs.declared.errors.CheckpointError.TheVariants as error
+use Rattle.lru_generations.specs.Texts.{error_text}
+use Rattle.lru_generations.specs.declared.generation_checks.Told.{Told}
+use Rattle.lru_generations.specs.declared.newest_loading.Checkpoint.{Checkpoint}
+use Rattle.lru_generations.specs.declared.newest_loading.Loaded.{Loaded}
+use Rattle.lru_generations.specs.declared.newest.Passed.{Passed}
 use Rattle.lru_operations.specs.declared.requests.Misuse.{Misuse}
 use Rattle.lru_operations.specs.declared.requests.Misuse.TheVariants as misuse
 use Rattle.lru_operations.specs.declared.outcome.Verdict.{Verdict}

@@ -4,10 +4,10 @@ ghost use Rattle.std.specs.List.{list_any};
 ghost use Rattle.lru_operations.specs.Texts.{checked_status, is_damaged, is_whole, shown_status, status_of, verdict_of, verdict_on};
 
 use crate::requests::Misuse;
-use lru_checkpoints::errors::{CheckpointError, CheckpointFile};
-use lru_checkpoints::generation_checks::Told;
-use lru_checkpoints::newest_loading::Loaded;
-use lru_checkpoints::newest::Passed;
+use lru_generations::errors::{CheckpointError, CheckpointFile};
+use lru_generations::generation_checks::Told;
+use lru_generations::newest_loading::Loaded;
+use lru_generations::newest::Passed;
 
 /// Whether a generation is whole.
 #[derive(Clone, Copy, Debug, PartialEq, Eq)]

@@ -2,7 +2,7 @@
 ghost use Rattle.std.specs.Prelude.{◌≡◌, ◌⊎◌, ◌↔◌, ◌<◌, ◌^◌, ℕ, false, length, IfOk, IfSome};
 ghost use Rattle.lru_folder.specs.Names.{has_slash};
 ghost use Rattle.lru_frames.specs.Words.{word};
-ghost use Rattle.lru_checkpoints.specs.Saving.{SavesNext};
+ghost use Rattle.lru_generations.specs.Saving.{SavesNext};
 ghost use Rattle.lru_operations.specs.Before.{IsWord};
 ghost use Rattle.lru_operations.specs.Texts.{Held};
 ghost use Rattle.lru_operations.specs.Outcomes.{rows_in, AreShardsOf, HandsOut, ComesOfRows, ComesOfInput, ComesOfSave, SavesInput};
@@ -10,7 +10,7 @@ ghost use Rattle.lru_operations.specs.Outcomes.{rows_in, AreShardsOf, HandsOut, 
 use crate::input_rows::{InputRowsError, rows_from};
 use crate::outcome::Outcome;
 use lru_frames::row::Row;
-use lru_checkpoints::generations::save;
+use lru_generations::generations::save;
 use lru_lines::input::{Input, InputError};
 use lru_folder::synced_folder::SyncedFolder;
 use std::alloc::{AllocError, Global};

@@ -4,11 +4,11 @@ use Rattle.lru_folder.specs.Files.{Files}
 use Rattle.lru_frames.specs.declared.row.Row.{Row}
 use Rattle.lru_shard.specs.declared.unit.Refused as row
 use Rattle.lru_cores.specs.Core.{Core, list_at}
-use Rattle.lru_checkpoints.specs.declared.errors.CheckpointError.{CheckpointError}
-use Rattle.lru_checkpoints.specs.Checkpoints.{Shards, HasCheckpoint}
-use Rattle.lru_checkpoints.specs.Loads.{IsFault}
-use Rattle.lru_checkpoints.specs.declared.newest_loading.Checkpoint.{Checkpoint}
-use Rattle.lru_checkpoints.specs.Loaded.{IsLoaded, IsReadable, IsSameCheckpoint, number_of}
+use Rattle.lru_generations.specs.declared.errors.CheckpointError.{CheckpointError}
+use Rattle.lru_generations.specs.Checkpoints.{Shards, HasCheckpoint}
+use Rattle.lru_generations.specs.Loads.{IsFault}
+use Rattle.lru_generations.specs.declared.newest_loading.Checkpoint.{Checkpoint}
+use Rattle.lru_generations.specs.Loaded.{IsLoaded, IsReadable, IsSameCheckpoint, number_of}
 use Rattle.lru_order_checkpoints.specs.Captures.{AreCopies, PutsShards, MayPutShards}
 use Rattle.lru_order_checkpoints.specs.declared.restored.Restored.{Restored}
 use Rattle.lru_order_checkpoints.specs.declared.restored.RestoreError.{RestoreError}

@@ -3,29 +3,29 @@ ghost use Rattle.std.specs.Prelude.{◌≡◌, ◌↔◌, ◌⊎◌, ◌≤◌, 
 ghost use Rattle.std.specs.FinMap.{get};
 ghost use Rattle.lru_folder.specs.Names.{has_slash};
 ghost use Rattle.lru_frames.specs.Words.{word};
-ghost use Rattle.lru_checkpoints.specs.declared.names.PartName.{PartName};
-ghost use Rattle.lru_checkpoints.specs.Names.{IsPart, part_path};
-ghost use Rattle.lru_checkpoints.specs.Touching.{TouchesNothing};
-ghost use Rattle.lru_checkpoints.specs.Checkpoints.{Shards, AreHandedOut, most_shards};
-ghost use Rattle.lru_checkpoints.specs.Loads.{IsFault, IsRefused, IsRefusedFrame};
-ghost use Rattle.lru_checkpoints.specs.Faults.{IsFailed, IsUnlisted};
-ghost use Rattle.lru_checkpoints.specs.Newest.{AreGenerations, ArePassed, IsAsKnown, IsHighestTaken, IsNewest};
-ghost use Rattle.lru_checkpoints.specs.Saving.{IsForGood, IsOlder, IsUnsaved, IsUnused, SavesAfter, SavesNext, TellsPassed};
+ghost use Rattle.lru_generations.specs.declared.names.PartName.{PartName};
+ghost use Rattle.lru_generations.specs.Names.{IsPart, part_path};
+ghost use Rattle.lru_generations.specs.Touching.{TouchesNothing};
+ghost use Rattle.lru_generations.specs.Checkpoints.{Shards, AreHandedOut, most_shards};
+ghost use Rattle.lru_generations.specs.Loads.{IsFault, IsRefused, IsRefusedFrame};
+ghost use Rattle.lru_generations.specs.Faults.{IsFailed, IsUnlisted};
+ghost use Rattle.lru_generations.specs.Newest.{AreGenerations, ArePassed, IsAsKnown, IsHighestTaken, IsNewest};
+ghost use Rattle.lru_generations.specs.Saving.{IsForGood, IsOlder, IsUnsaved, IsUnused, SavesAfter, SavesNext, TellsPassed};
 ghost use Rattle.lru_order_checkpoints.specs.Restores.{IfUnloaded, IsCopyOf, IsSameWord, IsWord, Restores};
 
 use crate::restored::{RestoreError, Restored};
-use lru_checkpoints::errors::CheckpointError;
+use lru_generations::errors::CheckpointError;
 use lru_cores::lru_core::LruCore;
 use lru_folder::folder::Folder;
 use lru_frames::stored::Stored;
-use lru_checkpoints::generations::{Saved, save, save_after};
-use lru_checkpoints::known::Known;
-use lru_checkpoints::newest_loading::{Loaded, load};
+use lru_generations::generations::{Saved, save, save_after};
+use lru_generations::known::Known;
+use lru_generations::newest_loading::{Loaded, load};
 use crate::core_captures::{CoreSource, restore_shards};
 use lru_folder::synced_folder::SyncedFolder;
 use std::alloc::Global;
 
-/// Saves the rows of a core as the next checkpoint, of N shards, as `save` of `lru_checkpoints` does.
+/// Saves the rows of a core as the next checkpoint, of N shards, as `save` of `lru_generations` does.
 pub fn save_core<F: SyncedFolder, V: Clone + Stored, const N: usize>(
     alloc: Global,
     folder: &mut F,
@@ -65,7 +65,7 @@ pub fn save_core<F: SyncedFolder, V: Clone + Stored, const N: usize>(
     save(alloc, folder, dir, file_name, &CoreSource { core })
 }
 
-/// Saves as `save_core` does, but need not read the frames of the checkpoint that is known, as `save_after` of `lru_checkpoints`.
+/// Saves as `save_core` does, but need not read the frames of the checkpoint that is known, as `save_after` of `lru_generations`.
 pub fn save_core_after<F: SyncedFolder, V: Clone + Stored, const N: usize>(
     alloc: Global,
     folder: &mut F,

@@ -1,13 +1,13 @@
 //! Saves and loads, made again where memory was refused to the first.
 ghost use Rattle.std.specs.Prelude.{◌≤◌};
-ghost use Rattle.lru_checkpoints.specs.Checkpoints.{most_shards};
+ghost use Rattle.lru_generations.specs.Checkpoints.{most_shards};
 
-use lru_checkpoints::errors::CheckpointError;
+use lru_generations::errors::CheckpointError;
 use lru_folder::folder::Folder;
 use lru_frames::row::Row;
 use lru_frames::source::Source;
-use lru_checkpoints::generations::save;
-use lru_checkpoints::newest_loading::{Loaded, load};
+use lru_generations::generations::save;
+use lru_generations::newest_loading::{Loaded, load};
 use lru_memory_folder::memory_folder::MemoryFolder;
 use std::alloc::{AllocError, Global};
 use std::io;

@@ -3,13 +3,13 @@ use Rattle.std.specs.Prelude.{Option}
 use Rattle.lru_folder.specs.Files.{Files}
 use Rattle.lru_folder.specs.Meaning.{Meaning}
 use Rattle.lru_frames.specs.Words.{word}
-use Rattle.lru_checkpoints.specs.Loads.{rows_of}
-use Rattle.lru_checkpoints.specs.declared.newest_loading.Checkpoint.{Checkpoint}
-use Rattle.lru_checkpoints.specs.Loaded.{IsLoaded, IsLoadedBelow}
-use Rattle.lru_checkpoints.specs.Newest.{AreGenerationsBelow}
-use Rattle.lru_checkpoints.proofs.KeptFrames.{on_err}
-use Rattle.lru_checkpoints.proofs.Passing.{below_none, if_ok}
-use Rattle.lru_checkpoints.proofs.Refusals.{failed_from, frame_again, unlisted_from}
+use Rattle.lru_generations.specs.Loads.{rows_of}
+use Rattle.lru_generations.specs.declared.newest_loading.Checkpoint.{Checkpoint}
+use Rattle.lru_generations.specs.Loaded.{IsLoaded, IsLoadedBelow}
+use Rattle.lru_generations.specs.Newest.{AreGenerationsBelow}
+use Rattle.lru_generations.proofs.KeptFrames.{on_err}
+use Rattle.lru_generations.proofs.Passing.{below_none, if_ok}
+use Rattle.lru_generations.proofs.Refusals.{failed_from, frame_again, unlisted_from}
 use Rattle.lru_operations.specs.Before.{IsWord}
 use Rattle.lru_operations.proofs.Answered.{both_err, both_ok}
 use Rattle.lru_operations.proofs.before.load_before.Goals as goal
