@@ -8,11 +8,11 @@
 //! says which, and status 2. A checkpoint that was not loaded or saved: a line that says why, and status 1.
 #![tactic(auto)]
 
-use lru_owned_cache::cache::Cache;
-use lru_cache_checkpoints::cache_captures::{CacheSource, restore_shards};
-use lru_generations::generations::save;
-use lru_generations::newest_loading::{Loaded, load};
-use lru_host_folder::host_folder::HostFolder;
+use lru_cache::cache::Cache;
+use lru_checkpoints::caches::{CacheSource, restore_shards};
+use lru_checkpoints::generations::save;
+use lru_checkpoints::loading::{Loaded, load};
+use lru_checkpoints::host_folder::HostFolder;
 use std::io::ErrorKind;
 use std::process::ExitCode;
 use std::{env, io};

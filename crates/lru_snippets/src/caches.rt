@@ -1,6 +1,6 @@
 //! A cache of keys and values.
 
-use lru_owned_cache::cache::{Cache, Cause};
+use lru_cache::cache::{Cache, Cause};
 
 /// The value of a key, which is used by that; a key that has none gets one, and what has to go for it is dropped.
 pub fn value_of(cache: &mut Cache<u64, u64>, key: u64, bytes: usize) -> Result<u64, Cause> {

@@ -1,0 +1,15 @@
+pub use Rattle.lru_folder.specs.Names
+pub use Rattle.lru_folder.specs.Files
+pub use Rattle.lru_folder.specs.Places
+pub use Rattle.lru_folder.specs.Listings
+pub use Rattle.lru_folder.specs.Folder
+pub use Rattle.lru_folder.specs.Losses
+pub use Rattle.lru_folder.specs.Meaning
+pub use Rattle.lru_frames.specs.Frame
+pub use Rattle.lru_frames.specs.Marks
+pub use Rattle.lru_frames.specs.Sources
+pub use Rattle.lru_generations.specs.Checkpoints
+pub use Rattle.lru_generations.specs.Manifests
+pub use Rattle.lru_generations.specs.Newest
+pub use Rattle.lru_generations.specs.Loaded
+pub use Rattle.lru_generations.specs.Saving
