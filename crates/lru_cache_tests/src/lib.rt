@@ -1,5 +1,5 @@
-//! Tests of `lru_owned_cache` and `lru_deadlines`: lists of calls worked out by hand, keys that are texts, what is dropped, and want of
-//! memory.
+//! Tests of the caches of one owner (`lru_owned_cache`, `lru_deadlines`, `lru_segmented`, `lru_admission`): lists of calls worked out by
+//! hand, keys that are texts, what is dropped, want of memory, deadlines, segments, and a sketch of uses.
 //!
 //! What is expected is worked out by hand, or is what a plain simulation answers, and never what the program answered.
 #![tactic(auto)]

@@ -1,4 +1,5 @@
-//! Tests of `lru_frames`, `lru_generations`.
+//! Tests of checkpoints (`lru_frames`, `lru_generations`), of the folder of the system under them (`lru_host_folder`), and of the program
+//! for operators (`lru_operations`).
 //!
 //! What is expected is worked out by hand, or is what a plain simulation answers, and never what the program answered.
 #![tactic(auto)]

@@ -1,12 +1,13 @@
-//! Tests of `lru_shard`, `lru_cores`: worked rows as lists of calls, two cores side by side, calls with
-//! closures and looks, and the spread of the draws.
+//! Tests of the orders (`lru_shard`, `lru_cores`, `lru_locks`, `lru_recording`): worked rows as lists of calls, two cores side by side,
+//! calls with closures, the spread of the draws, two threads and four, and a plain checker of recorded histories.
 //!
 //! What is expected is worked out by hand, or is what a plain simulation answers, and never what the program answered.
 #![tactic(auto)]
 
 #[cfg(test)]
 mod admissions;
-pub mod asked;
+#[cfg(test)]
+mod asked;
 #[cfg(test)]
 mod batches;
 #[cfg(test)]
@@ -57,7 +58,8 @@ mod shard_steps;
 mod shown;
 #[cfg(test)]
 mod steps;
-pub mod tables;
+#[cfg(test)]
+mod tables;
 #[cfg(test)]
 mod threads;
 #[cfg(test)]

@@ -1,4 +1,5 @@
-//! Tests of the folders (which are synced, how files are listed), of the texts of errors, and of the snapshots of cores.
+//! Tests of the folders (which are synced, how files are listed), of shards saved to files and loaded, of the texts of errors, of the
+//! snapshots of cores, and of the program over them (`lru_engine`).
 //!
 //! What is expected is worked out by hand, or is what a plain simulation answers, and never what the program answered.
 #![tactic(auto)]

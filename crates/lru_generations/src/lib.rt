@@ -1,7 +1,9 @@
-//! Checkpoints of shards in a folder: whole, or refused.
+//! Checkpoints of shards in a folder: whole or refused, and saved for good.
 //!
-//! A checkpoint is a generation of files: a frame for each shard, and a manifest that tells of the frames. It is whole where
-//! the manifest stands, and each frame with the number of rows, the length and the check that the manifest tells.
+//! A checkpoint is a generation of files of its own: a frame for each shard, and a manifest that tells of them. It is whole where the
+//! manifest stands, and each frame as it tells. A save writes files of a new generation alone and keeps the newest one that is whole; once
+//! it has answered Ok, each loss of power leaves it, and a load answers the newest one that is whole. It stands on frames (`lru_frames`)
+//! and on any folder (`lru_folder`).
 #![tactic(auto)]
 
 pub mod checking;
