@@ -7,7 +7,7 @@ use lru_async::async_lru::{AsyncLru, ShardData};
 use lru_async::saving::SaveReport;
 use lru_desks::Registry;
 use lru_inbox::Caller;
-use lru_logged::logged_lru::LoggedLru;
+use lru_async::logged_lru::LoggedLru;
 use lru_inbox::tie::{Archive, Blank};
 use lru_world::callback::AsyncEvictionCallback;
 use std::alloc::Global;

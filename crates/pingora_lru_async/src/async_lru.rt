@@ -30,11 +30,11 @@ pub use lru_mailbox::{Dispatch, Putter};
 /// Who calls an order with logs; and the law that an answer is exact where no message was refused.
 pub use lru_inbox::{Caller, exact_law};
 /// One whose whole history is accounted for once it is closed, how it is made, and what it came to.
-pub use lru_logged::{Account, AccountedLru, build_accounted};
+pub use lru_async::{Account, AccountedLru, build_accounted};
 /// What a shard came to, with its log.
 pub use lru_world::ShardEnd;
 /// One that keeps logs.
-pub use lru_logged::logged_lru::LoggedLru;
+pub use lru_async::logged_lru::LoggedLru;
 /// What names the logs of an order, and a blank to build one from.
 pub use lru_inbox::tie::{Archive, Blank as LogBlank};
 /// Messages on their way, with the cells for their replies.
