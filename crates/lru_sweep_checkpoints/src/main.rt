@@ -3,9 +3,9 @@
 //! So what is written is the same in each run.
 #![tactic(auto)]
 
-mod caches;
-mod cores;
-mod saves;
+mod cache_copies;
+mod core_copies;
+mod checkpoint_saves;
 
 use std::process::ExitCode;
 

@@ -1,7 +1,7 @@
 //! A core whose data are texts, and a snapshot of keys and weights.
 ghost use Rattle.std.specs.Prelude.{◌<◌};
 
-use crate::saves::{folder, is_saved, loaded, text, write_rows};
+use crate::checkpoint_saves::{folder, is_saved, loaded, text, write_rows};
 use lru_cores::lru_core::LruCore;
 use lru_frames::row::Row;
 use lru_memory_folder::memory_folder::MemoryFolder;

@@ -1,5 +1,5 @@
 //! A shared cache of texts, whose clones take memory too.
-use crate::saves::{folder, is_saved, loaded, text, write_rows};
+use crate::checkpoint_saves::{folder, is_saved, loaded, text, write_rows};
 use lru_cache_checkpoints::shared_captures::{SharedSource, capture_shard, restore_shards};
 use lru_frames::row::Row;
 use lru_memory_folder::memory_folder::MemoryFolder;
