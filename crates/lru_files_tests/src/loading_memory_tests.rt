@@ -1,5 +1,5 @@
 //! Want of memory in loads of shards: a refused load is made again. The gate runs this with memory for all; `rt try --test
-//! --fail-alloc N` refuses the request number N. The gate's sweep refuses each request of `lru_sweep_files` in turn, which
+//! --fail-alloc N` refuses the request number N. The gate's sweep refuses each request of `lru_sweep` in turn, which
 //! loads shards too.
 use log::sink;
 use lru_test_folders::loads::{Wanted, load_logging};

@@ -1,5 +1,5 @@
 //! Want of memory in saves of shards. The gate runs this with memory for all; `rt try --test --fail-alloc N` refuses the
-//! request number N. The gate's sweep refuses each request of `lru_sweep_files` in turn, which saves shards too.
+//! request number N. The gate's sweep refuses each request of `lru_sweep` in turn, which saves shards too.
 use log::sink;
 use lru_test_folders::refusals::{Ending, Saved, end_of_save};
 use lru_test_folders::saves::{Given, save_in_turns};
