@@ -11,8 +11,8 @@
 use lru_cache::cache::Cache;
 use lru_checkpoints::caches::{CacheSource, restore_shards};
 use lru_checkpoints::generations::save;
-use lru_checkpoints::loading::{Loaded, load};
 use lru_checkpoints::host_folder::HostFolder;
+use lru_checkpoints::loading::{Loaded, load};
 use std::io::ErrorKind;
 use std::process::ExitCode;
 use std::{env, io};

@@ -14,10 +14,10 @@
 
 mod store;
 
-use lru_checkpoints::generations::save;
-use lru_checkpoints::loading::{Loaded, load};
-use lru_checkpoints::host_folder::HostFolder;
 use lru_checkpoints::cores::{CoreSource, restore_shards};
+use lru_checkpoints::generations::save;
+use lru_checkpoints::host_folder::HostFolder;
+use lru_checkpoints::loading::{Loaded, load};
 use rand::rngs::StdRng;
 use rand_core::SeedableRng;
 use std::env::Env;

@@ -5,9 +5,9 @@ ghost use Rattle.lru_owned_cache.specs.Cache.{empty, hashes_from, entry_of, with
 ghost use Rattle.lru_admission.specs.Sketch.{estimate, counted, fresh};
 ghost use Rattle.lru_admission.specs.Admission.{watched, AsksVictims, MayEnter, PutsIfAsked};
 
-use lru_owned_cache::cache::{Cache, Entry, Refused};
-use lru_index::hashing::SeededHashes;
 use crate::sketch::Sketch;
+use lru_index::hashing::SeededHashes;
+use lru_owned_cache::cache::{Cache, Entry, Refused};
 use std::alloc::{AllocError, Global};
 use std::hash::{BuildHasher, Hash};
 use std::marker::Model;

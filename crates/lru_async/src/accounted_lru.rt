@@ -5,9 +5,9 @@ ghost use Rattle.lru_mailbox.specs.Ledger.{slips_of};
 ghost use Rattle.lru_mailbox.specs.Slips.{lists_of, IsSettled};
 ghost use Rattle.lru_async.specs.Accounts.{Accounts};
 
+use crate::async_lru::AsyncLru;
 use crate::ending::end_all;
 use crate::logged_lru::LoggedLru;
-use crate::async_lru::AsyncLru;
 use crate::seats_back::{all_puts, all_takes, sole};
 use lru_desks::{LedgerBox, PutSeat, Registry, TakeSeat};
 use lru_inbox::tie::Archive;

@@ -5,9 +5,9 @@ ghost use Rattle.lru_async.specs.Orders.{HasWorkers, limits_of, limits_told};
 ghost use Rattle.lru_async.specs.AccountedOrders.{order_in};
 
 use crate::accounted_lru::{AccountedLru, Room};
-use lru_actors::message::LruMsg;
 use crate::builder::AsyncLruBuilder;
 use crate::refusals::BuildError;
+use lru_actors::message::LruMsg;
 use lru_desks::{Blanks, Registry};
 use lru_inbox::tie::{Archive, Blank};
 use lru_world::callback::{AsyncEvictionCallback, Gate};

@@ -11,11 +11,6 @@ ghost use Rattle.lru_async.specs.Refusals.{held_in};
 ghost use Rattle.lru_async.specs.Saving.{IsReport, IsWritten};
 ghost use Rattle.lru_async.specs.Logged.{fronts_of, Found, Grew, IsRows, Learned, Looked, SeesMore};
 
-use log::Log;
-use lru_actors::Letter;
-use lru_actors::effect::Reply;
-use lru_actors::key::hash_key;
-use lru_actors::message::LruMsg;
 use crate::async_lru::{AsyncLru, ShardData};
 use crate::builder::AsyncLruBuilder;
 use crate::cells::cell_of_question;
@@ -25,6 +20,11 @@ use crate::sends::{
     Addressed, admission, answer_of, increment, key_back, promotion, refusal_of, removal, shard_of,
     tail_row,
 };
+use log::Log;
+use lru_actors::Letter;
+use lru_actors::effect::Reply;
+use lru_actors::key::hash_key;
+use lru_actors::message::LruMsg;
 use lru_desks::Registry;
 use lru_inbox::Caller;
 use lru_inbox::tie::{Archive, Blank};

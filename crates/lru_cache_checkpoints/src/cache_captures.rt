@@ -4,13 +4,13 @@ ghost use Rattle.lru_owned_cache.specs.Cache.{parts_of};
 ghost use Rattle.lru_frames.specs.Copies.{AreEach, IsEntryCopy};
 ghost use Rattle.lru_cache_checkpoints.specs.Captures.{PutsEntries, PutsOrLeaves, PutsShards};
 
-use lru_owned_cache::cache::{Cache, Cause, Refused};
 use lru_frames::frame::Header;
 use lru_frames::mark::Mark;
 use lru_frames::marked::encode_marked;
 use lru_frames::row::Row;
 use lru_frames::source::Source;
 use lru_frames::stored::Stored;
+use lru_owned_cache::cache::{Cache, Cause, Refused};
 use std::alloc::{AllocError, Global};
 use std::hash::{BuildHasher, Hash};
 

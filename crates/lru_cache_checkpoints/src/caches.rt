@@ -12,16 +12,16 @@ ghost use Rattle.lru_generations.specs.Newest.{AreGenerations, ArePassed, IsAsKn
 ghost use Rattle.lru_generations.specs.Saving.{IsForGood, IsOlder, IsUnsaved, IsUnused, SavesAfter, SavesNext, TellsPassed};
 ghost use Rattle.lru_cache_checkpoints.specs.Restores.{IfUnloaded, IsCopyOf, Restores};
 
-use crate::restored::{RestoreError, Restored};
-use lru_owned_cache::cache::Cache;
 use crate::cache_captures::{CacheSource, restore_shards};
-use lru_generations::errors::CheckpointError;
+use crate::restored::{RestoreError, Restored};
 use lru_folder::folder::Folder;
+use lru_folder::synced_folder::SyncedFolder;
 use lru_frames::stored::Stored;
+use lru_generations::errors::CheckpointError;
 use lru_generations::generations::{Saved, save, save_after};
 use lru_generations::known::Known;
 use lru_generations::newest_loading::{Loaded, load};
-use lru_folder::synced_folder::SyncedFolder;
+use lru_owned_cache::cache::Cache;
 use std::alloc::Global;
 use std::hash::Hash;
 

@@ -5,7 +5,6 @@ ghost use Rattle.lru_frames.specs.Copies.{AreEach};
 ghost use Rattle.lru_cache_checkpoints.specs.Captures.{PutsEntries, PutsOrLeaves};
 ghost use Rattle.lru_cache_checkpoints.specs.CapturedDeadlines.{IsDeadlineCopy, PutsDeadlines, until_row};
 
-use lru_owned_cache::cache::{Cause, Refused};
 use lru_deadlines::deadlines::{DeadlineCache, Until};
 use lru_frames::frame::Header;
 use lru_frames::mark::Mark;
@@ -13,6 +12,7 @@ use lru_frames::marked::encode_marked;
 use lru_frames::row::Row;
 use lru_frames::source::Source;
 use lru_frames::stored::Stored;
+use lru_owned_cache::cache::{Cause, Refused};
 use std::alloc::{AllocError, Global};
 use std::hash::{BuildHasher, Hash};
 

@@ -13,16 +13,16 @@ ghost use Rattle.lru_generations.specs.Saving.{IsForGood, IsOlder, IsUnsaved, Is
 ghost use Rattle.lru_cache_checkpoints.specs.Restores.{IfUnloaded};
 ghost use Rattle.lru_cache_checkpoints.specs.Deadlines.{until_bytes, IsUntil, IsDeadlinesOf, RestoresDeadlines};
 
-use crate::restored::{RestoreError, Restored};
 use crate::deadline_captures::{DeadlineSource, restore_shards};
-use lru_generations::errors::CheckpointError;
+use crate::restored::{RestoreError, Restored};
 use lru_deadlines::deadlines::{DeadlineCache, Until};
 use lru_folder::folder::Folder;
+use lru_folder::synced_folder::SyncedFolder;
 use lru_frames::stored::Stored;
+use lru_generations::errors::CheckpointError;
 use lru_generations::generations::{Saved, save, save_after};
 use lru_generations::known::Known;
 use lru_generations::newest_loading::{Loaded, load};
-use lru_folder::synced_folder::SyncedFolder;
 use std::alloc::Global;
 use std::hash::Hash;
 

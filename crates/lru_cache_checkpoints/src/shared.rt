@@ -15,14 +15,14 @@ ghost use Rattle.lru_cache_checkpoints.specs.Restores.{IfUnloaded, MayRestore};
 
 use crate::restored::{RestoreError, Restored};
 use crate::shared_captures::{SharedSource, restore_shards};
-use lru_generations::errors::CheckpointError;
 use lru_folder::folder::Folder;
+use lru_folder::synced_folder::SyncedFolder;
 use lru_frames::stored::Stored;
+use lru_generations::errors::CheckpointError;
 use lru_generations::generations::{Saved, save, save_after};
 use lru_generations::known::Known;
 use lru_generations::newest_loading::{Loaded, load};
 use lru_shared::shared::SharedCache;
-use lru_folder::synced_folder::SyncedFolder;
 use std::alloc::Global;
 use std::hash::Hash;
 use std::sync::Wait;

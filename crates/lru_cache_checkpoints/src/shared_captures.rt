@@ -3,7 +3,6 @@ ghost use Rattle.std.specs.Prelude.{◌<◌, IfOk, reverse};
 ghost use Rattle.lru_cache_checkpoints.specs.Captures.{MayCopy, MayPutOrLeave, MayPutEntries, MayPutShards};
 
 use crate::cache_captures::capture_cache;
-use lru_owned_cache::cache::{Cause, Refused};
 use lru_frames::frame::Header;
 use lru_frames::mark::Mark;
 use lru_frames::marked::encode_marked;
@@ -11,6 +10,7 @@ use lru_frames::row::Row;
 use lru_frames::source::Source;
 use lru_frames::stored::Stored;
 use lru_index::alike::SameHashes;
+use lru_owned_cache::cache::{Cause, Refused};
 use lru_shared::shared::{Anything, Relation, SharedCache};
 use std::alloc::{AllocError, Global};
 use std::hash::{BuildHasher, Hash};

@@ -6,7 +6,6 @@ ghost use Rattle.lru_frames.specs.Copies.{AreEach};
 ghost use Rattle.lru_cache_checkpoints.specs.Captures.{MayPutEntries, MayPutOrLeave};
 ghost use Rattle.lru_cache_checkpoints.specs.CapturedAges.{IsAgedCopy, MayCopyAged, MayPutAged, aged_row};
 
-use lru_owned_cache::cache::{Cause, Refused};
 use lru_deadlines::deadlines::{DeadlineCache, Until};
 use lru_frames::frame::Header;
 use lru_frames::mark::Mark;
@@ -15,6 +14,7 @@ use lru_frames::row::Row;
 use lru_frames::source::Source;
 use lru_frames::stored::Stored;
 use lru_index::alike::SameHashes;
+use lru_owned_cache::cache::{Cause, Refused};
 use lru_shared_deadlines::shared::{Aged, SharedDeadlineCache};
 use std::alloc::{AllocError, Global};
 use std::hash::{BuildHasher, Hash};

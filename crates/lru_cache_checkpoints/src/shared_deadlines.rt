@@ -13,12 +13,12 @@ ghost use Rattle.lru_generations.specs.Saving.{IsForGood, IsOlder, IsUnsaved, Is
 ghost use Rattle.lru_cache_checkpoints.specs.Ages.{aged_bytes, IsAged};
 
 use crate::shared_deadline_captures::SharedDeadlineSource;
-use lru_generations::errors::CheckpointError;
+use lru_folder::synced_folder::SyncedFolder;
 use lru_frames::stored::Stored;
+use lru_generations::errors::CheckpointError;
 use lru_generations::generations::{Saved, save, save_after};
 use lru_generations::known::Known;
 use lru_shared_deadlines::shared::SharedDeadlineCache;
-use lru_folder::synced_folder::SyncedFolder;
 use std::alloc::Global;
 use std::hash::Hash;
 use std::sync::Wait;

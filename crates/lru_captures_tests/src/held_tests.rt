@@ -2,13 +2,13 @@
 ghost use Rattle.std.specs.Prelude.{◌≤◌};
 ghost use Rattle.lru_generations.specs.Checkpoints.{most_shards};
 
-use lru_generations::errors::CheckpointError;
 use lru_folder::folder::Folder;
 use lru_frames::frame::Header;
 use lru_frames::mark::Mark;
 use lru_frames::row::Row;
 use lru_frames::source::Source;
 use lru_frames::stored::Stored;
+use lru_generations::errors::CheckpointError;
 use lru_generations::generations::save;
 use lru_generations::newest_loading::{Loaded, load};
 use lru_locks::lru::Lru;

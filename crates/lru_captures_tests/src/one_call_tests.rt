@@ -1,9 +1,8 @@
 //! Saves and loads of caches and orders, each by one call.
-use lru_owned_cache::cache::Cache;
-use lru_cache_checkpoints::{cache_captures, deadline_captures, shared_captures};
 use lru_cache_checkpoints::caches::{load_cache, save_cache, save_cache_after};
 use lru_cache_checkpoints::deadlines::{load_deadlines, save_deadlines, save_deadlines_after};
 use lru_cache_checkpoints::shared::{load_shared, save_shared, save_shared_after};
+use lru_cache_checkpoints::{cache_captures, deadline_captures, shared_captures};
 use lru_cores::lru_core::LruCore;
 use lru_deadlines::deadlines::DeadlineCache;
 use lru_folder::folder::Folder;
@@ -11,9 +10,10 @@ use lru_frames::row::Row;
 use lru_generations::generations::Saved;
 use lru_locks::lru::Lru;
 use lru_memory_folder::memory_folder::MemoryFolder;
-use lru_order_checkpoints::{core_captures, shared_captures as lru_captures};
 use lru_order_checkpoints::cores::{load_core, save_core, save_core_after};
 use lru_order_checkpoints::locks::{load_lru, save_lru, save_lru_after};
+use lru_order_checkpoints::{core_captures, shared_captures as lru_captures};
+use lru_owned_cache::cache::Cache;
 use lru_shared::shared::SharedCache;
 use std::alloc::Global;
 use std::sync::Wait;

@@ -2,19 +2,19 @@
 ghost use Rattle.std.specs.Prelude.{◌<◌, ◌≤◌};
 ghost use Rattle.lru_generations.specs.Checkpoints.{most_shards};
 
-use lru_owned_cache::cache::Cache;
 use lru_cache_checkpoints::{cache_captures, shared_captures};
-use lru_generations::errors::CheckpointError;
 use lru_cores::lru_core::LruCore;
 use lru_folder::folder::Folder;
 use lru_frames::row::Row;
 use lru_frames::source::Source;
 use lru_frames::stored::Stored;
+use lru_generations::errors::CheckpointError;
 use lru_generations::generations::save;
 use lru_generations::newest_loading::{Loaded, load};
 use lru_locks::lru::Lru;
 use lru_memory_folder::memory_folder::MemoryFolder;
 use lru_order_checkpoints::{core_captures, shared_captures as lru_captures, snapshots};
+use lru_owned_cache::cache::Cache;
 use lru_shared::shared::SharedCache;
 use std::alloc::{AllocError, Global};
 use std::sync::Wait;
@@ -232,7 +232,10 @@ fn is_shard_alike<R: Wait>(
     requires { shard < 2 }
 {
     let rows = shared_captures::capture_shard(rt, alloc, one, shard)?;
-    Ok(are_alike(&rows, &shared_captures::capture_shard(rt, alloc, other, shard)?))
+    Ok(are_alike(
+        &rows,
+        &shared_captures::capture_shard(rt, alloc, other, shard)?,
+    ))
 }
 
 fn is_shared_back<R: Wait>(

@@ -25,20 +25,28 @@ pub mod loading {
 
 /// A cache of one owner saved and loaded by one call, and step by step.
 pub mod caches {
-    pub use lru_cache_checkpoints::cache_captures::{CacheSource, capture_cache, restore_cache, restore_shards};
+    pub use lru_cache_checkpoints::cache_captures::{
+        CacheSource, capture_cache, restore_cache, restore_shards,
+    };
     pub use lru_cache_checkpoints::caches::{load_cache, save_cache, save_cache_after};
 }
 
 /// A cache of one owner whose entries have deadlines, the same.
 pub mod deadlines {
-    pub use lru_cache_checkpoints::deadline_captures::{DeadlineSource, capture_deadlines, restore_deadlines, restore_shards};
-    pub use lru_cache_checkpoints::deadlines::{load_deadlines, save_deadlines, save_deadlines_after};
+    pub use lru_cache_checkpoints::deadline_captures::{
+        DeadlineSource, capture_deadlines, restore_deadlines, restore_shards,
+    };
+    pub use lru_cache_checkpoints::deadlines::{
+        load_deadlines, save_deadlines, save_deadlines_after,
+    };
 }
 
 /// A cache that threads share, the same.
 pub mod shared {
     pub use lru_cache_checkpoints::shared::{load_shared, save_shared, save_shared_after};
-    pub use lru_cache_checkpoints::shared_captures::{SharedSource, capture_shard, restore_shard, restore_shards};
+    pub use lru_cache_checkpoints::shared_captures::{
+        SharedSource, capture_shard, restore_shard, restore_shards,
+    };
 }
 
 /// A cache that threads share, whose entries end, saved by one call and loaded step by step.
@@ -46,12 +54,16 @@ pub mod shared_deadlines {
     pub use lru_cache_checkpoints::shared_deadline_captures::{
         SharedDeadlineSource, capture_ages, capture_shard, restore_shard, restore_shards,
     };
-    pub use lru_cache_checkpoints::shared_deadlines::{save_shared_deadlines, save_shared_deadlines_after};
+    pub use lru_cache_checkpoints::shared_deadlines::{
+        save_shared_deadlines, save_shared_deadlines_after,
+    };
 }
 
 /// A core of one owner, saved and loaded by one call, and step by step.
 pub mod cores {
-    pub use lru_order_checkpoints::core_captures::{CoreSource, capture_shard, restore_shard, restore_shards};
+    pub use lru_order_checkpoints::core_captures::{
+        CoreSource, capture_shard, restore_shard, restore_shards,
+    };
     pub use lru_order_checkpoints::cores::{load_core, save_core, save_core_after};
     pub use lru_order_checkpoints::restored::{RestoreError, Restored};
 }
@@ -60,5 +72,7 @@ pub mod cores {
 pub mod locks {
     pub use lru_order_checkpoints::locks::{load_lru, save_lru, save_lru_after};
     pub use lru_order_checkpoints::restored::{RestoreError, Restored};
-    pub use lru_order_checkpoints::shared_captures::{LruSource, capture_shard, restore_shard, restore_shards};
+    pub use lru_order_checkpoints::shared_captures::{
+        LruSource, capture_shard, restore_shard, restore_shards,
+    };
 }

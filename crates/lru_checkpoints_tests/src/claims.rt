@@ -1,8 +1,8 @@
 //! A folder of the system that one saver has for itself.
 use lru_folder::fault::FolderFault;
 use lru_folder::folder::Folder;
-use lru_host_folder::host_folder::HostFolder;
 use lru_folder::synced_folder::SyncedFolder;
+use lru_host_folder::host_folder::HostFolder;
 use std::fs;
 use std::test::Fail;
 

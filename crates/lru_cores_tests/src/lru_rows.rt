@@ -1,14 +1,14 @@
 //! The worked rows of a core, done by an `Lru` with one caller.
 ghost use Rattle.std.specs.Prelude.{◌<◌};
 
-use crate::lru_steps::tell_faults;
-use lru_locks::lru::Lru;
 use crate::asked::Step;
+use crate::lru_steps::tell_faults;
 use crate::tables::{
     ANSWERS_EACH_CALL, ANSWERS_WHERE_NOTHING_IS, COUNTS_A_ROW_OF_WEIGHT_0_ONCE,
     COUNTS_UP_TO_THE_WIDTH, EVICTS_THE_OLDEST, INCREMENTS, PROMOTES, SETS_WEIGHTS, WEIGHS_A_HALF,
     WEIGHS_A_THIRD, WEIGHS_NEW_ROWS,
 };
+use lru_locks::lru::Lru;
 use rand::rngs::StdRng;
 use rand_core::{Rng, SeedableRng};
 use std::alloc::{AllocError, Global};

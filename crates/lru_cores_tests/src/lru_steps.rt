@@ -1,9 +1,9 @@
 //! A list of calls on an `Lru`, done one by one: the text of each reply, and of the `Lru` after it.
+use crate::asked::{Step, call_of};
 use crate::shown::{rows_of, text_of};
 use lru_cores::calls::{Call, Reply};
 use lru_locks::lru::Lru;
 use lru_shard::unit::Refused;
-use crate::asked::{Step, call_of};
 use rand::rngs::StdRng;
 use std::alloc::{AllocError, Global};
 use std::sync::Wait;

@@ -1,8 +1,8 @@
 //! Drawn calls on an `Lru` and on a core answer the same, and leave the same, by one thread and by two.
 ghost use Rattle.lru_cores.specs.Calls.{IsAllowed};
 
-use crate::shown::{tell_core_state, tell_state, text_of};
 use crate::lru_steps::answer_of;
+use crate::shown::{tell_core_state, tell_state, text_of};
 use lru_cores::calls;
 use lru_cores::calls::Call;
 use lru_cores::lru_core::LruCore;

@@ -7,10 +7,10 @@ ghost use Rattle.lru_owned_cache.specs.Cache.{empty, hashes_from, entry_of, with
 ghost use Rattle.lru_owned_cache.specs.Entries.{weight_of};
 ghost use Rattle.lru_deadlines.specs.Deadlines.{until, living, has_room, PromotesLiving, UpdatesLiving, UpdatesIfLiving, ReweighsLiving, UsesOrPutsLiving, TakesPast, Sweeps, MakesRoom, PutsAt};
 
-use lru_owned_cache::cache::{Cache, Entry, NotPut, Refused};
 use lru_index::alike::SameHashes;
 use lru_index::hashing::SeededHashes;
 use lru_index::keys::Query;
+use lru_owned_cache::cache::{Cache, Entry, NotPut, Refused};
 use lru_pairs::iter::{PairsEntries, PairsKeys};
 use std::alloc::{AllocError, Global};
 use std::hash::{BuildHasher, Hash};

@@ -10,14 +10,14 @@ ghost use Rattle.lru_generations.specs.Checkpoints.{IsKnown, IsTaken, IsWhole, I
 ghost use Rattle.lru_generations.specs.Loads.{IsFault, IsRefused, IsRefusedByCheck};
 
 use crate::errors::{CheckpointError, CheckpointFile};
+use crate::file_reading::{Found, read_file};
+use crate::manifest::Manifest;
+use crate::names::frame_path;
 use crate::reading::{load_manifest, unread};
 use lru_folder::folder::Folder;
 use lru_frames::frame::Header;
 use lru_frames::mark::Mark;
 use lru_frames::marked::inspect;
-use crate::manifest::Manifest;
-use crate::names::frame_path;
-use crate::file_reading::{Found, read_file};
 use std::alloc::Global;
 
 // Reads the frame of a shard, and compares it with its mark.

@@ -3,8 +3,8 @@ ghost use Rattle.std.specs.Prelude.{◌≡◌, ◌↔◌, IsTrue};
 ghost use Rattle.lru_generations.specs.Loads.{IsFault};
 ghost use Rattle.lru_generations.specs.declared.errors.CheckpointError.TheVariants.{Memory};
 
-use lru_frames::errors::Part;
 use crate::file_errors::CallFault;
+use lru_frames::errors::Part;
 use std::alloc::AllocError;
 use std::error::Error;
 use std::fmt;

@@ -7,10 +7,10 @@ ghost use Rattle.lru_generations.specs.Loads.{IsFault};
 ghost use Rattle.lru_generations.specs.Faults.{IsUnlisted};
 
 use crate::errors::{CheckpointError, CheckpointFile};
-use lru_folder::folder::Folder;
+use crate::file_errors::ReadError;
 use crate::listing::list_parts;
 use crate::names::PartName;
-use crate::file_errors::ReadError;
+use lru_folder::folder::Folder;
 use std::alloc::Global;
 
 // The parts that have a file in the folder. At every moment all files are as they were.

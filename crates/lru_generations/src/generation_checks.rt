@@ -9,11 +9,11 @@ ghost use Rattle.lru_generations.specs.declared.generation_checks.Told.{Told};
 ghost use Rattle.lru_generations.specs.Faults.{IsFailed, IsUnlisted};
 ghost use Rattle.lru_generations.specs.Told.{AreAll, IsTold};
 
-use crate::folder_listing::parts_of;
 use crate::checking::check_generation;
 use crate::errors::CheckpointError;
-use lru_folder::folder::Folder;
+use crate::folder_listing::parts_of;
 use crate::names::PartName;
+use lru_folder::folder::Folder;
 use std::alloc::{AllocError, Global};
 
 /// A generation that a folder has a file of.

@@ -9,9 +9,9 @@ ghost use Rattle.lru_generations.specs.Faults.{IsFailed};
 ghost use Rattle.lru_generations.specs.Removing.{IsPathOf, NamesOnly, file_of};
 
 use crate::errors::{CheckpointError, CheckpointFile};
-use lru_folder::folder::Folder;
-use crate::names::{PartName, frame_path, manifest_path, manifest_temp_path};
 use crate::file_removing::remove_file;
+use crate::names::{PartName, frame_path, manifest_path, manifest_temp_path};
+use lru_folder::folder::Folder;
 use std::alloc::{AllocError, Global};
 
 // The path of a part's file.

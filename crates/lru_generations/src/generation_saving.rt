@@ -8,18 +8,18 @@ ghost use Rattle.lru_generations.specs.Causes.{HasSaveReason, IsUnnamed};
 ghost use Rattle.lru_generations.specs.Loads.{IsFault};
 ghost use Rattle.lru_generations.specs.Saving.{IsUnfinished};
 
-use crate::generation_removing::remove_part;
-use crate::syncing::sync_names;
 use crate::errors::CheckpointError;
+use crate::generation_removing::remove_part;
+use crate::manifest::Manifest;
+use crate::names::PartName;
 use crate::saving::{save_frames, save_manifest};
+use crate::syncing::sync_names;
 use lru_folder::folder::Folder;
 use lru_folder::folder_call::FolderCall;
+use lru_folder::synced_folder::SyncedFolder;
 use lru_frames::mark::Mark;
 use lru_frames::source::Source;
 use lru_frames::stored::Stored;
-use crate::manifest::Manifest;
-use crate::names::PartName;
-use lru_folder::synced_folder::SyncedFolder;
 use std::alloc::Global;
 
 // Whether the renaming of a manifest failed: it may have been done.

@@ -15,18 +15,18 @@ ghost use Rattle.lru_generations.specs.Faults.{IsFailed};
 ghost use Rattle.lru_generations.specs.Newest.{HasManifest, IsAsKnown, IsHighestTaken, IsNewest};
 ghost use Rattle.lru_generations.specs.Saving.{IsForGood, IsLeft, IsOld, IsOlder, IsUnsaved, IsUnremoved, IsUnused, KeepsFrames, NamesOlder, SavesAfter, SavesNext, TellsPassed};
 
-use crate::known::Known;
-use crate::newest::Passed;
+use crate::errors::CheckpointError;
 use crate::generation_removing::remove_parts;
 use crate::generation_saving::save_for_good;
-use crate::survey::{Surveyed, survey};
-use crate::errors::CheckpointError;
-use lru_folder::folder::Folder;
-use lru_frames::source::Source;
-use lru_frames::stored::Stored;
+use crate::known::Known;
 use crate::listing::{leftovers, manifests_apart, older_than};
 use crate::names::PartName;
+use crate::newest::Passed;
+use crate::survey::{Surveyed, survey};
+use lru_folder::folder::Folder;
 use lru_folder::synced_folder::SyncedFolder;
+use lru_frames::source::Source;
+use lru_frames::stored::Stored;
 use std::alloc::Global;
 
 /// A checkpoint that was saved for good.

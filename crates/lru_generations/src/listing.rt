@@ -10,11 +10,11 @@ ghost use Rattle.lru_generations.specs.declared.names.PartName.TheVariants.{Mani
 ghost use Rattle.lru_generations.specs.Listing.{HasListReason, HasParts, IsAbove, IsAnyManifest, IsLeftover};
 ghost use Rattle.lru_generations.specs.Names.{IsPart, generation_of, part_text};
 
+use crate::file_errors::{CallFault, ReadError};
 use crate::names::{PartName, part_of};
 use lru_folder::folder::Folder;
 use lru_folder::folder_call::FolderCall;
 use lru_folder::listed::Listed;
-use crate::file_errors::{CallFault, ReadError};
 use std::alloc::{AllocError, Global};
 
 // The parts whose names are listed.

@@ -13,6 +13,9 @@ ghost use Rattle.lru_generations.specs.Checkpoints.{Shards, AreMarked, FitsEach,
 ghost use Rattle.lru_generations.specs.Loads.{AreSameShards, IsFault, IsRefused, IsRefusedFrame, rows_of};
 
 use crate::errors::{CheckpointError, CheckpointFile};
+use crate::file_reading::{Found, read_file};
+use crate::manifest::Manifest;
+use crate::names::frame_path;
 use crate::reading::{load_manifest, refused, unread};
 use lru_folder::folder::Folder;
 use lru_frames::frame::{Frame, Header};
@@ -20,9 +23,6 @@ use lru_frames::mark::Mark;
 use lru_frames::marked::decode_marked;
 use lru_frames::row::Row;
 use lru_frames::stored::Stored;
-use crate::manifest::Manifest;
-use crate::names::frame_path;
-use crate::file_reading::{Found, read_file};
 use std::alloc::Global;
 
 // The rows of a shard of so many, read from the frame that has this mark.

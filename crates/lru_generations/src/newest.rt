@@ -5,9 +5,9 @@ ghost use Rattle.lru_generations.specs.Loads.{IsFault, IsRefused, IsRefusedByChe
 ghost use Rattle.lru_generations.specs.Faults.{IsFailed};
 ghost use Rattle.lru_generations.specs.Newest.{ArePassed, HasAllManifests, IsHighestTaken};
 
-use crate::known::{Known, manifest_of};
 use crate::checking::check_unless_known;
 use crate::errors::CheckpointError;
+use crate::known::{Known, manifest_of};
 use lru_folder::folder::Folder;
 use std::alloc::Global;
 

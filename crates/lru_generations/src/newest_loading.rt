@@ -10,16 +10,16 @@ ghost use Rattle.lru_generations.specs.Newest.{AreGenerations, AreGenerationsBel
 ghost use Rattle.lru_generations.specs.declared.names.PartName.{PartName};
 ghost use Rattle.lru_generations.specs.Names.{generation_of};
 
-use crate::known::Known;
-use crate::folder_listing::parts_of;
-use crate::newest::{Passed, pass_over};
 use crate::errors::CheckpointError;
+use crate::folder_listing::parts_of;
+use crate::known::Known;
+use crate::listing::{generations_of, older_than};
 use crate::loading::load_generation;
+use crate::names::PartName;
+use crate::newest::{Passed, pass_over};
 use lru_folder::folder::Folder;
 use lru_frames::row::Row;
 use lru_frames::stored::Stored;
-use crate::listing::{generations_of, older_than};
-use crate::names::PartName;
 use std::alloc::{AllocError, Global};
 
 /// A checkpoint that was loaded.

@@ -9,13 +9,13 @@ ghost use Rattle.lru_generations.specs.Checkpoints.{most_shards};
 ghost use Rattle.lru_generations.specs.Loads.{IsFault, IsRefusedManifest, refused, unread};
 
 use crate::errors::{CheckpointError, CheckpointFile};
+use crate::file_errors::ReadError;
+use crate::file_reading::{Found, read_file};
+use crate::manifest::{Manifest, decode_manifest};
+use crate::names::manifest_path;
 use crate::saving::MOST_SHARDS;
 use lru_folder::folder::Folder;
 use lru_frames::errors::FrameError;
-use crate::manifest::{Manifest, decode_manifest};
-use crate::names::manifest_path;
-use crate::file_errors::ReadError;
-use crate::file_reading::{Found, read_file};
 use std::alloc::Global;
 
 // The bytes of the longest manifest.

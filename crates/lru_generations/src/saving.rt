@@ -12,15 +12,15 @@ ghost use Rattle.lru_generations.specs.Checkpoints.{Shards, AreFirm, AreHandedOu
 ghost use Rattle.lru_generations.specs.Causes.{HasSaveReason, IsToldOf, IsUnnamed};
 
 use crate::errors::{CheckpointError, CheckpointFile};
+use crate::file_replacing::replace_file;
+use crate::file_writing::write_file;
+use crate::manifest::{Manifest, encode_manifest};
+use crate::names::{frame_path, manifest_path, manifest_temp_path};
 use lru_folder::folder::Folder;
 use lru_frames::frame::Header;
 use lru_frames::mark::Mark;
 use lru_frames::source::Source;
 use lru_frames::stored::Stored;
-use crate::manifest::{Manifest, encode_manifest};
-use crate::names::{frame_path, manifest_path, manifest_temp_path};
-use crate::file_replacing::replace_file;
-use crate::file_writing::write_file;
 use std::alloc::Global;
 
 /// The most shards that a checkpoint may have.

@@ -5,13 +5,13 @@ ghost use Rattle.lru_folder.specs.Names.{has_slash};
 ghost use Rattle.lru_generations.specs.Touching.{TouchesNothing};
 ghost use Rattle.lru_generations.specs.Saving.{AreNamed, IsSurveyed, IsUnsaved, TellsPassed};
 
-use crate::known::Known;
-use crate::folder_listing::parts_of;
-use crate::newest::{Newest, newest_whole};
-use crate::syncing::{claim, sync_names};
 use crate::errors::CheckpointError;
+use crate::folder_listing::parts_of;
+use crate::known::Known;
 use crate::listing::{generation_above, generations_of};
 use crate::names::PartName;
+use crate::newest::{Newest, newest_whole};
+use crate::syncing::{claim, sync_names};
 use lru_folder::synced_folder::SyncedFolder;
 use std::alloc::Global;
 

@@ -8,9 +8,9 @@ ghost use Rattle.lru_generations.specs.Causes.{HasSaveReason};
 ghost use Rattle.lru_generations.specs.Saving.{HasReasonOrIsInUse};
 
 use crate::errors::{CheckpointError, CheckpointFile};
+use crate::file_errors::CallFault;
 use lru_folder::folder_call::FolderCall;
 use lru_folder::synced_folder::SyncedFolder;
-use crate::file_errors::CallFault;
 
 // Syncs the names in the folder.
 pub(crate) fn sync_names<F: SyncedFolder>(folder: &mut F, dir: &str) -> Result<(), CheckpointError>

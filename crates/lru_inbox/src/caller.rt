@@ -4,11 +4,11 @@ ghost use Rattle.lru_shard.specs.Limits.{cap_of};
 ghost use Rattle.lru_inbox.specs.Logs.{of_fronts, seen_of};
 ghost use Rattle.lru_inbox.specs.Inboxes.{Learns};
 
+use crate::tie::Archive;
 use crate::told::Told;
+use crate::voice::Voice;
 use lru_actors::effect::Reply;
 use lru_actors::message::LruMsg;
-use crate::tie::Archive;
-use crate::voice::Voice;
 
 /// What one who sends messages has seen of the logs: of each shard a beginning.
 #[derive(Drop)]

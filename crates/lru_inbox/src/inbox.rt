@@ -7,11 +7,11 @@ ghost use Rattle.lru_inbox.specs.Inboxes.{IsInbox, messages_of, log_in, taken_in
 
 use crate::caller::Caller;
 use crate::taker::Taker;
+use crate::tie::Archive;
 use crate::told::Told;
+use crate::voice::Voice;
 use lru_actors::Letter;
 use lru_actors::message::LruMsg;
-use crate::tie::Archive;
-use crate::voice::Voice;
 use lru_mailbox::{MailError, MailState};
 use std::alloc::{AllocError, Global};
 use std::collections::VecDeque;

@@ -7,11 +7,11 @@ ghost use Rattle.lru_inbox.specs.Inboxes.{Sends, taken_in};
 ghost use Rattle.lru_mailbox.specs.Sending.{HandsBack};
 ghost use Rattle.lru_inbox.specs.Taking.{IsHandedBack, Takes};
 
+use crate::tie::Archive;
+use crate::voice::Voice;
 use crate::{Caller, Inbox, Taker, Told};
 use lru_actors::Letter;
 use lru_actors::message::LruMsg;
-use crate::tie::Archive;
-use crate::voice::Voice;
 use lru_mailbox::{MailError, Queued, Shared};
 use std::alloc::{AllocError, Global};
 use std::collections::VecDeque;

@@ -6,11 +6,11 @@ ghost use Rattle.lru_inbox.specs.Logs.{of_taker, taken_by};
 ghost use Rattle.lru_inbox.specs.Replies.{IsReply};
 ghost use Rattle.lru_inbox.specs.Inboxes.{taken_in};
 
+use crate::tie::Archive;
 use crate::told::Told;
+use crate::voice::Voice;
 use lru_actors::effect::Reply;
 use lru_actors::message::LruMsg;
-use crate::tie::Archive;
-use crate::voice::Voice;
 
 /// What one who takes messages took: of one shard, all that was taken. What it took is known where there is a log.
 #[derive(Drop)]

@@ -6,9 +6,9 @@ ghost use Rattle.lru_inbox.specs.Logs.{front, of_fronts};
 ghost use Rattle.lru_inbox.specs.Replies.{IsReply};
 ghost use Rattle.lru_inbox.specs.Inboxes.{shown};
 
+use crate::tie::{Archive, Token};
 use lru_actors::effect::Reply;
 use lru_actors::message::LruMsg;
-use crate::tie::{Archive, Token};
 use std::marker::PhantomData;
 
 /// A reply, and where there is a log, of what it tells: of the rows that the first so many messages of the shard's log leave.

@@ -3,8 +3,8 @@ ghost use Rattle.std.specs.Prelude.{◌≡◌, ◌↔◌, false, IfErr, IfOk};
 ghost use Rattle.lru_folder.specs.Names.{has_slash};
 ghost use Rattle.lru_operations.specs.Outcomes.{IsShownBefore, IsUnread};
 
-use lru_generations::errors::CheckpointError;
 use lru_folder::folder::Folder;
+use lru_generations::errors::CheckpointError;
 use lru_generations::newest_loading::{Loaded, load, load_below};
 use std::alloc::Global;
 

@@ -6,8 +6,8 @@ ghost use Rattle.lru_operations.specs.Texts.{checked_status, is_damaged, is_whol
 use crate::requests::Misuse;
 use lru_generations::errors::{CheckpointError, CheckpointFile};
 use lru_generations::generation_checks::Told;
-use lru_generations::newest_loading::Loaded;
 use lru_generations::newest::Passed;
+use lru_generations::newest_loading::Loaded;
 
 /// Whether a generation is whole.
 #[derive(Clone, Copy, Debug, PartialEq, Eq)]

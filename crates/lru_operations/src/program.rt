@@ -9,8 +9,8 @@ ghost use Rattle.lru_operations.specs.Outcomes.{unread_words, LeavesFiles, Leave
 use crate::engine::{run_buffered, tell_buffered};
 use crate::outcome::Outcome;
 use crate::requests::{Misuse, WordsError};
-use lru_lines::input::Input;
 use lru_folder::synced_folder::SyncedFolder;
+use lru_lines::input::Input;
 use std::alloc::{AllocError, Global};
 use std::env::{Args, Env};
 use std::io::{BufWriter, ErrorKind, Write};

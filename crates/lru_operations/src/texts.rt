@@ -9,13 +9,13 @@ ghost use Rattle.lru_operations.specs.Texts.{heading, line, refusal_text, misuse
 
 use crate::outcome::{Outcome, Verdict, verdict_of};
 use crate::requests::Misuse;
-use lru_generations::errors::{CheckpointError, CheckpointFile};
 use lru_folder::fault::FolderFault;
 use lru_frames::errors::Part;
 use lru_frames::row::Row;
+use lru_generations::errors::{CheckpointError, CheckpointFile};
 use lru_generations::generation_checks::Told;
-use lru_generations::newest_loading::{Checkpoint, Loaded};
 use lru_generations::newest::Passed;
+use lru_generations::newest_loading::{Checkpoint, Loaded};
 use lru_lines::output::Output;
 use lru_lines::pieces::{Piece, write_pieces};
 use std::io;

@@ -13,16 +13,16 @@ ghost use Rattle.lru_generations.specs.Newest.{AreGenerations, ArePassed, IsAsKn
 ghost use Rattle.lru_generations.specs.Saving.{IsForGood, IsOlder, IsUnsaved, IsUnused, SavesAfter, SavesNext, TellsPassed};
 ghost use Rattle.lru_order_checkpoints.specs.Restores.{IfUnloaded, IsCopyOf, IsSameWord, IsWord, Restores};
 
+use crate::core_captures::{CoreSource, restore_shards};
 use crate::restored::{RestoreError, Restored};
-use lru_generations::errors::CheckpointError;
 use lru_cores::lru_core::LruCore;
 use lru_folder::folder::Folder;
+use lru_folder::synced_folder::SyncedFolder;
 use lru_frames::stored::Stored;
+use lru_generations::errors::CheckpointError;
 use lru_generations::generations::{Saved, save, save_after};
 use lru_generations::known::Known;
 use lru_generations::newest_loading::{Loaded, load};
-use crate::core_captures::{CoreSource, restore_shards};
-use lru_folder::synced_folder::SyncedFolder;
 use std::alloc::Global;
 
 /// Saves the rows of a core as the next checkpoint, of N shards, as `save` of `lru_generations` does.

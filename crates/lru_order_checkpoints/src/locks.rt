@@ -15,15 +15,15 @@ ghost use Rattle.lru_generations.specs.Saving.{IsForGood, IsOlder, IsUnsaved, Is
 ghost use Rattle.lru_order_checkpoints.specs.Restores.{IfUnloaded, IsSameWord, IsWord, MayRestore};
 
 use crate::restored::{RestoreError, Restored};
-use lru_generations::errors::CheckpointError;
+use crate::shared_captures::{LruSource, restore_shards};
 use lru_folder::folder::Folder;
+use lru_folder::synced_folder::SyncedFolder;
 use lru_frames::stored::Stored;
+use lru_generations::errors::CheckpointError;
 use lru_generations::generations::{Saved, save, save_after};
 use lru_generations::known::Known;
 use lru_generations::newest_loading::{Loaded, load};
 use lru_locks::lru::Lru;
-use crate::shared_captures::{LruSource, restore_shards};
-use lru_folder::synced_folder::SyncedFolder;
 use std::alloc::Global;
 use std::sync::Wait;
 

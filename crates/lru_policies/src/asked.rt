@@ -8,8 +8,8 @@ ghost use Rattle.lru_policies.specs.Policies.{Counts, AsksFirstCome, AsksSegment
 use crate::player::Request;
 use crate::policies::Refusal;
 use lru_admission::admission::{AskingCache, NotAdmitted};
-use lru_owned_cache::cache::{Cache, Cause};
 use lru_index::hashing::{SeededHasher, SeededHashes};
+use lru_owned_cache::cache::{Cache, Cause};
 use lru_segmented::segmented::SegmentedCache;
 use std::hash::{BuildHasher, Hash, Hasher};
 

@@ -2,9 +2,9 @@
 use lru_policies::limits::{LimitFault, add_limit, limit_of};
 use lru_policies::numbers::NumberFault;
 use lru_policies::one_pass::{are_of_size_one, play_all};
+use lru_policies::plain_program::{BadLine, read_trace};
 use lru_policies::player::{Request, Tally, play};
 use lru_policies::plot::{Counted, Plot};
-use lru_policies::plain_program::{BadLine, read_trace};
 use lru_policies::progress::Progress;
 use lru_policies::requests::{Format, LineFault, format_of, read_request, request_of};
 use lru_policies::settings::{Asked, asked_by};

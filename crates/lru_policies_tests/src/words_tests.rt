@@ -1,8 +1,8 @@
 //! What the words of the program ask for, and the texts of tables.
 use lru_policies::compared::{Head, Line, is_exact, row_of};
+use lru_policies::player::Request;
 use lru_policies::sampling::Estimate;
 use lru_policies::words::{Asked, asked_of};
-use lru_policies::player::Request;
 use std::alloc::{AllocError, Global};
 use std::test::Fail;
 

@@ -10,13 +10,13 @@ ghost use Rattle.lru_segmented.specs.Segmented.{empty, entries, plain, removed, 
 ghost use Rattle.lru_segmented.specs.Retained.{Retains};
 ghost use Rattle.lru_segmented.specs.SegmentedDeadlines.{PromotesLiving, UpdatesLiving, UpdatesIfLiving, UsesOrPutsLiving, TakesPast, Sweeps, MakesRoom, PutsAt};
 
-use lru_owned_cache::cache::{Entry, NotPut, Refused};
+use crate::iter::SegmentedEntries;
+use crate::segmented::SegmentedCache;
 use lru_deadlines::deadlines::{LOOK, Until};
 use lru_index::alike::SameHashes;
 use lru_index::hashing::SeededHashes;
 use lru_index::keys::Query;
-use crate::iter::SegmentedEntries;
-use crate::segmented::SegmentedCache;
+use lru_owned_cache::cache::{Entry, NotPut, Refused};
 use std::alloc::{AllocError, Global};
 use std::hash::{BuildHasher, Hash};
 use std::marker::Model;

@@ -8,11 +8,11 @@ ghost use Rattle.lru_shard.specs.Shard.{most_rows, refusal, and_row};
 ghost use Rattle.lru_segmented.specs.Segmented.{empty, entries, removed, Uses};
 ghost use Rattle.lru_segmented.specs.SegmentedUnit.{pair_of, sized, sized_with, IsUnit, Admits, Evicts};
 
-use lru_owned_cache::cache::Entry;
-use lru_index::hashing::SeededHashes;
-use lru_list::linked_list::MOST_ITEMS;
 use crate::iter::SegmentedEntries;
 use crate::segmented::SegmentedCache;
+use lru_index::hashing::SeededHashes;
+use lru_list::linked_list::MOST_ITEMS;
+use lru_owned_cache::cache::Entry;
 use lru_shard::unit::{Cause, Refused};
 use std::alloc::{AllocError, Global};
 use std::hash::BuildHasher;

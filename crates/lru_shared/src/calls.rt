@@ -14,10 +14,10 @@ use crate::kept::Kept;
 use crate::limits::Limits;
 use crate::one;
 use crate::shards::{Shards, give_up, home_of};
-use lru_owned_cache::cache::{Cause, Entry, Refused};
 use lru_index::alike::SameHashes;
 use lru_index::hashing::hash_of;
 use lru_index::keys::Query;
+use lru_owned_cache::cache::{Cause, Entry, Refused};
 use std::alloc::AllocError;
 use std::hash::{BuildHasher, Hash};
 

@@ -9,9 +9,9 @@ use crate::counts::{Counted, Size, Why, weight_in};
 use crate::kept::Kept;
 use crate::leaving::{clear, drain, set_limits};
 use crate::limits::Limits;
-use lru_owned_cache::cache::{Cache, Entry, Refused};
 use lru_index::alike::SameHashes;
 use lru_index::keys::Query;
+use lru_owned_cache::cache::{Cache, Entry, Refused};
 use std::alloc::AllocError;
 use std::hash::{BuildHasher, Hash};
 

@@ -12,11 +12,11 @@ ghost use Rattle.lru_shared_deadlines.specs.Calls.{ShowsLiving, Lends, Gets, Swe
 use crate::ages::{Aged, Gone, Moment};
 use crate::one;
 use crate::one::Shard;
-use lru_owned_cache::cache::{Cause, Refused};
 use lru_deadlines::deadlines::Until;
 use lru_index::alike::SameHashes;
 use lru_index::hashing::hash_of;
 use lru_index::keys::Query;
+use lru_owned_cache::cache::{Cause, Refused};
 use lru_shared::limits::Limits;
 use lru_shared::shards::{Shards, give_up, home_of};
 use lru_shared::shared::NotGot;

@@ -9,10 +9,10 @@ ghost use Rattle.lru_shared.specs.Calls.{RetainsShard};
 ghost use Rattle.lru_shared.specs.Counting.{size_of, Takes, PopsShard, ClearsShard, DrainsShard, LimitsShard, PutsCounted};
 
 use crate::ages::{Aged, Gone, Moment};
-use lru_owned_cache::cache::Refused;
 use lru_deadlines::deadlines::{DeadlineCache, Until};
 use lru_index::alike::SameHashes;
 use lru_index::keys::Query;
+use lru_owned_cache::cache::Refused;
 use lru_shared::counts::{Counted, Size, Why, weight_in};
 use lru_shared::limits::Limits;
 use std::alloc::AllocError;

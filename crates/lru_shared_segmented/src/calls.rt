@@ -11,10 +11,10 @@ ghost use Rattle.lru_shared_segmented.specs.Making.{PutsMissing, GetsOrPuts, End
 
 use crate::one;
 use crate::one::Shard;
-use lru_owned_cache::cache::{Cause, Entry, Refused};
 use lru_index::alike::SameHashes;
 use lru_index::hashing::hash_of;
 use lru_index::keys::Query;
+use lru_owned_cache::cache::{Cause, Entry, Refused};
 use lru_shared::limits::Limits;
 use lru_shared::shards::{Shards, give_up, home_of};
 use lru_shared::shared::NotGot;

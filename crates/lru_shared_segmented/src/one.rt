@@ -7,9 +7,9 @@ ghost use Rattle.lru_shared.specs.Calls.{ShowsEntry, VisitsEach};
 ghost use Rattle.lru_shared_segmented.specs.Calls.{whole, Gets, Lends, Takes, PopsShard, ClearsShard, LimitsShard, PutsCounted};
 ghost use Rattle.lru_shared_segmented.specs.Making.{PutsMissing};
 
-use lru_owned_cache::cache::{Entry, Refused};
 use lru_index::alike::SameHashes;
 use lru_index::keys::Query;
+use lru_owned_cache::cache::{Entry, Refused};
 use lru_segmented::segmented::SegmentedCache;
 use lru_shared::counts::{Counted, Size, Why, weight_in};
 use lru_shared::limits::Limits;

@@ -13,10 +13,10 @@ ghost use Rattle.lru_shared_segmented.specs.Sharded.{empty_shard, empty_shards};
 
 use crate::calls;
 use crate::one::Shard;
-use lru_owned_cache::cache::{Entry, Refused};
 use lru_index::alike::SameHashes;
 use lru_index::hashing::SeededHashes;
 use lru_index::keys::Query;
+use lru_owned_cache::cache::{Entry, Refused};
 use lru_segmented::segmented::SegmentedCache;
 use lru_shared::counts::{Counted, Counts, shard_stats, total};
 use lru_shared::limits::Limits;

@@ -1,8 +1,8 @@
 //! Caches of one shard and of two, small enough to be told by hand.
 ghost use Rattle.std.specs.Prelude.{◌<◌, get_or};
 
-use lru_owned_cache::cache::Entry;
 use lru_index::alike::SameHashes;
+use lru_owned_cache::cache::Entry;
 use lru_shared::limits::Limits;
 use lru_shared_segmented::sharded::ShardedSegmentedCache;
 use std::alloc::{AllocError, Global};

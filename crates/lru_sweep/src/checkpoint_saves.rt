@@ -2,10 +2,10 @@
 ghost use Rattle.std.specs.Prelude.{◌≤◌};
 ghost use Rattle.lru_generations.specs.Checkpoints.{most_shards};
 
-use lru_generations::errors::CheckpointError;
 use lru_folder::folder::Folder;
 use lru_frames::row::Row;
 use lru_frames::source::Source;
+use lru_generations::errors::CheckpointError;
 use lru_generations::generations::save;
 use lru_generations::newest_loading::{Loaded, load};
 use lru_memory_folder::memory_folder::MemoryFolder;

@@ -1,6 +1,6 @@
 //! A cache with deadlines that grows, and is swept.
-use lru_owned_cache::cache::{Cause, Entry, Refused};
 use lru_deadlines::deadlines::{DeadlineCache, Until};
+use lru_owned_cache::cache::{Cause, Entry, Refused};
 use std::alloc::{AllocError, Global};
 use std::io;
 use std::io::Write;

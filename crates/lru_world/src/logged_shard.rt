@@ -13,8 +13,8 @@ use lru_actors::message::LruMsg;
 use lru_actors::state::ShardState;
 use lru_desks::seats::PutSeat;
 use lru_desks::tie::Registry;
-use lru_inbox::{Caller, Taker};
 use lru_inbox::tie::{Archive, Token};
+use lru_inbox::{Caller, Taker};
 use std::alloc::{AllocError, Global};
 use std::collections::HashMap;
 

@@ -11,9 +11,9 @@ use lru_actors::message::LruMsg;
 use lru_actors::state::ShardState;
 use lru_desks::seats::PutSeat;
 use lru_desks::tie::Registry;
-use lru_inbox::{Caller, Inbox};
 use lru_inbox::tie::Archive;
 use lru_inbox::voice::Voice;
+use lru_inbox::{Caller, Inbox};
 
 /// What a shard with a log came to, once nothing is put or taken any more.
 #[derive(Drop)]
