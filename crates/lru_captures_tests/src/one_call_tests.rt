@@ -12,7 +12,7 @@ use lru_locks::lru::Lru;
 use lru_memory_folder::memory_folder::MemoryFolder;
 use lru_order_checkpoints::cores::{load_core, save_core, save_core_after};
 use lru_order_checkpoints::locks::{load_lru, save_lru, save_lru_after};
-use lru_order_checkpoints::{core_captures, shared_captures as lru_captures};
+use lru_order_checkpoints::{core_captures, shared_captures as order_captures};
 use lru_owned_cache::cache::Cache;
 use lru_shared::shared::SharedCache;
 use std::alloc::Global;
@@ -337,7 +337,7 @@ fn is_lru_there<R: Wait>(
     let again: Lru<(u64, u64), 2> = Lru::with_capacity(alloc, LIMIT, 4)?;
     let restored = load_lru(rt, alloc, folder, "d", "c", &again)?;
     let is_told = (restored.generation == Some(generation)) & restored.known.is_some();
-    Ok(is_told & are_as_admitted(&lru_captures::capture_shard(rt, alloc, &again, 1)?))
+    Ok(is_told & are_as_admitted(&order_captures::capture_shard(rt, alloc, &again, 1)?))
 }
 
 fn lru_comes_back<R: Wait>(rt: &R, alloc: Global) -> Result<bool, Fail> {

@@ -13,7 +13,7 @@ use lru_generations::generations::save;
 use lru_generations::newest_loading::{Loaded, load};
 use lru_locks::lru::Lru;
 use lru_memory_folder::memory_folder::MemoryFolder;
-use lru_order_checkpoints::{core_captures, shared_captures as lru_captures, snapshots};
+use lru_order_checkpoints::{core_captures, shared_captures as order_captures, snapshots};
 use lru_owned_cache::cache::Cache;
 use lru_shared::shared::SharedCache;
 use std::alloc::{AllocError, Global};
@@ -104,16 +104,16 @@ fn is_lru_back<R: Wait>(
     shards: Vec<Vec<Row<u64, String>>>,
 ) -> Result<bool, Fail> {
     let again: Lru<(u64, String), 2> = Lru::with_capacity(alloc, 100, 4)?;
-    if lru_captures::restore_shards(rt, &again, shards).is_err() {
+    if order_captures::restore_shards(rt, &again, shards).is_err() {
         return Ok(false);
     }
     let is_whole = (again.len() == 4) & (again.weight() == 7);
-    Ok(is_whole & is_as_it_stood(&lru_captures::capture_shard(rt, alloc, &again, 1)?))
+    Ok(is_whole & is_as_it_stood(&order_captures::capture_shard(rt, alloc, &again, 1)?))
 }
 
 fn lru_comes_back<R: Wait>(rt: &R, alloc: Global) -> Result<bool, Fail> {
     let lru = filled_lru(rt, alloc)?;
-    let shards = saved_and_loaded(alloc, &lru_captures::LruSource { rt, lru: &lru })?;
+    let shards = saved_and_loaded(alloc, &order_captures::LruSource { rt, lru: &lru })?;
     is_lru_back(rt, alloc, shards)
 }
 
