@@ -1,4 +1,4 @@
-//! The program `trace_player`: the words `compare`, `sample` and `make`, and all others as `lru_policies` has them.
+//! The program `trace_player`: the words `compare`, `sample` and `make`, and all others as `plain_program` has them.
 
 use crate::compared::{Head, Line, Row, is_exact, row_of};
 use crate::curves::Curves;

@@ -1,4 +1,4 @@
-//! What the words of the program ask for, beside what `lru_policies` knows.
+//! What the words of the program ask for, beside what `settings` knows.
 
 use crate::limits::{LimitFault, add_limit, limit_of};
 use crate::made::{Kind, Recipe};
@@ -37,7 +37,7 @@ pub enum Asked {
         /// The limits, in the order in which they are given, each once.
         limits: Vec<usize>,
     },
-    /// What `lru_policies` knows.
+    /// What `settings` knows.
     Other,
     /// Nothing that the program does.
     Misused(Misuse),
