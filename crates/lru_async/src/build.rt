@@ -9,7 +9,7 @@ use crate::builder::AsyncLruBuilder;
 use crate::refusals::BuildError;
 use lru_actors::message::LruMsg;
 use lru_desks::{Blanks, Registry};
-use lru_inbox::tie::{Archive, Blank};
+use lru_inbox::tie::{Archive, BlankLogs};
 use lru_world::callback::{AsyncEvictionCallback, Gate};
 use std::hash::Hash;
 use std::sync::Wait;
@@ -27,7 +27,7 @@ pub fn build_accounted<
 >(
     builder: AsyncLruBuilder<K, C, N, G>,
     rt: R,
-    blank: Blank<LruMsg<K>>,
+    blank: BlankLogs<LruMsg<K>>,
     blanks: Blanks,
 ) -> Result<AccountedLru<K, N, B>, BuildError>
     requires some { 0 < N }

@@ -11,7 +11,7 @@ use crate::receiver::EvictionReceiver;
 use crate::refusals::BuildError;
 use lru_actors::message::LruMsg;
 use lru_desks::{Blanks, LedgerBox, PutSeat, Registry, TakeSeat};
-use lru_inbox::tie::{Archive, Blank};
+use lru_inbox::tie::{Archive, BlankLogs};
 use lru_inbox::voice::Voice;
 use lru_mailbox::Mailbox;
 use lru_world::callback::{AsyncEvictionCallback, Gate, NoGate};
@@ -50,11 +50,11 @@ fn want_callback_workers(settings: &Settings) -> Result<(), BuildError>
 }
 
 // What speaks for all logs of a blank.
-fn voice_of<E, B: Archive>(alloc: Global, blank: Blank<E>) -> Result<Voice<E, B>, BuildError>
+fn voice_of<E, B: Archive>(alloc: Global, blank: BlankLogs<E>) -> Result<Voice<E, B>, BuildError>
     requires { blank.tie.table.shared.table_id ≡ B.log }
     ensures { IfOk result (λ v. v.token ≡ blank.token) }
 {
-    let Blank { tie, token } = blank;
+    let BlankLogs { tie, token } = blank;
     match Arc::new(alloc, tie) {
         Ok(tie) => Ok(Voice::new(tie, token)),
         Err(_) => Err(BuildError::Memory),
@@ -259,7 +259,7 @@ impl<
     pub fn build_over_logs<
         R: Threads + Wait + Copy + Send + 'static,
         B: Registry + Archive + Send + Sync + 'static,
-    >(self, rt: R, blank: Blank<LruMsg<K>>) -> Result<AsyncLru<K, N, B>, BuildError>
+    >(self, rt: R, blank: BlankLogs<LruMsg<K>>) -> Result<AsyncLru<K, N, B>, BuildError>
         requires some { 0 < N }
         requires ready { C.ready (arc_value self.callback) }
         requires table { blank.tie.table.shared.table_id ≡ B.log }
@@ -308,7 +308,7 @@ impl<
     >(
         self,
         rt: R,
-        blank: Blank<LruMsg<K>>,
+        blank: BlankLogs<LruMsg<K>>,
         blanks: Blanks,
     ) -> Result<(AsyncLru<K, N, B>, Arc<LedgerBox<K, B>, Global>), BuildError>
         requires some { 0 < N }

@@ -27,7 +27,7 @@ use lru_actors::key::hash_key;
 use lru_actors::message::LruMsg;
 use lru_desks::Registry;
 use lru_inbox::Caller;
-use lru_inbox::tie::{Archive, Blank};
+use lru_inbox::tie::{Archive, BlankLogs};
 use lru_world::callback::{AsyncEvictionCallback, Gate};
 use std::alloc::AllocError;
 use std::hash::Hash;
@@ -94,7 +94,7 @@ impl<
     >(
         builder: AsyncLruBuilder<K, C, N, G>,
         rt: R,
-        blank: Blank<LruMsg<K>>,
+        blank: BlankLogs<LruMsg<K>>,
     ) -> Result<Self, BuildError>
         requires some { 0 < N }
         requires ready { C.ready (arc_value builder.callback) }

@@ -8,7 +8,7 @@ use lru_async::logged_lru::LoggedLru;
 use lru_async::{Account, build_accounted};
 use lru_desks::{Blanks, Registry};
 use lru_inbox::Caller;
-use lru_inbox::tie::{Archive, Blank};
+use lru_inbox::tie::{Archive, BlankLogs};
 use lru_mailbox::Slip;
 use lru_world::callback::AsyncEvictionCallback;
 use std::alloc::Global;
@@ -104,7 +104,7 @@ fn closed<
     rt: R,
     alloc: Global,
     quiet: Arc<Quiet, Global>,
-    blank: Blank<LruMsg<u64>>,
+    blank: BlankLogs<LruMsg<u64>>,
     blanks: Blanks,
     workers: usize,
 ) -> Option<Tally>
@@ -125,7 +125,7 @@ fn closed<
 fn every_row_is_accounted_for(rt: HostRuntime) -> Result<(), Fail> {
     let alloc: Global = rt.alloc();
     let quiet = Arc::new(alloc, Quiet)?;
-    let blank = Blank::new(alloc, 1)?;
+    let blank = BlankLogs::new(alloc, 1)?;
     let blanks = Blanks::new(alloc, 1, 1)?;
     let Some(tally) = closed::<Brand, _>(rt, alloc, quiet, blank, blanks, 1) else {
         panic!(rt; "no threads");
@@ -147,7 +147,7 @@ fn every_row_is_accounted_for(rt: HostRuntime) -> Result<(), Fail> {
 fn what_nobody_takes_is_handed_back_with_its_keys(rt: HostRuntime) -> Result<(), Fail> {
     let alloc: Global = rt.alloc();
     let quiet = Arc::new(alloc, Quiet)?;
-    let blank = Blank::new(alloc, 1)?;
+    let blank = BlankLogs::new(alloc, 1)?;
     let blanks = Blanks::new(alloc, 1, 0)?;
     let Some(tally) = closed::<Brand, _>(rt, alloc, quiet, blank, blanks, 0) else {
         panic!(rt; "no threads");

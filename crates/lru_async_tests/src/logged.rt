@@ -8,7 +8,7 @@ use lru_async::async_lru::{AsyncLru, ShardData};
 use lru_async::logged_lru::LoggedLru;
 use lru_desks::Registry;
 use lru_inbox::Caller;
-use lru_inbox::tie::{Archive, Blank};
+use lru_inbox::tie::{Archive, BlankLogs};
 use lru_world::callback::AsyncEvictionCallback;
 use std::alloc::Global;
 use std::marker::Brand;
@@ -118,7 +118,7 @@ fn all_calls<
     rt: R,
     alloc: Global,
     quiet: Arc<Quiet, Global>,
-    blank: Blank<LruMsg<u64>>,
+    blank: BlankLogs<LruMsg<u64>>,
 ) -> Option<(Told, Told)>
     requires table { blank.tie.table.shared.table_id ≡ B.log }
     requires counts { (blank.tie.table.shared.key ≡ 1) × (B.shards ≡ 1) }
@@ -146,7 +146,7 @@ fn all_calls<
 fn each_answer_is_that_of_what_was_sent_before(rt: HostRuntime) -> Result<(), Fail> {
     let alloc: Global = rt.alloc();
     let quiet = Arc::new(alloc, Quiet)?;
-    let blank = Blank::new(alloc, 1)?;
+    let blank = BlankLogs::new(alloc, 1)?;
     let Some((before, after)) = all_calls::<Brand, _>(rt, alloc, quiet, blank) else {
         panic!(rt; "no threads");
     };

@@ -8,7 +8,7 @@ use lru_async::logged_lru::LoggedLru;
 use lru_async::saving::SaveReport;
 use lru_desks::Registry;
 use lru_inbox::Caller;
-use lru_inbox::tie::{Archive, Blank};
+use lru_inbox::tie::{Archive, BlankLogs};
 use lru_world::callback::AsyncEvictionCallback;
 use std::alloc::Global;
 use std::marker::Brand;
@@ -117,7 +117,7 @@ type Found = (Option<[(usize, u64); 3]>, Saved, Saved);
 fn all_found<
     B: Registry + Archive + Send + Sync + 'static,
     R: Threads + Wait + Copy + Send + Sync + 'static,
->(rt: R, alloc: Global, quiet: Arc<Quiet, Global>, blank: Blank<LruMsg<u64>>) -> Option<Found>
+>(rt: R, alloc: Global, quiet: Arc<Quiet, Global>, blank: BlankLogs<LruMsg<u64>>) -> Option<Found>
     requires table { blank.tie.table.shared.table_id ≡ B.log }
     requires counts { (blank.tie.table.shared.key ≡ 3) × (B.shards ≡ 3) }
 {
@@ -136,7 +136,7 @@ fn all_found<
 fn each_shard_is_handed_on_once_and_counted(rt: HostRuntime) -> Result<(), Fail> {
     let alloc: Global = rt.alloc();
     let quiet = Arc::new(alloc, Quiet)?;
-    let blank = Blank::new(alloc, 3)?;
+    let blank = BlankLogs::new(alloc, 3)?;
     let Some((refused, before, after)) = all_found::<Brand, _>(rt, alloc, quiet, blank) else {
         panic!(rt; "no threads");
     };

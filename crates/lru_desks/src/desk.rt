@@ -6,7 +6,7 @@ ghost use Rattle.lru_hands.specs.Hands.{up};
 ghost use Rattle.lru_desks.specs.Ties.{hand, of_desk, known};
 
 use crate::seats::{PutSeat, TakeSeat, put_seats, take_seats};
-use crate::tie::{Blank, Blanks, Registry, Tie, Token};
+use crate::tie::{BlankSeats, Blanks, Registry, DeskTie, DeskToken};
 use lru_mailbox::{LedgerState, MailError, Settled, Slip};
 use std::alloc::{AllocError, Global};
 use std::marker::{Model, PhantomData};
@@ -17,10 +17,10 @@ use std::marker::{Model, PhantomData};
 #[derive(Drop)]
 pub struct Desk<K: Drop, B: Registry> {
     state: LedgerState<K>,
-    puts: Tie,
-    putting: Token,
-    takes: Tie,
-    taking: Token,
+    puts: DeskTie,
+    putting: DeskToken,
+    takes: DeskTie,
+    taking: DeskToken,
     brand: PhantomData<B>,
 }
 
@@ -58,11 +58,11 @@ impl<K: Drop, B: Registry> Desk<K, B> {
             puts,
             takes,
         } = blanks;
-        let Blank {
+        let BlankSeats {
             tie: puts,
             token: putting,
         } = puts;
-        let Blank {
+        let BlankSeats {
             tie: takes,
             token: taking,
         } = takes;
@@ -202,8 +202,8 @@ impl<K: Drop, B: Registry> Desk<K, B> {
 
 // Takes seats apart: each one's slips go into a list of its own, and its token to the desk's, which knew all of these lists.
 fn gather_puts<B: Registry>(
-    tie: &Tie,
-    desk: &mut Token,
+    tie: &DeskTie,
+    desk: &mut DeskToken,
     seats: Vec<PutSeat<B>>,
     lists: &mut Vec<Vec<Slip>>,
 )
@@ -225,8 +225,8 @@ fn gather_puts<B: Registry>(
 
 // The same of seats of those who take.
 fn gather_takes<B: Registry>(
-    tie: &Tie,
-    desk: &mut Token,
+    tie: &DeskTie,
+    desk: &mut DeskToken,
     seats: Vec<TakeSeat<B>>,
     lists: &mut Vec<Vec<Slip>>,
 )

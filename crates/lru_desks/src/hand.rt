@@ -12,7 +12,7 @@ pub struct Kept {
 
 /// What a token knows: of each desk that it speaks for, there is one at most, what that knows each seat to have; and the
 /// seats that it speaks for. No value of it is made.
-pub struct Hand {
+pub struct DeskHand {
     /// For each desk the slips of each seat, in the order of the seats.
     pub desks: LinkedList<LinkedList<LinkedList<Slip>>>,
     /// The seats.

@@ -4,7 +4,7 @@ ghost use Rattle.lru_mailbox.specs.declared.slip.Slip.{Slip};
 ghost use Rattle.lru_hands.specs.Hands.{up};
 ghost use Rattle.lru_desks.specs.Ties.{hand, of_seat, of_desk, blank_lists, blank_seats};
 
-use crate::tie::{Registry, Tie, Token};
+use crate::tie::{Registry, DeskTie, DeskToken};
 use lru_mailbox::{PutShare, Slip, TakeShare};
 use std::alloc::{AllocError, Global};
 use std::marker::PhantomData;
@@ -17,7 +17,7 @@ pub struct PutSeat<B: Registry> {
     /// The slips of what was put with the seat, in order.
     pub share: PutShare,
     /// Speaks for the seat.
-    pub token: Token,
+    pub token: DeskToken,
     brand: PhantomData<B>,
     pub ghost here: { token.table_id ≡ B.puts },
     pub ghost told: { token.me ≡ (of_seat number share.slips, []) },
@@ -25,7 +25,7 @@ pub struct PutSeat<B: Registry> {
 
 impl<B: Registry> PutSeat<B> {
     /// A seat without slips.
-    pub fn new(alloc: Global, number: usize, token: Token) -> Self
+    pub fn new(alloc: Global, number: usize, token: DeskToken) -> Self
         requires { (token.table_id ≡ B.puts) × (token.me ≡ (of_seat number [], [])) }
         ensures number { result.number ≡ number }
         ensures slips { result.share.slips ≡ [] }
@@ -69,7 +69,7 @@ pub struct TakeSeat<B: Registry> {
     /// The slips of what was taken with the seat, in order.
     pub share: TakeShare,
     /// Speaks for the seat.
-    pub token: Token,
+    pub token: DeskToken,
     brand: PhantomData<B>,
     pub ghost here: { token.table_id ≡ B.takes },
     pub ghost told: { token.me ≡ (of_seat number share.slips, []) },
@@ -77,7 +77,7 @@ pub struct TakeSeat<B: Registry> {
 
 impl<B: Registry> TakeSeat<B> {
     /// A seat without slips.
-    pub fn new(alloc: Global, number: usize, token: Token) -> Self
+    pub fn new(alloc: Global, number: usize, token: DeskToken) -> Self
         requires { (token.table_id ≡ B.takes) × (token.me ≡ (of_seat number [], [])) }
         ensures number { result.number ≡ number }
         ensures slips { result.share.slips ≡ [] }
@@ -116,8 +116,8 @@ impl<B: Registry> TakeSeat<B> {
 // The seats of so many who put, in order. The token that spoke for them and the desk then speaks for the desk alone.
 pub(crate) fn put_seats<B: Registry>(
     alloc: Global,
-    tie: &Tie,
-    rest: &mut Token,
+    tie: &DeskTie,
+    rest: &mut DeskToken,
     count: usize,
 ) -> Result<Vec<PutSeat<B>>, AllocError>
     requires tie { tie.now.table.shared.table_id ≡ B.puts }
@@ -137,8 +137,8 @@ pub(crate) fn put_seats<B: Registry>(
 // The seats of so many who take, in the same way.
 pub(crate) fn take_seats<B: Registry>(
     alloc: Global,
-    tie: &Tie,
-    rest: &mut Token,
+    tie: &DeskTie,
+    rest: &mut DeskToken,
     count: usize,
 ) -> Result<Vec<TakeSeat<B>>, AllocError>
     requires tie { tie.now.table.shared.table_id ≡ B.takes }

@@ -9,7 +9,7 @@ use Rattle.lru_hands.specs.Hands.{total, Among, Held}
 use Rattle.lru_hands.proofs.Hands.{among_left, among_right, among_either, at_most, two_within, total_append, counts_one, counts_none, set_at, held_at, held_find, held_to, held_from, held_snoc_from, split_to, split_from, join_to, join_from, total_split, total_join, total_same, take_drop, dropped, taken, one_of}
 use Rattle.lru_inbox.specs.declared.hand.Log.{Log}
 use Rattle.lru_inbox.specs.declared.hand.Front.{Front}
-use Rattle.lru_inbox.specs.declared.hand.Hand.{Hand}
+use Rattle.lru_inbox.specs.declared.hand.LogHand.{LogHand}
 use Rattle.lru_inbox.specs.Logs.{Begins, log, front, hand, accepted, front_of, begun, of_log, of_taker, of_fronts, put_in, taken_from, blank_logs, blank_fronts, logs_of, takers_of, IsTaken, IsSeen, Told, Logs, Shows, put_at, take_at, Puts, Takes, Looks, joined}
 
 -- lists
@@ -44,11 +44,11 @@ module _ {E : Type 0} where
   among_taker t (u ∷ us) (inr a) = let ih = among_taker t us a in omega (arith, ih)
 
   -- where logs stay, what is told of them stays
-  told_where : (is : Log E → Front E → Type 0) (f : Front E) (vs ws : List (Hand E)) → ((l : Log E) → Held (λ (v : Hand E). v.logs) l vs → Held (λ (v : Hand E). v.logs) l ws) → Told is f vs → Told is f ws
+  told_where : (is : Log E → Front E → Type 0) (f : Front E) (vs ws : List (LogHand E)) → ((l : Log E) → Held (λ (v : LogHand E). v.logs) l vs → Held (λ (v : LogHand E). v.logs) l ws) → Told is f vs → Told is f ws
   told_where is f vs ws stays t = (t.0, stays t.0 t.1, t.2, t.3)
 
   -- what it takes to cut v into l and r
-  pub record Cuts (v l r : Hand E) : Type 0 where
+  pub record Cuts (v l r : LogHand E) : Type 0 where
     pub logs : (n : ℕ) → logs_of n l.logs + logs_of n r.logs ≡ logs_of n v.logs
     pub takers : (n : ℕ) → takers_of n l.takers + takers_of n r.takers ≡ takers_of n v.takers
     pub stay : (x : Log E) → Among x v.logs → Among x l.logs ⊎ Among x r.logs
@@ -57,7 +57,7 @@ module _ {E : Type 0} where
     pub fronts_l : (x : Front E) → Among x l.fronts → Among x v.fronts
     pub fronts_r : (x : Front E) → Among x r.fronts → Among x v.fronts ⊎ (((t : Front E) × (n : ℕ) × Among t v.takers × (x ≡ begun n t)) ⊎ ((y : Log E) × Among y v.logs × (x ≡ front_of y)))
 
-  seen_taken : (n : ℕ) (t : Front E) (vs : List (Hand E)) → Told IsTaken t vs → Told IsSeen (begun n t) vs
+  seen_taken : (n : ℕ) (t : Front E) (vs : List (LogHand E)) → Told IsTaken t vs → Told IsSeen (begun n t) vs
   seen_taken n t vs k = (
     k.0,
     k.1,
@@ -65,12 +65,12 @@ module _ {E : Type 0} where
     (drop n t.seen ++ k.0.left, sym (append_one (take n t.seen) (drop n t.seen) k.0.left) ∙ ap (λ l. l ++ k.0.left) (take_drop_whole n t.seen ∙ sym k.3)),
   )
 
-  seen_whole : (x : Front E) (y : Log E) (vs : List (Hand E)) → Held (λ (v : Hand E). v.logs) y vs → x ≡ front_of y → Told IsSeen x vs
+  seen_whole : (x : Front E) (y : Log E) (vs : List (LogHand E)) → Held (λ (v : LogHand E). v.logs) y vs → x ≡ front_of y → Told IsSeen x vs
   seen_whole x y vs h e = subst (λ (f : Front E). Told IsSeen f vs) (sym e) (y, h, refl, ([], append-nil (accepted y)))
 
-  logs_split : (vs : List (Hand E)) (i : ℕ) (v l r : Hand E) → Cuts v l r → Logs vs → get_elem? vs i ≡ some v → Logs (set vs i l ++ r ∷ [])
+  logs_split : (vs : List (LogHand E)) (i : ℕ) (v l r : LogHand E) → Cuts v l r → Logs vs → get_elem? vs i ≡ some v → Logs (set vs i l ++ r ∷ [])
   logs_split vs i v l r cut t at =
-      let stay : (x : Log E) → Held (λ (u : Hand E). u.logs) x vs → Held (λ (u : Hand E). u.logs) x (set vs i l ++ r ∷ []) = λ x h. split_to (λ u. u.logs) x vs i v l r at (cut.stay x) h in
+      let stay : (x : Log E) → Held (λ (u : LogHand E). u.logs) x vs → Held (λ (u : LogHand E). u.logs) x (set vs i l ++ r ∷ []) = λ x h. split_to (λ u. u.logs) x vs i v l r at (cut.stay x) h in
       record {
         one_log = λ n. let a = total_split (λ u. logs_of n u.logs) vs i v l r at (cut.logs n) in let b = t.one_log n in omega (arith, a, b);
         one_taker = λ n. let a = total_split (λ u. takers_of n u.takers) vs i v l r at (cut.takers n) in let b = t.one_taker n in omega (arith, a, b);
@@ -83,16 +83,16 @@ module _ {E : Type 0} where
       of_right x (inr (inl a)) = subst (λ (f : Front E). Told IsSeen f vs) (sym a.3) (seen_taken a.1 a.0 vs (t.taken a.0 (held_at (λ u. u.takers) a.0 vs i v at a.2)))
       of_right x (inr (inr y)) = seen_whole x y.0 vs (held_at (λ u. u.logs) y.0 vs i v at y.1) y.2
 
-      seen_in : (x : Front E) → Held (λ (u : Hand E). u.fronts) x (set vs i l ++ r ∷ []) → Told IsSeen x vs
+      seen_in : (x : Front E) → Held (λ (u : LogHand E). u.fronts) x (set vs i l ++ r ∷ []) → Told IsSeen x vs
       seen_in x h = ⊎_elim
           (λ g. ⊎_elim (λ a. t.seen x (held_at (λ u. u.fronts) x vs i v at (cut.fronts_l x a))) (λ k. t.seen x k) (held_from (λ u. u.fronts) x vs i l g))
           (λ a. of_right x (cut.fronts_r x a))
           (held_snoc_from (λ u. u.fronts) x (set vs i l) r h)
 
-  pub splits : (i : ℕ) (v l r : Hand E) → Cuts v l r → Splits (λ (s : State (Unit {0}) (Hand E)). Logs s.views) i v l r
+  pub splits : (i : ℕ) (v l r : LogHand E) → Cuts v l r → Splits (λ (s : State (Unit {0}) (LogHand E)). Logs s.views) i v l r
   splits i v l r cut s t at = logs_split s.views i v l r cut t at
 
-  pub cuts_lend : (v : Hand E) → Cuts v (hand [] [] []) v
+  pub cuts_lend : (v : LogHand E) → Cuts v (hand [] [] []) v
   cuts_lend v = record {
     logs = λ n. omega arith;
     takers = λ n. omega arith;
@@ -103,7 +103,7 @@ module _ {E : Type 0} where
     fronts_r = λ x a. inl a;
   }
 
-  pub cuts_nothing : (v : Hand E) → Cuts v v (hand [] [] [])
+  pub cuts_nothing : (v : LogHand E) → Cuts v v (hand [] [] [])
   cuts_nothing v = record {
     logs = λ n. omega arith;
     takers = λ n. omega arith;
@@ -119,7 +119,7 @@ module _ {E : Type 0} where
   mapped_front x (m ∷ ms) (inl e) = (m, inl refl, e)
   mapped_front x (m ∷ ms) (inr a) = let r = mapped_front x ms a in (r.0, inr r.1, r.2)
 
-  pub cuts_seen : (v : Hand E) → Cuts v (hand v.logs v.takers []) (hand [] [] (map front_of v.logs ++ v.fronts))
+  pub cuts_seen : (v : LogHand E) → Cuts v (hand v.logs v.takers []) (hand [] [] (map front_of v.logs ++ v.fronts))
   cuts_seen v = record {
     logs = λ n. omega arith;
     takers = λ n. omega arith;
@@ -130,7 +130,7 @@ module _ {E : Type 0} where
     fronts_r = λ x a. ⊎_elim (λ b. inr (inr (mapped_front x v.logs b))) (λ b. inl b) (among_either x (map front_of v.logs) v.fronts a);
   }
 
-  pub cuts_copied : (v : Hand E) → Cuts v v (hand [] [] (map front_of v.logs ++ v.fronts))
+  pub cuts_copied : (v : LogHand E) → Cuts v v (hand [] [] (map front_of v.logs ++ v.fronts))
   cuts_copied v = record {
     logs = λ n. omega arith;
     takers = λ n. omega arith;
@@ -141,7 +141,7 @@ module _ {E : Type 0} where
     fronts_r = λ x a. ⊎_elim (λ b. inr (inr (mapped_front x v.logs b))) (λ b. inl b) (among_either x (map front_of v.logs) v.fronts a);
   }
 
-  pub cuts_parts : (v : Hand E) → Cuts v (hand v.logs [] v.fronts) (hand [] v.takers [])
+  pub cuts_parts : (v : LogHand E) → Cuts v (hand v.logs [] v.fronts) (hand [] v.takers [])
   cuts_parts v = record {
     logs = λ n. omega arith;
     takers = λ n. omega arith;
@@ -157,7 +157,7 @@ module _ {E : Type 0} where
   mapped_begun n x (t ∷ ts) (inl e) = (t, inl refl, e)
   mapped_begun n x (t ∷ ts) (inr a) = let r = mapped_begun n x ts a in (r.0, inr r.1, r.2)
 
-  pub cuts_shown : (n : ℕ) (v : Hand E) → Cuts v v (hand [] [] (map (begun n) v.takers))
+  pub cuts_shown : (n : ℕ) (v : LogHand E) → Cuts v v (hand [] [] (map (begun n) v.takers))
   cuts_shown n v = record {
     logs = λ n. omega arith;
     takers = λ n. omega arith;
@@ -168,7 +168,7 @@ module _ {E : Type 0} where
     fronts_r = λ x a. let r = mapped_begun n x v.takers a in inr (inl (r.0, n, r.1, r.2));
   }
 
-  pub cuts_log : (v : Hand E) → Cuts v (hand (drop 1 v.logs) v.takers v.fronts) (hand (take 1 v.logs) [] [])
+  pub cuts_log : (v : LogHand E) → Cuts v (hand (drop 1 v.logs) v.takers v.fronts) (hand (take 1 v.logs) [] [])
   cuts_log v = record {
     logs = λ n. take_drop _ v.logs;
     takers = λ n. omega arith;
@@ -179,7 +179,7 @@ module _ {E : Type 0} where
     fronts_r = λ x a. absurd a;
   }
 
-  pub cuts_taker : (v : Hand E) → Cuts v (hand v.logs (drop 1 v.takers) v.fronts) (hand [] (take 1 v.takers) [])
+  pub cuts_taker : (v : LogHand E) → Cuts v (hand v.logs (drop 1 v.takers) v.fronts) (hand [] (take 1 v.takers) [])
   cuts_taker v = record {
     logs = λ n. omega arith;
     takers = λ n. take_drop _ v.takers;
@@ -190,11 +190,11 @@ module _ {E : Type 0} where
     fronts_r = λ x a. absurd a;
   }
 
-  logs_join : (vs : List (Hand E)) (i j : ℕ) (v w : Hand E) → Logs vs → get_elem? vs i ≡ some v → j ≢ i → get_elem? (set vs i (joined v w)) j ≡ some w → Logs (set (set vs i (joined v w)) j (hand [] [] []))
+  logs_join : (vs : List (LogHand E)) (i j : ℕ) (v w : LogHand E) → Logs vs → get_elem? vs i ≡ some v → j ≢ i → get_elem? (set vs i (joined v w)) j ≡ some w → Logs (set (set vs i (joined v w)) j (hand [] [] []))
   logs_join vs i j v w t at apart beside =
-      let b : Hand E = joined v w in let n : Hand E = hand [] [] [] in
+      let b : LogHand E = joined v w in let n : LogHand E = hand [] [] [] in
       let there : get_elem? vs j ≡ some w = sym (set_else vs i j b apart) ∙ beside in
-      let stay : (x : Log E) → Held (λ (u : Hand E). u.logs) x vs → Held (λ (u : Hand E). u.logs) x (set (set vs i b) j n) = λ x h. join_to (λ u. u.logs) x vs i j v w b n at apart there (among_left x v.logs w.logs) (among_right x v.logs w.logs) h in
+      let stay : (x : Log E) → Held (λ (u : LogHand E). u.logs) x vs → Held (λ (u : LogHand E). u.logs) x (set (set vs i b) j n) = λ x h. join_to (λ u. u.logs) x vs i j v w b n at apart there (among_left x v.logs w.logs) (among_right x v.logs w.logs) h in
       record {
         one_log = λ m. let a = total_join (λ u. logs_of m u.logs) vs i j v w b n at beside (total_append _ v.logs w.logs) refl in let o = t.one_log m in omega (arith, a, o);
         one_taker = λ m. let a = total_join (λ u. takers_of m u.takers) vs i j v w b n at beside (total_append _ v.takers w.takers) refl in let o = t.one_taker m in omega (arith, a, o);
@@ -202,7 +202,7 @@ module _ {E : Type 0} where
         seen = λ x h. told_where IsSeen x vs _ stay (t.seen x (join_from (λ u. u.fronts) x vs i j v w b n at apart there (among_either x v.fronts w.fronts) (λ a. a) h));
       }
 
-  pub joins : (i j : ℕ) (v w : Hand E) → Joins (λ (s : State (Unit {0}) (Hand E)). Logs s.views) i v j w (joined v w) (hand [] [] [])
+  pub joins : (i j : ℕ) (v w : LogHand E) → Joins (λ (s : State (Unit {0}) (LogHand E)). Logs s.views) i v j w (joined v w) (hand [] [] [])
   joins i j v w s t at apart there = logs_join s.views i j v w t at apart there
 
 -- at the start
@@ -255,12 +255,12 @@ module _ (E : Type 0) where
 
 module _ {E : Type 0} where
   -- what a hand shows
-  same_log : (vs : List (Hand E)) → Logs vs → (l m : Log E) → Held (λ (u : Hand E). u.logs) l vs → Held (λ (u : Hand E). u.logs) m vs → l.shard ≡ m.shard → l ≡ m
+  same_log : (vs : List (LogHand E)) → Logs vs → (l m : Log E) → Held (λ (u : LogHand E). u.logs) l vs → Held (λ (u : LogHand E). u.logs) m vs → l.shard ≡ m.shard → l ≡ m
   same_log vs t l m h k e = let p = held_find (λ u. u.logs) l vs h in let q = held_find (λ u. u.logs) m vs k in
       ⊎_elim
-      (λ (same : p.0 ≡ q.0). one_hand p.1 q.1 (some-injective p.1 q.1 (sym p.2 ∙ ap (λ n. get_elem? vs n) same ∙ q.2)) p.3 q.3 (at_most (λ (u : Hand E). logs_of m.shard u.logs) vs q.0 q.1 q.2))
+      (λ (same : p.0 ≡ q.0). one_hand p.1 q.1 (some-injective p.1 q.1 (sym p.2 ∙ ap (λ n. get_elem? vs n) same ∙ q.2)) p.3 q.3 (at_most (λ (u : LogHand E). logs_of m.shard u.logs) vs q.0 q.1 q.2))
       (λ (apart : p.0 ≢ q.0).
-      let two = two_within (λ (u : Hand E). logs_of m.shard u.logs) vs p.0 q.0 p.1 q.1 (λ z. apart (sym z)) p.2 q.2 in
+      let two = two_within (λ (u : LogHand E). logs_of m.shard u.logs) vs p.0 q.0 p.1 q.1 (λ z. apart (sym z)) p.2 q.2 in
       let o = t.one_log m.shard in
       let a : 0 < logs_of m.shard p.1.logs = subst (λ n. 0 < logs_of n p.1.logs) e (among_log l p.1.logs p.3) in
       let b = among_log m q.1.logs q.3 in
@@ -281,10 +281,10 @@ module _ {E : Type 0} where
           let d : 0 < logs_of m.shard xs = subst (λ n. 0 < logs_of n xs) e (among_log l xs a) in absurd (omega (arith, c, d, o))
       one_among l m (x ∷ xs) e (inr a) (inr b) o = one_among l m xs e a b (omega (arith, o))
 
-      one_hand : (v w : Hand E) → v ≡ w → Among l v.logs → Among m w.logs → logs_of m.shard w.logs ≤ total (λ (u : Hand E). logs_of m.shard u.logs) vs → l ≡ m
-      one_hand v w same a b o = let c = t.one_log m.shard in one_among l m w.logs e (subst (λ (u : Hand E). Among l u.logs) same a) b (omega (arith, o, c))
+      one_hand : (v w : LogHand E) → v ≡ w → Among l v.logs → Among m w.logs → logs_of m.shard w.logs ≤ total (λ (u : LogHand E). logs_of m.shard u.logs) vs → l ≡ m
+      one_hand v w same a b o = let c = t.one_log m.shard in one_among l m w.logs e (subst (λ (u : LogHand E). Among l u.logs) same a) b (omega (arith, o, c))
 
-  pub shows : (vs : List (Hand E)) (i : ℕ) (v : Hand E) → Logs vs → get_elem? vs i ≡ some v → Shows v
+  pub shows : (vs : List (LogHand E)) (i : ℕ) (v : LogHand E) → Logs vs → get_elem? vs i ≡ some v → Shows v
   shows vs i v t at = record {
     taken = λ l f a b e.
         let k = t.taken f (held_at (λ u. u.takers) f vs i v at b) in
@@ -301,7 +301,7 @@ module _ {E : Type 0} where
         (accepted k.0, k.3, subst (λ (z : Log E). IsSeen z g) same j.3);
   }
 
-  pub looks : (slots id i a b : ℕ) (me : Me (Unit {0}) (Hand E)) → Allows (λ (s : State (Unit {0}) (Hand E)). Logs s.views) slots id me i (λ n. n) (Looks (step slots i a b none) me)
+  pub looks : (slots id i a b : ℕ) (me : Me (Unit {0}) (LogHand E)) → Allows (λ (s : State (Unit {0}) (LogHand E)). Logs s.views) slots id me i (λ n. n) (Looks (step slots i a b none) me)
   looks slots id i a b me s t wide at fits = (
     me.0,
     keeps,
@@ -311,17 +311,17 @@ module _ {E : Type 0} where
   )
 
 -- a log of one hand goes on
-module _ {E : Type 0} (vs : List (Hand E)) (i : ℕ) (l m : Log E) (ts us fs : List (Front E)) (t : Logs vs) (at : get_elem? vs i ≡ some (hand (l ∷ []) ts fs)) (same : m.shard ≡ l.shard) where
-  abbrev v : Hand E
+module _ {E : Type 0} (vs : List (LogHand E)) (i : ℕ) (l m : Log E) (ts us fs : List (Front E)) (t : Logs vs) (at : get_elem? vs i ≡ some (hand (l ∷ []) ts fs)) (same : m.shard ≡ l.shard) where
+  abbrev v : LogHand E
   v = hand (l ∷ []) ts fs
 
-  abbrev w : Hand E
+  abbrev w : LogHand E
   w = hand (m ∷ []) us fs
 
-  abbrev after : List (Hand E)
+  abbrev after : List (LogHand E)
   after = set vs i w
 
-  here : Held (λ (u : Hand E). u.logs) m after
+  here : Held (λ (u : LogHand E). u.logs) m after
   here = held_at (λ u. u.logs) m after i w (set_at vs i v w at) (inl refl)
 
   -- what was told of it goes on to be so, and what was told of another log stays
@@ -334,10 +334,10 @@ module _ {E : Type 0} (vs : List (Hand E)) (i : ℕ) (l m : Log E) (ts us fs : L
   counts_on : (n : ℕ) → logs_of n w.logs ≡ logs_of n v.logs
   counts_on n = ap (λ (k : ℕ). (if k == n then 1 else 0) + 0) same
 
-  one_log_on : (n : ℕ) → total (λ (u : Hand E). logs_of n u.logs) after ≤ 1
+  one_log_on : (n : ℕ) → total (λ (u : LogHand E). logs_of n u.logs) after ≤ 1
   one_log_on n = let a = total_same (λ u. logs_of n u.logs) vs i v w at (counts_on n) in let o = t.one_log n in omega (arith, a, o)
 
-  seen_on : ((f : Front E) → IsSeen l f → IsSeen m f) → (f : Front E) → Held (λ (u : Hand E). u.fronts) f after → Told IsSeen f after
+  seen_on : ((f : Front E) → IsSeen l f → IsSeen m f) → (f : Front E) → Held (λ (u : LogHand E). u.fronts) f after → Told IsSeen f after
   seen_on on f h = told_on IsSeen f (on f) (⊎_elim (λ a. t.seen f (held_at (λ u. u.fronts) f vs i v at a)) (λ g. t.seen f g) (held_from (λ u. u.fronts) f vs i w h))
 
   -- nothing is taken
@@ -350,21 +350,21 @@ module _ {E : Type 0} (vs : List (Hand E)) (i : ℕ) (l m : Log E) (ts us fs : L
   }
 
 -- some of a log is taken by the one who takes from that shard
-module _ {E : Type 0} (vs : List (Hand E)) (i : ℕ) (l m : Log E) (q r : Front E) (fs : List (Front E)) (t : Logs vs) (at : get_elem? vs i ≡ some (hand (l ∷ []) (q ∷ []) fs))
+module _ {E : Type 0} (vs : List (LogHand E)) (i : ℕ) (l m : Log E) (q r : Front E) (fs : List (Front E)) (t : Logs vs) (at : get_elem? vs i ≡ some (hand (l ∷ []) (q ∷ []) fs))
     (same : m.shard ≡ l.shard) (its : q.shard ≡ l.shard) (still : r.shard ≡ q.shard) (has : m.taken ≡ r.seen) (on : (f : Front E) → IsSeen l f → IsSeen m f) where
-  abbrev u : Hand E
+  abbrev u : LogHand E
   u = hand (l ∷ []) (q ∷ []) fs
 
-  abbrev x : Hand E
+  abbrev x : LogHand E
   x = hand (m ∷ []) (r ∷ []) fs
 
   -- another one who takes has another number
-  another : (f : Front E) → (j : ℕ) (y : Hand E) → j ≢ i → get_elem? vs j ≡ some y → Among f y.takers → Told IsTaken f (set vs i x)
+  another : (f : Front E) → (j : ℕ) (y : LogHand E) → j ≢ i → get_elem? vs j ≡ some y → Among f y.takers → Told IsTaken f (set vs i x)
   another f j y apart there a =
       let k = t.taken f (held_at (λ z. z.takers) f vs j y there a) in ⊎_elim
       (λ (b : Among k.0 (l ∷ [])).
       let s : f.shard ≡ q.shard = sym k.2 ∙ ap (λ (z : Log E). z.shard) (one_of k.0 l b) ∙ sym its in
-      let two = two_within (λ (z : Hand E). takers_of q.shard z.takers) vs i j u y apart at there in
+      let two = two_within (λ (z : LogHand E). takers_of q.shard z.takers) vs i j u y apart at there in
       let o = t.one_taker q.shard in
       let c : 0 < takers_of q.shard y.takers = subst (λ n. 0 < takers_of n y.takers) s (among_taker f y.takers a) in
       let d = counts_one q.shard q.shard refl in
@@ -372,10 +372,10 @@ module _ {E : Type 0} (vs : List (Hand E)) (i : ℕ) (l m : Log E) (q r : Front 
       (λ h. (k.0, h, k.2, k.3))
       (held_to (λ z. z.logs) k.0 vs i u x at k.1)
 
-  taken_in : (f : Front E) → Held (λ (z : Hand E). z.takers) f (set vs i x) → Told IsTaken f (set vs i x)
+  taken_in : (f : Front E) → Held (λ (z : LogHand E). z.takers) f (set vs i x) → Told IsTaken f (set vs i x)
   taken_in f h = let p = held_find (λ z. z.takers) f (set vs i x) h in ⊎_elim
       (λ (e : (p.0 ≡ i) × (x ≡ p.1)).
-      let z : f ≡ r = one_of f r (subst (λ (y : Hand E). Among f y.takers) (sym e.1) p.3) in
+      let z : f ≡ r = one_of f r (subst (λ (y : LogHand E). Among f y.takers) (sym e.1) p.3) in
       (m, here vs i l m (q ∷ []) (r ∷ []) fs t at same, same ∙ sym its ∙ sym still ∙ ap (λ (y : Front E). y.shard) (sym z), has ∙ ap (λ (y : Front E). y.seen) (sym z)))
       (λ (e : (p.0 ≢ i) × (get_elem? vs p.0 ≡ some p.1)). another f p.0 p.1 e.0 e.1 p.3)
       (at_set vs i p.0 x p.1 p.2)
@@ -402,38 +402,38 @@ module _ {E : Type 0} where
   take_same l count = append_one l.taken (take count l.left) (drop count l.left) ∙ ap (λ z. l.taken ++ z) (take_drop_whole count l.left)
 
   -- a hand of one log, whatever else it knows
-  pub puts : (slots id i a b : ℕ) (me : Me (Unit {0}) (Hand E)) (l : Log E) (ts fs : List (Front E)) (said : List E) → me ≡ (hand (l ∷ []) ts fs, [])
-      → Allows (λ (s : State (Unit {0}) (Hand E)). Logs s.views) slots id me i (λ n. n) (Puts said (step slots i a b none) me)
+  pub puts : (slots id i a b : ℕ) (me : Me (Unit {0}) (LogHand E)) (l : Log E) (ts fs : List (Front E)) (said : List E) → me ≡ (hand (l ∷ []) ts fs, [])
+      → Allows (λ (s : State (Unit {0}) (LogHand E)). Logs s.views) slots id me i (λ n. n) (Puts said (step slots i a b none) me)
   puts slots id i a b me l ts fs said is s t wide at fits =
-      let at' : get_elem? s.views id ≡ some (hand (l ∷ []) ts fs) = at ∙ ap (λ (m : Me (Unit {0}) (Hand E)). some m.0) is in (
+      let at' : get_elem? s.views id ≡ some (hand (l ∷ []) ts fs) = at ∙ ap (λ (m : Me (Unit {0}) (LogHand E)). some m.0) is in (
         put_at said me.0.logs me.0.takers me.0.fronts,
         keeps,
         tt,
-        subst (λ (m : Me (Unit {0}) (Hand E)). Logs (set s.views id (put_at said m.0.logs m.0.takers m.0.fronts))) (sym is)
+        subst (λ (m : Me (Unit {0}) (LogHand E)). Logs (set s.views id (put_at said m.0.logs m.0.takers m.0.fronts))) (sym is)
             (logs_put s.views id l (put_in l said) ts ts fs t at' refl refl refl (put_seen l said)),
         (refl, shows s.views id me.0 t at),
       )
 
   -- a hand of one log and of one who takes from it
-  pub takes : (slots id i a b : ℕ) (me : Me (Unit {0}) (Hand E)) (l : Log E) (q : Front E) (fs : List (Front E)) (count : ℕ) → q.shard ≡ l.shard → me ≡ (hand (l ∷ []) (q ∷ []) fs, [])
-      → Allows (λ (s : State (Unit {0}) (Hand E)). Logs s.views) slots id me i (λ n. n) (Takes count (step slots i a b none) me)
+  pub takes : (slots id i a b : ℕ) (me : Me (Unit {0}) (LogHand E)) (l : Log E) (q : Front E) (fs : List (Front E)) (count : ℕ) → q.shard ≡ l.shard → me ≡ (hand (l ∷ []) (q ∷ []) fs, [])
+      → Allows (λ (s : State (Unit {0}) (LogHand E)). Logs s.views) slots id me i (λ n. n) (Takes count (step slots i a b none) me)
   takes slots id i a b me l q fs count its is s t wide at fits =
-      let at' : get_elem? s.views id ≡ some (hand (l ∷ []) (q ∷ []) fs) = at ∙ ap (λ (m : Me (Unit {0}) (Hand E)). some m.0) is in
+      let at' : get_elem? s.views id ≡ some (hand (l ∷ []) (q ∷ []) fs) = at ∙ ap (λ (m : Me (Unit {0}) (LogHand E)). some m.0) is in
       let had : l.taken ≡ q.seen = (shows s.views id (hand (l ∷ []) (q ∷ []) fs) t at').taken l q (inl refl) (inl refl) (sym its) in (
         take_at count me.0.logs me.0.takers me.0.fronts,
         keeps,
         tt,
-        subst (λ (m : Me (Unit {0}) (Hand E)). Logs (set s.views id (take_at count m.0.logs m.0.takers m.0.fronts))) (sym is)
+        subst (λ (m : Me (Unit {0}) (LogHand E)). Logs (set s.views id (take_at count m.0.logs m.0.takers m.0.fronts))) (sym is)
             (logs_taken s.views id l (taken_from l count) q (front q.shard (q.seen ++ take count l.left)) fs t at' refl its refl
             (ap (λ z. z ++ take count l.left) had) (λ f b. subst (Begins f.seen) (sym (take_same l count)) b)),
         (refl, shows s.views id me.0 t at),
       )
 
   -- the log's hand and a lent hand, put together
-  pub together_seen : (l : Log E) (fs : List (Front E)) (desk caller lent both : Me (Unit {0}) (Hand E)) → desk ≡ (of_log l, []) → caller ≡ (of_fronts fs, []) → lent ≡ (caller.0, []) → both ≡ (joined desk.0 lent.0, desk.1) → both ≡ (hand (l ∷ []) [] fs, [])
+  pub together_seen : (l : Log E) (fs : List (Front E)) (desk caller lent both : Me (Unit {0}) (LogHand E)) → desk ≡ (of_log l, []) → caller ≡ (of_fronts fs, []) → lent ≡ (caller.0, []) → both ≡ (joined desk.0 lent.0, desk.1) → both ≡ (hand (l ∷ []) [] fs, [])
   together_seen l fs desk caller lent both of_d of_c of_lent of_both =
-      of_both ∙ (λ i. (joined (of_d i).0 ((of_lent ∙ ap (λ (m : Me (Unit {0}) (Hand E)). (m.0, [])) of_c) i).0, (of_d i).1))
+      of_both ∙ (λ i. (joined (of_d i).0 ((of_lent ∙ ap (λ (m : Me (Unit {0}) (LogHand E)). (m.0, [])) of_c) i).0, (of_d i).1))
 
-  pub together_taken : (l : Log E) (n : ℕ) (xs : List E) (desk taker lent both : Me (Unit {0}) (Hand E)) → desk ≡ (of_log l, []) → taker ≡ (of_taker n xs, []) → lent ≡ (taker.0, []) → both ≡ (joined desk.0 lent.0, desk.1) → both ≡ (hand (l ∷ []) (front n xs ∷ []) [], [])
+  pub together_taken : (l : Log E) (n : ℕ) (xs : List E) (desk taker lent both : Me (Unit {0}) (LogHand E)) → desk ≡ (of_log l, []) → taker ≡ (of_taker n xs, []) → lent ≡ (taker.0, []) → both ≡ (joined desk.0 lent.0, desk.1) → both ≡ (hand (l ∷ []) (front n xs ∷ []) [], [])
   together_taken l n xs desk taker lent both of_d of_t of_lent of_both =
-      of_both ∙ (λ i. (joined (of_d i).0 ((of_lent ∙ ap (λ (m : Me (Unit {0}) (Hand E)). (m.0, [])) of_t) i).0, (of_d i).1))
+      of_both ∙ (λ i. (joined (of_d i).0 ((of_lent ∙ ap (λ (m : Me (Unit {0}) (LogHand E)). (m.0, [])) of_t) i).0, (of_d i).1))

@@ -4,7 +4,7 @@ use Rattle.atomic_table.specs.Table.{Me, Step}
 use Rattle.lru_hands.specs.Hands.{total, up, Among, Held}
 use Rattle.lru_inbox.specs.declared.hand.Log.{Log}
 use Rattle.lru_inbox.specs.declared.hand.Front.{Front}
-use Rattle.lru_inbox.specs.declared.hand.Hand.{Hand}
+use Rattle.lru_inbox.specs.declared.hand.LogHand.{LogHand}
 
 -- ys goes on where xs ends
 abbrev pub Begins : {A : Type 0} → List A → List A → Type 0
@@ -17,7 +17,7 @@ module _ {E : Type 0} where
   abbrev pub front : ℕ → List E → Front E
   front shard seen = record { shard = shard; seen = seen }
 
-  abbrev pub hand : List (Log E) → List (Front E) → List (Front E) → Hand E
+  abbrev pub hand : List (Log E) → List (Front E) → List (Front E) → LogHand E
   hand logs takers fronts = record { logs = logs; takers = takers; fronts = fronts }
 
   -- all that was accepted, in order
@@ -33,13 +33,13 @@ module _ {E : Type 0} where
   begun count f = front f.shard (take count f.seen)
 
   -- a hand that speaks for one log, for one who takes from a shard, or for what was seen
-  abbrev pub of_log : Log E → Hand E
+  abbrev pub of_log : Log E → LogHand E
   of_log l = hand (l ∷ []) [] []
 
-  abbrev pub of_taker : ℕ → List E → Hand E
+  abbrev pub of_taker : ℕ → List E → LogHand E
   of_taker shard taken = hand [] (front shard taken ∷ []) []
 
-  abbrev pub of_fronts : List (Front E) → Hand E
+  abbrev pub of_fronts : List (Front E) → LogHand E
   of_fronts fronts = hand [] [] fronts
 
   -- the first log
@@ -47,7 +47,7 @@ module _ {E : Type 0} where
   first_log [] = log 0 [] []
   first_log (l ∷ _) = l
 
-  abbrev pub log_of : Hand E → Log E
+  abbrev pub log_of : LogHand E → Log E
   log_of v = first_log v.logs
 
   -- what the first of those who take had
@@ -55,7 +55,7 @@ module _ {E : Type 0} where
   first_seen [] = []
   first_seen (f ∷ _) = f.seen
 
-  abbrev pub taken_by : Hand E → List E
+  abbrev pub taken_by : LogHand E → List E
   taken_by v = first_seen v.takers
 
   -- more was put
@@ -89,44 +89,44 @@ module _ {E : Type 0} where
   IsSeen l f = Begins f.seen (accepted l)
 
   -- there is a log of that shard of which this is so
-  abbrev pub Told : (Log E → Front E → Type 0) → Front E → List (Hand E) → Type 0
-  Told is f vs = (l : Log E) × Held (λ (v : Hand E). v.logs) l vs × (l.shard ≡ f.shard) × is l f
+  abbrev pub Told : (Log E → Front E → Type 0) → Front E → List (LogHand E) → Type 0
+  Told is f vs = (l : Log E) × Held (λ (v : LogHand E). v.logs) l vs × (l.shard ≡ f.shard) × is l f
 
   -- there is one log and one who takes of each number at most; what those had is what was taken, and what was seen begins a log
-  pub record Logs (vs : List (Hand E)) : Type 0 where
+  pub record Logs (vs : List (LogHand E)) : Type 0 where
     pub one_log : (n : ℕ) → total (λ v. logs_of n v.logs) vs ≤ 1
     pub one_taker : (n : ℕ) → total (λ v. takers_of n v.takers) vs ≤ 1
-    pub taken : (t : Front E) → Held (λ (v : Hand E). v.takers) t vs → Told IsTaken t vs
-    pub seen : (f : Front E) → Held (λ (v : Hand E). v.fronts) f vs → Told IsSeen f vs
+    pub taken : (t : Front E) → Held (λ (v : LogHand E). v.takers) t vs → Told IsTaken t vs
+    pub seen : (f : Front E) → Held (λ (v : LogHand E). v.fronts) f vs → Told IsSeen f vs
 
   -- what a hand shows: those who take from a log of the hand had what was taken; what was seen of it begins it; and of what was
   -- seen of one shard, all begin one log
-  pub record Shows (v : Hand E) : Type 0 where
+  pub record Shows (v : LogHand E) : Type 0 where
     pub taken : (l : Log E) (t : Front E) → Among l v.logs → Among t v.takers → l.shard ≡ t.shard → IsTaken l t
     pub seen : (l : Log E) (f : Front E) → Among l v.logs → Among f v.fronts → l.shard ≡ f.shard → IsSeen l f
     pub both : (f g : Front E) → Among f v.fronts → Among g v.fronts → f.shard ≡ g.shard → (whole : List E) × Begins f.seen whole × Begins g.seen whole
 
   -- a hand of one log to which more was put
-  abbrev pub put_at : List E → List (Log E) → List (Front E) → List (Front E) → Hand E
+  abbrev pub put_at : List E → List (Log E) → List (Front E) → List (Front E) → LogHand E
   put_at said (l ∷ []) takers fronts = hand (put_in l said ∷ []) takers fronts
   put_at said logs takers fronts = hand logs takers fronts
 
   -- a hand of one log and one who took so many more
-  abbrev pub take_at : ℕ → List (Log E) → List (Front E) → List (Front E) → Hand E
+  abbrev pub take_at : ℕ → List (Log E) → List (Front E) → List (Front E) → LogHand E
   take_at count (l ∷ []) (t ∷ []) fronts = hand (taken_from l count ∷ []) (front t.shard (t.seen ++ take count l.left) ∷ []) fronts
   take_at count logs takers fronts = hand logs takers fronts
 
   -- the steps
-  abbrev pub Puts : {S : Type 0} → List E → Step S → Me S (Hand E) → ℕ → Me S (Hand E) → Type 0
+  abbrev pub Puts : {S : Type 0} → List E → Step S → Me S (LogHand E) → ℕ → Me S (LogHand E) → Type 0
   Puts said st m n m' = (m' ≡ (put_at said m.0.logs m.0.takers m.0.fronts, m.1)) × Shows m.0
 
-  abbrev pub Takes : {S : Type 0} → ℕ → Step S → Me S (Hand E) → ℕ → Me S (Hand E) → Type 0
+  abbrev pub Takes : {S : Type 0} → ℕ → Step S → Me S (LogHand E) → ℕ → Me S (LogHand E) → Type 0
   Takes count st m n m' = (m' ≡ (take_at count m.0.logs m.0.takers m.0.fronts, m.1)) × Shows m.0
 
-  abbrev pub Looks : {S : Type 0} → Step S → Me S (Hand E) → ℕ → Me S (Hand E) → Type 0
+  abbrev pub Looks : {S : Type 0} → Step S → Me S (LogHand E) → ℕ → Me S (LogHand E) → Type 0
   Looks st m n m' = (m' ≡ m) × Shows m.0
 
-  abbrev pub joined : Hand E → Hand E → Hand E
+  abbrev pub joined : LogHand E → LogHand E → LogHand E
   joined v w = hand (v.logs ++ w.logs) (v.takers ++ w.takers) (v.fronts ++ w.fronts)
 
   -- what of a shard's log was seen last; nothing where none of it was

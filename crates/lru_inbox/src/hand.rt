@@ -21,7 +21,7 @@ pub struct Front<E> {
 
 /// What a token knows: the logs that it speaks for, of each shard one at most; what those who take had, of each shard one at
 /// most too; and beginnings of logs. No value of it is made.
-pub struct Hand<E> {
+pub struct LogHand<E> {
     /// The logs.
     pub logs: LinkedList<Log<E>>,
     /// What was taken.

@@ -3,7 +3,7 @@
 ghost use Rattle.std.specs.Prelude.{◌≡◌, [], ◌∷◌, ◌++◌, map, take, drop, IfOk};
 ghost use Rattle.lru_inbox.specs.Logs.{log, front, hand, accepted, of_log, of_taker, of_fronts, log_of, taken_by, blank_logs, blank_fronts, front_of, begun, put_in, taken_from, Logs, Puts, Takes, Looks, Shows, joined, Begins};
 
-use crate::hand::Hand;
+use crate::hand::LogHand;
 use atomic_table::{Join, Play, Seat, Split, Table, TableRule};
 use std::alloc::{AllocError, Global};
 use std::marker::{Brand, PhantomData};
@@ -51,9 +51,9 @@ impl Counting for Brand {
 }
 
 /// The rule of the table.
-pub struct Tied<E>(PhantomData<E>);
+pub struct LogRule<E>(PhantomData<E>);
 
-impl<E> TableRule<(), Hand<E>, u64> for Tied<E> {
+impl<E> TableRule<(), LogHand<E>, u64> for LogRule<E> {
     ghost holds = { λ _ s. Logs s.views };
 
     ghost first = { λ count. hand (blank_logs 0 count) (blank_fronts 0 count) [] };
@@ -61,26 +61,26 @@ impl<E> TableRule<(), Hand<E>, u64> for Tied<E> {
 
 struct Putting<E, S: Saying<E>>(PhantomData<(E, S)>);
 
-impl<E, S: Saying<E>> Play<(), Hand<E>> for Putting<E, S> {
+impl<E, S: Saying<E>> Play<(), LogHand<E>> for Putting<E, S> {
     ghost then = { Puts S.said };
 }
 
 struct Taking<E, C: Counting>(PhantomData<(E, C)>);
 
-impl<E, C: Counting> Play<(), Hand<E>> for Taking<E, C> {
+impl<E, C: Counting> Play<(), LogHand<E>> for Taking<E, C> {
     ghost then = { Takes C.count };
 }
 
 struct Looking<E>(PhantomData<E>);
 
-impl<E> Play<(), Hand<E>> for Looking<E> {
+impl<E> Play<(), LogHand<E>> for Looking<E> {
     ghost then = { Looks };
 }
 
 // All that a token has goes.
 struct Lend<E>(PhantomData<E>);
 
-impl<E> Split<Hand<E>> for Lend<E> {
+impl<E> Split<LogHand<E>> for Lend<E> {
     ghost left = { λ v. hand [] [] [] };
 
     ghost right = { λ v. v };
@@ -89,7 +89,7 @@ impl<E> Split<Hand<E>> for Lend<E> {
 // Nothing goes.
 struct Nothing<E>(PhantomData<E>);
 
-impl<E> Split<Hand<E>> for Nothing<E> {
+impl<E> Split<LogHand<E>> for Nothing<E> {
     ghost left = { λ v. v };
 
     ghost right = { λ v. hand [] [] [] };
@@ -98,7 +98,7 @@ impl<E> Split<Hand<E>> for Nothing<E> {
 // The logs stay; what was seen goes, and the logs as they are.
 struct Seen<E>(PhantomData<E>);
 
-impl<E> Split<Hand<E>> for Seen<E> {
+impl<E> Split<LogHand<E>> for Seen<E> {
     ghost left = { λ v. hand v.logs v.takers [] };
 
     ghost right = { λ v. hand [] [] (map front_of v.logs ++ v.fronts) };
@@ -107,7 +107,7 @@ impl<E> Split<Hand<E>> for Seen<E> {
 // The logs stay, those who take go.
 struct Parts<E>(PhantomData<E>);
 
-impl<E> Split<Hand<E>> for Parts<E> {
+impl<E> Split<LogHand<E>> for Parts<E> {
     ghost left = { λ v. hand v.logs [] v.fronts };
 
     ghost right = { λ v. hand [] v.takers [] };
@@ -116,7 +116,7 @@ impl<E> Split<Hand<E>> for Parts<E> {
 // The first so many that were taken are seen by another too.
 struct Shown<E, C: Counting>(PhantomData<(E, C)>);
 
-impl<E, C: Counting> Split<Hand<E>> for Shown<E, C> {
+impl<E, C: Counting> Split<LogHand<E>> for Shown<E, C> {
     ghost left = { λ v. v };
 
     ghost right = { λ v. hand [] [] (map (begun C.count) v.takers) };
@@ -125,7 +125,7 @@ impl<E, C: Counting> Split<Hand<E>> for Shown<E, C> {
 // All that was seen is seen by another too.
 struct Copied<E>(PhantomData<E>);
 
-impl<E> Split<Hand<E>> for Copied<E> {
+impl<E> Split<LogHand<E>> for Copied<E> {
     ghost left = { λ v. v };
 
     ghost right = { λ v. hand [] [] (map front_of v.logs ++ v.fronts) };
@@ -134,7 +134,7 @@ impl<E> Split<Hand<E>> for Copied<E> {
 // The first log goes.
 struct DealLog<E>(PhantomData<E>);
 
-impl<E> Split<Hand<E>> for DealLog<E> {
+impl<E> Split<LogHand<E>> for DealLog<E> {
     ghost left = { λ v. hand (drop 1 v.logs) v.takers v.fronts };
 
     ghost right = { λ v. hand (take 1 v.logs) [] [] };
@@ -143,7 +143,7 @@ impl<E> Split<Hand<E>> for DealLog<E> {
 // The first of those who take goes.
 struct DealTaker<E>(PhantomData<E>);
 
-impl<E> Split<Hand<E>> for DealTaker<E> {
+impl<E> Split<LogHand<E>> for DealTaker<E> {
     ghost left = { λ v. hand v.logs (drop 1 v.takers) v.fronts };
 
     ghost right = { λ v. hand [] (take 1 v.takers) [] };
@@ -151,37 +151,37 @@ impl<E> Split<Hand<E>> for DealTaker<E> {
 
 struct Both<E>(PhantomData<E>);
 
-impl<E> Join<Hand<E>> for Both<E> {
+impl<E> Join<LogHand<E>> for Both<E> {
     ghost both = { joined };
 
     ghost spent = { hand [] [] [] };
 }
 
 /// Speaks for a log, for one who takes, or for what was seen.
-pub type Token<E> = Seat<(), Hand<E>>;
+pub type LogToken<E> = Seat<(), LogHand<E>>;
 
 /// The table itself.
-pub type TieTable<E> = Table<(), Hand<E>, u64, Tied<E>, Global>;
+pub type LogTable<E> = Table<(), LogHand<E>, u64, LogRule<E>, Global>;
 
 /// Ties those who put to those who take.
 #[derive(Drop)]
-pub struct Tie<E> {
+pub struct LogTie<E> {
     /// The table.
-    pub table: TieTable<E>,
+    pub table: LogTable<E>,
     ghost one: { table.shared.table_id.words ≡ 1 },
 }
 
-impl<E> Tie<E> {
+impl<E> LogTie<E> {
     /// A tie for so many shards, with empty logs, and the token that speaks for all of them and for those who take.
-    pub fn new(alloc: Global, shards: u64) -> Result<(Tie<E>, Token<E>), AllocError>
+    pub fn new(alloc: Global, shards: u64) -> Result<(LogTie<E>, LogToken<E>), AllocError>
         ensures { IfOk result (λ r. (r.1.table_id ≡ r.0.table.shared.table_id) × (r.0.table.shared.key ≡ shards) × (r.1.me ≡ (hand (blank_logs 0 shards) (blank_fronts 0 shards) [], []))) }
     {
         let (table, token) = Table::of_words(alloc, &[0], &shards)?;
-        Ok((Tie { table }, token))
+        Ok((LogTie { table }, token))
     }
 
     /// A token for the first log.
-    pub fn next_log(&self, rest: &mut Token<E>) -> Token<E>
+    pub fn next_log(&self, rest: &mut LogToken<E>) -> LogToken<E>
         requires id { rest.old.table_id ≡ self.now.table.shared.table_id }
         requires free { rest.old.me.1 ≡ [] }
         ensures ids { (rest.new.table_id ≡ rest.old.table_id) × (result.table_id ≡ rest.old.table_id) }
@@ -192,7 +192,7 @@ impl<E> Tie<E> {
     }
 
     /// A token for the first of those who take.
-    pub fn next_taker(&self, rest: &mut Token<E>) -> Token<E>
+    pub fn next_taker(&self, rest: &mut LogToken<E>) -> LogToken<E>
         requires id { rest.old.table_id ≡ self.now.table.shared.table_id }
         requires free { rest.old.me.1 ≡ [] }
         ensures ids { (rest.new.table_id ≡ rest.old.table_id) × (result.table_id ≡ rest.old.table_id) }
@@ -203,7 +203,7 @@ impl<E> Tie<E> {
     }
 
     /// A token that has seen nothing. The one that it is made of stays as it is.
-    pub fn fresh(&self, any: &mut Token<E>) -> Token<E>
+    pub fn fresh(&self, any: &mut LogToken<E>) -> LogToken<E>
         requires id { any.old.table_id ≡ self.now.table.shared.table_id }
         requires free { any.old.me.1 ≡ [] }
         ensures ids { (any.new.table_id ≡ any.old.table_id) × (result.table_id ≡ any.old.table_id) }
@@ -213,7 +213,7 @@ impl<E> Tie<E> {
         self.table.shared.split_seat::<Nothing<E>>(any)
     }
 
-    fn show_counted<C: Counting>(&self, taker: &mut Token<E>, count: u64) -> Token<E>
+    fn show_counted<C: Counting>(&self, taker: &mut LogToken<E>, count: u64) -> LogToken<E>
         requires count { C.count ≡ count }
         requires id { taker.old.table_id ≡ self.now.table.shared.table_id }
         requires free { taker.old.me.1 ≡ [] }
@@ -225,7 +225,7 @@ impl<E> Tie<E> {
     }
 
     /// A token that has seen the first so many messages that one who takes had. That one's stays as it is.
-    pub fn show(&self, taker: &mut Token<E>, count: u64) -> Token<E>
+    pub fn show(&self, taker: &mut LogToken<E>, count: u64) -> LogToken<E>
         requires id { taker.old.table_id ≡ self.now.table.shared.table_id }
         requires free { taker.old.me.1 ≡ [] }
         ensures ids { (taker.new.table_id ≡ taker.old.table_id) × (result.table_id ≡ taker.old.table_id) }
@@ -236,7 +236,7 @@ impl<E> Tie<E> {
     }
 
     /// A token that has seen what another has, the logs that it speaks for among it. That one stays as it is.
-    pub fn seen(&self, any: &mut Token<E>) -> Token<E>
+    pub fn seen(&self, any: &mut LogToken<E>) -> LogToken<E>
         requires id { any.old.table_id ≡ self.now.table.shared.table_id }
         requires free { any.old.me.1 ≡ [] }
         ensures ids { (any.new.table_id ≡ any.old.table_id) × (result.table_id ≡ any.old.table_id) }
@@ -247,7 +247,7 @@ impl<E> Tie<E> {
     }
 
     /// What two tokens show together of what was seen: of one shard, all begins one log. They stay as they are.
-    pub fn compare(&self, one: &mut Token<E>, other: &mut Token<E>)
+    pub fn compare(&self, one: &mut LogToken<E>, other: &mut LogToken<E>)
         requires ids { (one.old.table_id ≡ self.now.table.shared.table_id) × (other.old.table_id ≡ self.now.table.shared.table_id) }
         requires one { one.old.me ≡ (of_fronts one.old.me.0.fronts, []) }
         requires other { other.old.me ≡ (of_fronts other.old.me.0.fronts, []) }
@@ -262,7 +262,7 @@ impl<E> Tie<E> {
     }
 
     /// Puts two tokens together.
-    pub fn join(&self, one: &mut Token<E>, other: Token<E>)
+    pub fn join(&self, one: &mut LogToken<E>, other: LogToken<E>)
         requires ids { (one.old.table_id ≡ self.now.table.shared.table_id) × (other.table_id ≡ self.now.table.shared.table_id) }
         requires free { (one.old.me.1 ≡ []) × (other.me.1 ≡ []) }
         ensures id { one.new.table_id ≡ one.old.table_id }
@@ -272,7 +272,7 @@ impl<E> Tie<E> {
     }
 
     /// What a token shows of what it knows. It stays as it is.
-    pub fn look(&self, token: &mut Token<E>)
+    pub fn look(&self, token: &mut LogToken<E>)
         requires id { token.old.table_id ≡ self.now.table.shared.table_id }
         ensures same { token.new ≡ token.old }
         ensures shows { Shows token.old.me.0 }
@@ -280,7 +280,7 @@ impl<E> Tie<E> {
         self.table.shared.load::<Looking<E>>(token, 0);
     }
 
-    fn put_said<S: Saying<E>>(&self, desk: &mut Token<E>, said: &E)
+    fn put_said<S: Saying<E>>(&self, desk: &mut LogToken<E>, said: &E)
         requires said { S.said ≡ said.now ∷ [] }
         requires id { desk.old.table_id ≡ self.now.table.shared.table_id }
         requires desk { desk.old.me ≡ (of_log (log_of desk.old.me.0), []) }
@@ -291,7 +291,7 @@ impl<E> Tie<E> {
     }
 
     /// Notes at a log that a message was put.
-    pub fn put(&self, desk: &mut Token<E>, said: &E)
+    pub fn put(&self, desk: &mut LogToken<E>, said: &E)
         requires id { desk.old.table_id ≡ self.now.table.shared.table_id }
         requires desk { desk.old.me ≡ (of_log (log_of desk.old.me.0), []) }
         ensures id { desk.new.table_id ≡ desk.old.table_id }
@@ -300,7 +300,7 @@ impl<E> Tie<E> {
         self.put_said::<Brand>(desk, said);
     }
 
-    fn send_said<S: Saying<E>>(&self, desk: &mut Token<E>, caller: &mut Token<E>, said: &E)
+    fn send_said<S: Saying<E>>(&self, desk: &mut LogToken<E>, caller: &mut LogToken<E>, said: &E)
         requires said { S.said ≡ said.now ∷ [] }
         requires ids { (desk.old.table_id ≡ self.now.table.shared.table_id) × (caller.old.table_id ≡ self.now.table.shared.table_id) }
         requires desk { desk.old.me ≡ (of_log (log_of desk.old.me.0), []) }
@@ -317,7 +317,7 @@ impl<E> Tie<E> {
     }
 
     /// Notes at a log that a message was put, and at the one who put it: that one has seen the log up to and with it.
-    pub fn send(&self, desk: &mut Token<E>, caller: &mut Token<E>, said: &E)
+    pub fn send(&self, desk: &mut LogToken<E>, caller: &mut LogToken<E>, said: &E)
         requires ids { (desk.old.table_id ≡ self.now.table.shared.table_id) × (caller.old.table_id ≡ self.now.table.shared.table_id) }
         requires desk { desk.old.me ≡ (of_log (log_of desk.old.me.0), []) }
         requires caller { caller.old.me ≡ (of_fronts caller.old.me.0.fronts, []) }
@@ -331,8 +331,8 @@ impl<E> Tie<E> {
 
     fn take_counted<C: Counting>(
         &self,
-        desk: &mut Token<E>,
-        taker: &mut Token<E>,
+        desk: &mut LogToken<E>,
+        taker: &mut LogToken<E>,
         shard: usize,
         count: usize,
     )
@@ -353,7 +353,7 @@ impl<E> Tie<E> {
     }
 
     /// Notes at a log, and at the one who takes, that so many more were taken. Before it that one had all that was taken.
-    pub fn take(&self, desk: &mut Token<E>, taker: &mut Token<E>, shard: usize, count: usize)
+    pub fn take(&self, desk: &mut LogToken<E>, taker: &mut LogToken<E>, shard: usize, count: usize)
         requires ids { (desk.old.table_id ≡ self.now.table.shared.table_id) × (taker.old.table_id ≡ self.now.table.shared.table_id) }
         requires desk { desk.old.me ≡ (of_log (log_of desk.old.me.0), []) }
         requires taker { taker.old.me ≡ (of_taker shard (taken_by taker.old.me.0), []) }
@@ -369,21 +369,21 @@ impl<E> Tie<E> {
 
 /// A new tie, and the token that speaks for all logs and for those who take.
 #[derive(Drop)]
-pub struct Blank<E> {
+pub struct BlankLogs<E> {
     /// The tie.
-    pub tie: Tie<E>,
+    pub tie: LogTie<E>,
     /// The token.
-    pub token: Token<E>,
+    pub token: LogToken<E>,
     pub ghost here: { token.table_id ≡ tie.table.shared.table_id },
     pub ghost all: { token.me ≡ (hand (blank_logs 0 tie.table.shared.key) (blank_fronts 0 tie.table.shared.key) [], []) },
 }
 
-impl<E> Blank<E> {
+impl<E> BlankLogs<E> {
     /// A blank for so many shards.
-    pub fn new(alloc: Global, shards: usize) -> Result<Blank<E>, AllocError>
+    pub fn new(alloc: Global, shards: usize) -> Result<BlankLogs<E>, AllocError>
         ensures { IfOk result (λ blank. blank.tie.table.shared.key ≡ shards) }
     {
-        let (tie, token) = Tie::new(alloc, shards as u64)?;
-        Ok(Blank { tie, token })
+        let (tie, token) = LogTie::new(alloc, shards as u64)?;
+        Ok(BlankLogs { tie, token })
     }
 }

@@ -6,7 +6,7 @@ ghost use Rattle.lru_inbox.specs.Logs.{front, of_fronts};
 ghost use Rattle.lru_inbox.specs.Replies.{IsReply};
 ghost use Rattle.lru_inbox.specs.Inboxes.{shown};
 
-use crate::tie::{Archive, Token};
+use crate::tie::{Archive, LogToken};
 use lru_actors::effect::Reply;
 use lru_actors::message::LruMsg;
 use std::marker::PhantomData;
@@ -23,7 +23,7 @@ pub struct Told<K: Clone + Drop, B: Archive> {
     /// How many of those were refused, modulo 2^64. Where none was, it tells of the rows that all of them leave.
     pub refused: u64,
     /// Speaks for those messages, where there is a log.
-    pub seen: Option<Token<LruMsg<K>>>,
+    pub seen: Option<LogToken<LruMsg<K>>>,
     brand: PhantomData<B>,
     pub ghost here: { ForSome seen (λ t. t.table_id ≡ B.log) },
     pub ghost told: { ForSome seen (λ t. t.me ≡ (of_fronts (front shard (shown t.me.0) ∷ []), [])) },
@@ -37,7 +37,7 @@ impl<K: Clone + Drop, B: Archive> Told<K, B> {
         shard: usize,
         count: u64,
         refused: u64,
-        seen: Option<Token<LruMsg<K>>>,
+        seen: Option<LogToken<LruMsg<K>>>,
     ) -> Self
         requires here { ForSome seen (λ t. t.table_id ≡ B.log) }
         requires told { ForSome seen (λ t. t.me ≡ (of_fronts (front shard (shown t.me.0) ∷ []), [])) }

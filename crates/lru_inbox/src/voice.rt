@@ -3,7 +3,7 @@ ghost use Rattle.std.specs.Prelude.{◌≡◌, ◌+◌, [], ◌∷◌, ◌++◌,
 ghost use Rattle.std.specs.Arc.{arc_value};
 ghost use Rattle.lru_inbox.specs.Logs.{front, front_of, hand, accepted, of_log, of_taker, of_fronts, log_of, taken_by, blank_logs, blank_fronts, begun, put_in, taken_from, joined, Shows};
 
-use crate::tie::{Archive, Tie, Token};
+use crate::tie::{Archive, LogTie, LogToken};
 use std::alloc::{AllocError, Global};
 use std::marker::PhantomData;
 use std::mem;
@@ -12,9 +12,9 @@ use std::sync::Arc;
 /// Speaks for a log, for one who takes, or for what was seen, of the logs that `B` names.
 #[derive(Drop)]
 pub struct Voice<E, B: Archive> {
-    tie: Arc<Tie<E>, Global>,
+    tie: Arc<LogTie<E>, Global>,
     /// What it speaks for.
-    pub token: Token<E>,
+    pub token: LogToken<E>,
     brand: PhantomData<B>,
     pub ghost tied: { (arc_value tie).table.shared.table_id ≡ B.log },
     pub ghost here: { token.table_id ≡ B.log },
@@ -22,7 +22,7 @@ pub struct Voice<E, B: Archive> {
 
 impl<E, B: Archive> Voice<E, B> {
     /// One that speaks as the token does.
-    pub fn new(tie: Arc<Tie<E>, Global>, token: Token<E>) -> Self
+    pub fn new(tie: Arc<LogTie<E>, Global>, token: LogToken<E>) -> Self
         requires { ((arc_value tie).table.shared.table_id ≡ B.log) × (token.table_id ≡ B.log) }
         ensures { result.token ≡ token }
     {
@@ -99,7 +99,7 @@ impl<E, B: Archive> Voice<E, B> {
     }
 
     /// A token that has seen the first so many messages that one who takes had.
-    pub fn show(&mut self, count: u64) -> Token<E>
+    pub fn show(&mut self, count: u64) -> LogToken<E>
         requires { self.old.token.me.1 ≡ [] }
         ensures here { result.table_id ≡ B.log }
         ensures same { self.new.token.me ≡ self.old.token.me }
@@ -109,7 +109,7 @@ impl<E, B: Archive> Voice<E, B> {
     }
 
     /// A token that has seen what this has, the logs that it speaks for among it.
-    pub fn seen(&mut self) -> Token<E>
+    pub fn seen(&mut self) -> LogToken<E>
         requires { self.old.token.me.1 ≡ [] }
         ensures here { result.table_id ≡ B.log }
         ensures same { self.new.token.me ≡ self.old.token.me }
@@ -119,7 +119,7 @@ impl<E, B: Archive> Voice<E, B> {
     }
 
     /// What two tokens show together of what was seen: of one shard, all begins one log. They stay as they are.
-    pub fn compare(&self, one: &mut Token<E>, other: &mut Token<E>)
+    pub fn compare(&self, one: &mut LogToken<E>, other: &mut LogToken<E>)
         requires ids { (one.old.table_id ≡ B.log) × (other.old.table_id ≡ B.log) }
         requires one { one.old.me ≡ (of_fronts one.old.me.0.fronts, []) }
         requires other { other.old.me ≡ (of_fronts other.old.me.0.fronts, []) }
@@ -131,7 +131,7 @@ impl<E, B: Archive> Voice<E, B> {
     }
 
     /// Sees also what another has seen: that comes after what it had seen itself. All of one shard that was seen begins one log.
-    pub fn note(&mut self, other: &mut Token<E>)
+    pub fn note(&mut self, other: &mut LogToken<E>)
         requires here { other.old.table_id ≡ B.log }
         requires free { self.old.token.me.1 ≡ [] }
         requires other { other.old.me ≡ (of_fronts other.old.me.0.fronts, []) }
@@ -146,7 +146,7 @@ impl<E, B: Archive> Voice<E, B> {
     }
 
     /// Sees what another has seen: that comes before what it had seen itself. All of one shard that was seen begins one log.
-    pub fn learn(&mut self, other: Token<E>)
+    pub fn learn(&mut self, other: LogToken<E>)
         requires here { other.table_id ≡ B.log }
         requires free { (self.old.token.me.1 ≡ []) × (other.me.1 ≡ []) }
         ensures both { self.new.token.me ≡ (joined other.me.0 self.old.token.me.0, []) }

@@ -13,7 +13,7 @@ use lru_actors::message::LruMsg;
 use lru_actors::state::ShardState;
 use lru_desks::seats::PutSeat;
 use lru_desks::tie::Registry;
-use lru_inbox::tie::{Archive, Token};
+use lru_inbox::tie::{Archive, LogToken};
 use lru_inbox::{Caller, Taker};
 use std::alloc::{AllocError, Global};
 use std::collections::HashMap;
@@ -30,7 +30,7 @@ pub struct LoggedShard<K: Clone + Drop, B: Registry + Archive> {
     /// How many messages were processed, modulo 2^64.
     pub count: u64,
     /// Speaks for those messages.
-    pub seen: Token<LruMsg<K>>,
+    pub seen: LogToken<LruMsg<K>>,
     /// The seat that has the slips of the rows that were evicted, where they go into a box.
     pub seat: Option<PutSeat<B>>,
     pub ghost here: { seen.table_id ≡ B.log },
@@ -47,7 +47,7 @@ impl<K: Clone + Drop, B: Registry + Archive> LoggedShard<K, B> {
         shard: usize,
         shards: usize,
         capacity: usize,
-        seen: Token<LruMsg<K>>,
+        seen: LogToken<LruMsg<K>>,
         seat: Option<PutSeat<B>>,
     ) -> Result<Self, AllocError>
         requires some { 0 < shards }

@@ -36,7 +36,7 @@ pub use lru_world::ShardEnd;
 /// One that keeps logs.
 pub use lru_async::logged_lru::LoggedLru;
 /// What names the logs of an order, and a blank to build one from.
-pub use lru_inbox::tie::{Archive, Blank as LogBlank};
+pub use lru_inbox::tie::{Archive, BlankLogs as LogBlank};
 /// Messages on their way, with the cells for their replies.
 pub use lru_actors::{Letter, ReplyCell};
 /// The law over every schedule, and that a batch is so many of its events.
