@@ -9,7 +9,7 @@ use crate::async_lru::AsyncLru;
 use crate::ending::end_all;
 use crate::logged_lru::LoggedLru;
 use crate::seats_back::{all_puts, all_takes, sole};
-use lru_desks::{LedgerBox, PutSeat, Registry, TakeSeat};
+use lru_desks::{BoxRegistry, LedgerBox, PutSeat, TakeSeat};
 use lru_inbox::tie::Archive;
 use lru_mailbox::Settled;
 use lru_world::ShardEnd;
@@ -18,7 +18,7 @@ use std::sync::{Arc, Wait};
 
 /// What an order came to, with the account of each shard.
 #[derive(Drop)]
-pub struct Account<K: Clone + Drop, B: Registry + Archive> {
+pub struct Account<K: Clone + Drop, B: BoxRegistry + Archive> {
     /// What each shard came to, in order: its log, and the rows that were left.
     pub shards: Vec<ShardEnd<K, B>>,
     /// What became of each evicted pair: for each shard, in order, the slips of what it evicted.
@@ -27,7 +27,7 @@ pub struct Account<K: Clone + Drop, B: Registry + Archive> {
 
 /// A [`LoggedLru`] whose evicted pairs go through a box that counts each. Once it is closed its whole history is accounted for.
 #[derive(Drop)]
-pub struct AccountedLru<K: Clone + Drop, const N: usize, B: Registry + Archive> {
+pub struct AccountedLru<K: Clone + Drop, const N: usize, B: BoxRegistry + Archive> {
     logged: LoggedLru<K, N, B>,
     ledger: Arc<LedgerBox<K, B>, Global>,
     takers: usize,
@@ -42,9 +42,9 @@ pub struct AccountedLru<K: Clone + Drop, const N: usize, B: Registry + Archive> 
     ghost no_puts: { (puts.items ≡ []) × (N ≤ vec_capacity puts) },
 }
 
-// Room for what so many shards come to, for their seats, and for those of so many who take.
+// AccountRoom for what so many shards come to, for their seats, and for those of so many who take.
 #[derive(Drop)]
-pub(crate) struct Room<K: Clone + Drop, B: Registry + Archive> {
+pub(crate) struct AccountRoom<K: Clone + Drop, B: BoxRegistry + Archive> {
     ends: Vec<ShardEnd<K, B>>,
     puts: Vec<PutSeat<B>>,
     takes: Vec<TakeSeat<B>>,
@@ -54,11 +54,11 @@ pub(crate) struct Room<K: Clone + Drop, B: Registry + Archive> {
     ghost no_puts: { (puts.items ≡ []) × (shards ≤ vec_capacity puts) },
 }
 
-impl<K: Clone + Drop, B: Registry + Archive> Room<K, B> {
+impl<K: Clone + Drop, B: BoxRegistry + Archive> AccountRoom<K, B> {
     pub(crate) fn new(alloc: Global, shards: usize, takers: usize) -> Result<Self, AllocError>
         ensures { IfOk result (λ room. (room.shards ≡ shards) × (room.takers ≡ takers)) }
     {
-        Ok(Room {
+        Ok(AccountRoom {
             ends: Vec::with_capacity(alloc, shards)?,
             puts: Vec::with_capacity(alloc, shards)?,
             takes: Vec::with_capacity(alloc, takers)?,
@@ -68,21 +68,21 @@ impl<K: Clone + Drop, B: Registry + Archive> Room<K, B> {
     }
 }
 
-impl<K: Clone + Drop, const N: usize, B: Registry + Archive> AccountedLru<K, N, B> {
+impl<K: Clone + Drop, const N: usize, B: BoxRegistry + Archive> AccountedLru<K, N, B> {
     ghost use Rattle.lru_async.specs.AccountedOrders.{logged_of, order_in};
 
     // One of an order over logs and its box, with the room that its end needs.
     pub(crate) fn over(
         lru: AsyncLru<K, N, B>,
         ledger: Arc<LedgerBox<K, B>, Global>,
-        room: Room<K, B>,
+        room: AccountRoom<K, B>,
     ) -> Self
         requires shards { (0 < N) × (B.shards ≡ N) }
         requires counts { (B.putters ≡ N) × (B.takers ≡ room.takers) }
         requires room { room.shards ≡ N }
         ensures { order_in result ≡ lru }
     {
-        let Room {
+        let AccountRoom {
             ends,
             puts,
             takes,

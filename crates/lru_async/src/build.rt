@@ -4,11 +4,11 @@ ghost use Rattle.std.specs.Arc.{arc_value};
 ghost use Rattle.lru_async.specs.Orders.{HasWorkers, limits_of, limits_told};
 ghost use Rattle.lru_async.specs.AccountedOrders.{order_in};
 
-use crate::accounted_lru::{AccountedLru, Room};
+use crate::accounted_lru::{AccountRoom, AccountedLru};
 use crate::builder::AsyncLruBuilder;
 use crate::refusals::BuildError;
 use lru_actors::message::LruMsg;
-use lru_desks::{Blanks, Registry};
+use lru_desks::{Blanks, BoxRegistry};
 use lru_inbox::tie::{Archive, BlankLogs};
 use lru_world::callback::{AsyncEvictionCallback, Gate};
 use std::hash::Hash;
@@ -23,7 +23,7 @@ pub fn build_accounted<
     const N: usize,
     G: Gate + Drop + 'static,
     R: Threads + Wait + Copy + Send + 'static,
-    B: Registry + Archive + Send + Sync + 'static,
+    B: BoxRegistry + Archive + Send + Sync + 'static,
 >(
     builder: AsyncLruBuilder<K, C, N, G>,
     rt: R,
@@ -43,7 +43,7 @@ pub fn build_accounted<
 {
     let takers = builder.settings.num_callback_workers;
     // what the end needs is there before a thread is started
-    let room = Room::new(builder.alloc(), N, takers)?;
+    let room = AccountRoom::new(builder.alloc(), N, takers)?;
     match builder.build_over_logs_and_ledger::<R, B>(rt, blank, blanks) {
         Ok((lru, ledger)) => Ok(AccountedLru::over(lru, ledger, room)),
         Err(refused) => Err(refused),

@@ -6,7 +6,7 @@ ghost use Rattle.lru_inbox.specs.Logs.{log_of};
 ghost use Rattle.lru_world.specs.Accounts.{IsAccount};
 ghost use Rattle.lru_async.specs.Accounts.{Accounts};
 
-use lru_desks::{PutSeat, Registry};
+use lru_desks::{BoxRegistry, PutSeat};
 use lru_inbox::tie::Archive;
 use lru_world::ShardEnd;
 use lru_world::world::ShardPlace;
@@ -14,7 +14,7 @@ use std::sync::Wait;
 use std::thread;
 
 // Gathers what each of so many shards came to, and its seat, in order. There is room for all.
-pub(crate) fn end_all<K: Clone + Drop, B: Registry + Archive>(
+pub(crate) fn end_all<K: Clone + Drop, B: BoxRegistry + Archive>(
     rt: &impl Wait,
     places: Vec<ShardPlace<K, B>>,
     count: usize,
@@ -35,7 +35,7 @@ pub(crate) fn end_all<K: Clone + Drop, B: Registry + Archive>(
 }
 
 // What the shard of this number came to, and its seat. Were its place that of another, this would wait for ever.
-fn next_end<K: Clone + Drop, B: Registry + Archive>(
+fn next_end<K: Clone + Drop, B: BoxRegistry + Archive>(
     rt: &impl Wait,
     place: Option<ShardPlace<K, B>>,
     shard: usize,
@@ -53,7 +53,7 @@ fn next_end<K: Clone + Drop, B: Registry + Archive>(
 }
 
 // What the shard of this number came to, and its seat, if its place is this one.
-fn end_of<K: Clone + Drop, B: Registry + Archive>(
+fn end_of<K: Clone + Drop, B: BoxRegistry + Archive>(
     place: Option<ShardPlace<K, B>>,
     shard: usize,
 ) -> Option<(ShardEnd<K, B>, PutSeat<B>)>

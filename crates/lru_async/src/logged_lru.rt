@@ -25,7 +25,7 @@ use lru_actors::Letter;
 use lru_actors::effect::Reply;
 use lru_actors::key::hash_key;
 use lru_actors::message::LruMsg;
-use lru_desks::Registry;
+use lru_desks::BoxRegistry;
 use lru_inbox::Caller;
 use lru_inbox::tie::{Archive, BlankLogs};
 use lru_world::callback::{AsyncEvictionCallback, Gate};
@@ -43,13 +43,13 @@ use std::thread::Threads;
 /// how many of the messages that an answer saw were refused: where none was, it is that of the rows which all of them leave
 /// (`exact_law`).
 #[derive(Drop)]
-pub struct LoggedLru<K: Clone + Drop, const N: usize, B: Registry + Archive> {
+pub struct LoggedLru<K: Clone + Drop, const N: usize, B: BoxRegistry + Archive> {
     lru: AsyncLru<K, N, B>,
     ghost some: { 0 < N },
     ghost shards: { B.shards ≡ N },
 }
 
-impl<K: Clone + Drop, const N: usize, B: Registry + Archive> LoggedLru<K, N, B> {
+impl<K: Clone + Drop, const N: usize, B: BoxRegistry + Archive> LoggedLru<K, N, B> {
     ghost use Rattle.lru_async.specs.LoggedOrders.{logged_order};
 
     /// An order over logs, as `AsyncLruBuilder::build_over_logs` starts it. Without logs its calls would wait for ever.
@@ -79,7 +79,7 @@ impl<K: Clone + Drop, const N: usize, B: Registry + Archive> LoggedLru<K, N, B> 
 impl<
     K: Hash + Eq + Clone + Drop + Send + Sync + 'static,
     const N: usize,
-    B: Registry + Archive + Send + Sync + 'static,
+    B: BoxRegistry + Archive + Send + Sync + 'static,
 > LoggedLru<K, N, B> {
     ghost use Rattle.lru_async.specs.Orders.{HasWorkers, limits_of, limits_told};
     ghost use Rattle.lru_async.specs.LoggedOrders.{logged_order};
@@ -114,7 +114,7 @@ impl<
 impl<
     K: Hash + Eq + Clone + Drop + Send + Sync + 'static,
     const N: usize,
-    B: Registry + Archive,
+    B: BoxRegistry + Archive,
 > LoggedLru<K, N, B> {
     /// One who calls, and has seen nothing of any log.
     pub fn caller(&self, rt: &impl Wait) -> Result<Caller<K, B>, AllocError>

@@ -6,7 +6,7 @@ use lru_actors::message::LruMsg;
 use lru_async::async_lru::AsyncLru;
 use lru_async::logged_lru::LoggedLru;
 use lru_async::{Account, build_accounted};
-use lru_desks::{Blanks, Registry};
+use lru_desks::{Blanks, BoxRegistry};
 use lru_inbox::Caller;
 use lru_inbox::tie::{Archive, BlankLogs};
 use lru_mailbox::Slip;
@@ -42,7 +42,7 @@ struct Tally {
 }
 
 // Admits keys 0 to 19, of weight 3 each, and removes the last one. Who sent that, if all was sent.
-fn fill<B: Registry + Archive, R: Wait>(
+fn fill<B: BoxRegistry + Archive, R: Wait>(
     rt: &R,
     logged: &LoggedLru<u64, 1, B>,
 ) -> Option<Caller<u64, B>> {
@@ -62,7 +62,7 @@ fn fill<B: Registry + Archive, R: Wait>(
 }
 
 // What the account says of one shard, whose log has all that the caller had seen.
-fn tallied<B: Registry + Archive>(
+fn tallied<B: BoxRegistry + Archive>(
     account: Account<u64, B>,
     caller: Caller<u64, B>,
 ) -> Option<Tally> {
@@ -98,7 +98,7 @@ fn are_from_0(left: &VecDeque<(Slip, u64)>) -> bool {
 
 // Fills an order over its limit and closes it: what became of its rows, if all was sent.
 fn closed<
-    B: Registry + Archive + Send + Sync + 'static,
+    B: BoxRegistry + Archive + Send + Sync + 'static,
     R: Threads + Wait + Copy + Send + Sync + 'static,
 >(
     rt: R,

@@ -1,7 +1,7 @@
 //! A box by its worked row, by its seats, and by threads.
 ghost use Rattle.std.specs.Prelude.{◌≡◌};
 
-use lru_desks::{Blanks, LedgerBox, PutSeat, Registry, TakeSeat};
+use lru_desks::{Blanks, BoxRegistry, LedgerBox, PutSeat, TakeSeat};
 use lru_mailbox::{Settled, Slip};
 use std::alloc::{AllocError, Global};
 use std::marker::Brand;
@@ -12,7 +12,7 @@ use std::thread;
 use std::thread::Threads;
 
 // Ends a box, where these are all its seats, in order.
-fn settled<B: Registry>(
+fn settled<B: BoxRegistry>(
     ledger: LedgerBox<u8, B>,
     puts: Vec<PutSeat<B>>,
     takes: Vec<TakeSeat<B>>,
@@ -42,7 +42,7 @@ fn has(lists: &[Vec<Slip>], place: usize, rows: &[(u64, u64, usize)]) -> bool {
 }
 
 // Two pairs are put, one is taken, the receivers leave, and one more is put. Which number was taken.
-fn row<B: Registry, R: Wait>(
+fn row<B: BoxRegistry, R: Wait>(
     rt: &R,
     ledger: &LedgerBox<u8, B>,
     put: &mut PutSeat<B>,
@@ -63,7 +63,7 @@ fn row<B: Registry, R: Wait>(
 }
 
 // The row: which number was taken, how many are lost and wait, and what is settled.
-fn row_of_one<B: Registry, R: Wait>(
+fn row_of_one<B: BoxRegistry, R: Wait>(
     rt: &R,
     alloc: Global,
     blanks: Blanks,
@@ -115,7 +115,7 @@ fn every_slip_is_told(rt: HostRuntime) -> Result<(), Fail> {
 
 // Two put three pairs by turns, one of two takes one, the box is closed, and the other one takes the next. Whether the keys
 // taken are those put first.
-fn turns<B: Registry, R: Wait>(
+fn turns<B: BoxRegistry, R: Wait>(
     rt: &R,
     ledger: &LedgerBox<u8, B>,
     puts: &mut [PutSeat<B>],
@@ -141,7 +141,7 @@ fn turns<B: Registry, R: Wait>(
     matches!((first, second), (Ok(Some((_, 50))), Ok(Some((_, 60)))))
 }
 
-fn turns_of_two<B: Registry, R: Wait>(
+fn turns_of_two<B: BoxRegistry, R: Wait>(
     rt: &R,
     alloc: Global,
     blanks: Blanks,
@@ -187,7 +187,7 @@ fn slips_stand_with_their_seats(rt: HostRuntime) -> Result<(), Fail> {
 }
 
 // One thread waits for a pair while another puts one.
-fn across<B: Registry + Send + Sync, R: Threads + Wait + Sync>(
+fn across<B: BoxRegistry + Send + Sync, R: Threads + Wait + Sync>(
     rt: &R,
     alloc: Global,
     blanks: Blanks,
@@ -216,7 +216,7 @@ fn wakes_who_waits(rt: HostRuntime) -> Result<(), Fail> {
 }
 
 // Two threads wait at an empty box until it is closed. Whether each found it closed and empty.
-fn two_wait<B: Registry + Send + Sync, R: Threads + Wait + Sync>(
+fn two_wait<B: BoxRegistry + Send + Sync, R: Threads + Wait + Sync>(
     rt: &R,
     alloc: Global,
     blanks: Blanks,
@@ -255,7 +255,7 @@ fn a_close_wakes_all_who_wait(rt: HostRuntime) -> Result<(), Fail> {
 }
 
 // Puts five hundred pairs, whose hashes and weights tell of the seat. Whether none was refused.
-fn put_many<B: Registry, R: Wait>(
+fn put_many<B: BoxRegistry, R: Wait>(
     rt: &R,
     ledger: &LedgerBox<u8, B>,
     seat: &mut PutSeat<B>,
@@ -270,7 +270,7 @@ fn put_many<B: Registry, R: Wait>(
 }
 
 // Takes pairs until the box is closed and empty. Whether none was refused.
-fn take_many<B: Registry, R: Wait>(
+fn take_many<B: BoxRegistry, R: Wait>(
     rt: &R,
     ledger: &LedgerBox<u8, B>,
     seat: &mut TakeSeat<B>,
@@ -286,7 +286,7 @@ fn take_many<B: Registry, R: Wait>(
 }
 
 // Two put and two take, each on a thread of its own. Whether no call was refused, and what is settled.
-fn two_and_two<B: Registry + Send + Sync, R: Threads + Wait + Sync>(
+fn two_and_two<B: BoxRegistry + Send + Sync, R: Threads + Wait + Sync>(
     rt: &R,
     alloc: Global,
     blanks: Blanks,

@@ -6,7 +6,7 @@ use lru_actors::key::hash_key;
 use lru_actors::message::LruMsg;
 use lru_async::async_lru::{AsyncLru, ShardData};
 use lru_async::logged_lru::LoggedLru;
-use lru_desks::Registry;
+use lru_desks::BoxRegistry;
 use lru_inbox::Caller;
 use lru_inbox::tie::{Archive, BlankLogs};
 use lru_world::callback::AsyncEvictionCallback;
@@ -28,7 +28,7 @@ impl AsyncEvictionCallback<u64> for Quiet {
 
 // Admits keys 1 and 2 with weights 5 and 7, puts key 3 last with weight 4, puts 1 first, and adds 3 to the weight of 2. Whether
 // each was sent.
-fn sends<B: Registry + Archive, R: Wait>(
+fn sends<B: BoxRegistry + Archive, R: Wait>(
     rt: &R,
     logged: &LoggedLru<u64, 1, B>,
     caller: &mut Caller<u64, B>,
@@ -47,7 +47,7 @@ fn sends<B: Registry + Archive, R: Wait>(
 type Told = (Option<(u64, usize)>, Option<usize>, Vec<(u64, usize)>);
 
 // Asks for all of that, and what there is past the last shard.
-fn tells<B: Registry + Archive, R: Wait>(
+fn tells<B: BoxRegistry + Archive, R: Wait>(
     rt: &R,
     logged: &LoggedLru<u64, 1, B>,
     caller: &mut Caller<u64, B>,
@@ -62,7 +62,7 @@ fn tells<B: Registry + Archive, R: Wait>(
 }
 
 // Whether looks find these weights of keys 1 and 2, and no row of key 9.
-fn finds<B: Registry + Archive, R: Wait>(
+fn finds<B: BoxRegistry + Archive, R: Wait>(
     rt: &R,
     logged: &LoggedLru<u64, 1, B>,
     caller: &mut Caller<u64, B>,
@@ -76,7 +76,7 @@ fn finds<B: Registry + Archive, R: Wait>(
 }
 
 // Removes key 3, and key 1 by its hash. Whether each was sent.
-fn removes<B: Registry + Archive, R: Wait>(
+fn removes<B: BoxRegistry + Archive, R: Wait>(
     rt: &R,
     logged: &LoggedLru<u64, 1, B>,
     caller: &mut Caller<u64, B>,
@@ -87,7 +87,7 @@ fn removes<B: Registry + Archive, R: Wait>(
 }
 
 // Whether the shard is saved, with these rows.
-fn saves<B: Registry + Archive, R: Wait>(
+fn saves<B: BoxRegistry + Archive, R: Wait>(
     rt: &R,
     alloc: Global,
     logged: &LoggedLru<u64, 1, B>,
@@ -112,7 +112,7 @@ fn saves<B: Registry + Archive, R: Wait>(
 
 // All calls, one after the other: what was told before the removals and after them, if looks found the same.
 fn all_calls<
-    B: Registry + Archive + Send + Sync + 'static,
+    B: BoxRegistry + Archive + Send + Sync + 'static,
     R: Threads + Wait + Copy + Send + Sync + 'static,
 >(
     rt: R,

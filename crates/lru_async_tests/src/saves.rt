@@ -6,7 +6,7 @@ use lru_actors::message::LruMsg;
 use lru_async::async_lru::{AsyncLru, ShardData};
 use lru_async::logged_lru::LoggedLru;
 use lru_async::saving::SaveReport;
-use lru_desks::Registry;
+use lru_desks::BoxRegistry;
 use lru_inbox::Caller;
 use lru_inbox::tie::{Archive, BlankLogs};
 use lru_world::callback::AsyncEvictionCallback;
@@ -36,7 +36,7 @@ struct Saved {
 }
 
 // A save whose writer refuses shard 1.
-fn save_once<B: Registry + Archive, R: Wait>(
+fn save_once<B: BoxRegistry + Archive, R: Wait>(
     rt: &R,
     alloc: Global,
     logged: &LoggedLru<u64, 3, B>,
@@ -89,7 +89,7 @@ fn tells_of_shard_1(lines: &[String]) -> bool {
 
 // A row of weight 1, whose shard then refuses to make it as heavy as can be: what its shard and another are told to weigh, and a look
 // at the row, each with how many messages were refused.
-fn refused<B: Registry + Archive, R: Wait>(
+fn refused<B: BoxRegistry + Archive, R: Wait>(
     rt: &R,
     logged: &LoggedLru<u64, 3, B>,
     caller: &mut Caller<u64, B>,
@@ -115,7 +115,7 @@ type Found = (Option<[(usize, u64); 3]>, Saved, Saved);
 
 // All of it, and a save after a shutdown.
 fn all_found<
-    B: Registry + Archive + Send + Sync + 'static,
+    B: BoxRegistry + Archive + Send + Sync + 'static,
     R: Threads + Wait + Copy + Send + Sync + 'static,
 >(rt: R, alloc: Global, quiet: Arc<Quiet, Global>, blank: BlankLogs<LruMsg<u64>>) -> Option<Found>
     requires table { blank.tie.table.shared.table_id ≡ B.log }

@@ -17,11 +17,15 @@ pub use lru_shared::{counts, limits, relations, sharded, shared};
 pub mod shared_deadlines {
     pub use lru_shared_deadlines::ages::{Aged, Ages, Gone};
     pub use lru_shared_deadlines::sharded::ShardedDeadlineCache;
-    pub use lru_shared_deadlines::shared::{Limits, LockedShard, NotGot, SharedDeadlineCache};
+    pub use lru_shared_deadlines::shared::{
+        Limits, LockedDeadlineShard, NotGot, SharedDeadlineCache,
+    };
 }
 
 /// Caches for threads in two segments, and their shards of one owner.
 pub mod shared_segmented {
     pub use lru_shared_segmented::sharded::ShardedSegmentedCache;
-    pub use lru_shared_segmented::shared::{Limits, LockedShard, NotGot, SharedSegmentedCache};
+    pub use lru_shared_segmented::shared::{
+        Limits, LockedSegmentedShard, NotGot, SharedSegmentedCache,
+    };
 }

@@ -65,13 +65,13 @@ pub mod cores {
         CoreSource, capture_shard, restore_shard, restore_shards,
     };
     pub use lru_order_checkpoints::cores::{load_core, save_core, save_core_after};
-    pub use lru_order_checkpoints::restored::{RestoreError, Restored};
+    pub use lru_order_checkpoints::restored::{OrderRestoreError, RestoredOrder};
 }
 
 /// An order that threads share, the same.
 pub mod locks {
     pub use lru_order_checkpoints::locks::{load_lru, save_lru, save_lru_after};
-    pub use lru_order_checkpoints::restored::{RestoreError, Restored};
+    pub use lru_order_checkpoints::restored::{OrderRestoreError, RestoredOrder};
     pub use lru_order_checkpoints::shared_captures::{
         LruSource, capture_shard, restore_shard, restore_shards,
     };

@@ -1,6 +1,6 @@
 -- Seats dealt one by one.
 use Rattle.std.proofs.Common.{◌≡◌, ℕ, zero, suc, ◌+◌, ◌-◌, ◌<◌, List, [], ◌∷◌, map, refl, sym, ap, ◌∙◌, arith}
-use Rattle.lru_desks.specs.declared.hand.Kept.{Kept}
+use Rattle.lru_desks.specs.declared.hand.SeatSlips.{SeatSlips}
 use Rattle.lru_hands.specs.Hands.{up}
 use Rattle.lru_desks.specs.Ties.{kept, blank_seats}
 

@@ -6,7 +6,7 @@ use Rattle.lru_mailbox.specs.declared.slip.Slip.{Slip}
 use Rattle.lru_mailbox.specs.Slips.{Every, Share}
 use Rattle.lru_mailbox.specs.Ledger.{Book, Stock, book_of, seats_of, slip_put, put, shut, left, empty, Takes, IsTied}
 use Rattle.lru_mailbox.proofs.TieLaws.{put_tied, take_tied, shut_tied, left_tied, fresh_tied}
-use Rattle.lru_desks.specs.declared.hand.Kept.{Kept}
+use Rattle.lru_desks.specs.declared.hand.SeatSlips.{SeatSlips}
 use Rattle.lru_desks.specs.declared.hand.DeskHand.{DeskHand}
 use Rattle.lru_hands.specs.Hands.{up, Among}
 use Rattle.lru_desks.specs.Ties.{kept, hand, of_desk, of_seat, known, blank_lists, joined, Agrees, Shows}
@@ -107,8 +107,8 @@ map_twice f g [] = refl
 map_twice f g (x ∷ xs) = ap (λ l. g (f x) ∷ l) (map_twice f g xs)
 
 -- seats numbered in order, of which the desk knows what each has: so it knows nothing else
-known_from : (from n : ℕ) (lists : List (List Slip)) (seats : List Kept) → length lists ≡ n → map (λ (s : Kept). s.number) seats ≡ up from n
-    → ((s : Kept) → Among s seats → (k : ℕ) → s.number ≡ from + k → slice_get lists k ≡ Some s.slips) → lists ≡ map (λ (s : Kept). s.slips) seats
+known_from : (from n : ℕ) (lists : List (List Slip)) (seats : List SeatSlips) → length lists ≡ n → map (λ (s : SeatSlips). s.number) seats ≡ up from n
+    → ((s : SeatSlips) → Among s seats → (k : ℕ) → s.number ≡ from + k → slice_get lists k ≡ Some s.slips) → lists ≡ map (λ (s : SeatSlips). s.slips) seats
 known_from from zero [] [] l e h = refl
 known_from from zero [] (s ∷ ss) l e h = absurd (cc)
 known_from from zero (x ∷ xs) seats l e h = absurd (omega (arith, l))
@@ -116,24 +116,24 @@ known_from from (suc n) [] seats l e h = absurd (omega (arith, l))
 known_from from (suc n) (x ∷ xs) [] l e h = absurd (cc)
 known_from from (suc n) (x ∷ xs) (s ∷ ss) l e h =
     let head : s.number ≡ from = cc in
-    let rest : map (λ (z : Kept). z.number) ss ≡ up (suc from) n = cc in
+    let rest : map (λ (z : SeatSlips). z.number) ss ≡ up (suc from) n = cc in
     let one : x ≡ s.slips = some_same x s.slips (h s (inl refl) 0 (omega (arith, head))) in
     let more = known_from (suc from) n xs ss (omega (arith, l)) rest (λ t a k d. h t (inr a) (suc k) (omega (arith, d))) in
     λ i. one i ∷ more i
 
-pub all_known : (n : ℕ) (lists : List (List Slip)) (seats : List Kept) → length lists ≡ n → map (λ (s : Kept). s.number) seats ≡ up 0 n
-    → Shows (hand (lists ∷ []) seats) → lists ≡ map (λ (s : Kept). s.slips) seats
+pub all_known : (n : ℕ) (lists : List (List Slip)) (seats : List SeatSlips) → length lists ≡ n → map (λ (s : SeatSlips). s.number) seats ≡ up 0 n
+    → Shows (hand (lists ∷ []) seats) → lists ≡ map (λ (s : SeatSlips). s.slips) seats
 all_known n lists seats l e shows = known_from 0 n lists seats l e (λ s a k d. ap (slice_get lists) (let z : k ≡ s.number = omega (arith, d) in z) ∙ shows.agree lists s (inl refl) a)
 
 -- so many seats in order, whose tokens the desk's was joined with
 pub all_told : {S : Type 0} (number : S → ℕ) (slips : S → List Slip) (n : ℕ) (lists : List (List Slip)) (seats : List S) → length lists ≡ n → map number seats ≡ up 0 n
     → Shows (hand (lists ∷ []) (map (λ s. kept (number s) (slips s)) seats)) → lists ≡ map slips seats
 all_told number slips n lists seats l e shows =
-    all_known n lists (map (λ s. kept (number s) (slips s)) seats) l (map_twice (λ s. kept (number s) (slips s)) (λ (z : Kept). z.number) seats ∙ e) shows
-    ∙ map_twice (λ s. kept (number s) (slips s)) (λ (z : Kept). z.slips) seats
+    all_known n lists (map (λ s. kept (number s) (slips s)) seats) l (map_twice (λ s. kept (number s) (slips s)) (λ (z : SeatSlips). z.number) seats ∙ e) shows
+    ∙ map_twice (λ s. kept (number s) (slips s)) (λ (z : SeatSlips). z.slips) seats
 
 -- a token more is joined with the desk's
-pub one_more : (lists : List (List Slip)) (seats : List Kept) (n : ℕ) (slips : List Slip) (desk seat both : Me (Unit {0}) DeskHand) → desk ≡ (hand (lists ∷ []) seats, []) → seat ≡ (of_seat n slips, [])
+pub one_more : (lists : List (List Slip)) (seats : List SeatSlips) (n : ℕ) (slips : List Slip) (desk seat both : Me (Unit {0}) DeskHand) → desk ≡ (hand (lists ∷ []) seats, []) → seat ≡ (of_seat n slips, [])
     → both ≡ (joined desk.0 seat.0, []) → both ≡ (hand (lists ∷ []) (seats ++ kept n slips ∷ []), [])
 one_more lists seats n slips desk seat both of_desk of_seat of_both = of_both ∙ (λ i. (joined (of_desk i).0 (of_seat i).0, []))
 

@@ -9,16 +9,16 @@ use lib.ListN.{get_elem?}
 use Rattle.atomic_table.specs.Table.{State, Me, keeps, step, Allows, Splits, Joins}
 use Rattle.atomic_table.proofs.Lists.{at_set, at_snoc, set_else, set_again}
 use Rattle.lru_mailbox.specs.declared.slip.Slip.{Slip}
-use Rattle.lru_desks.specs.declared.hand.Kept.{Kept}
+use Rattle.lru_desks.specs.declared.hand.SeatSlips.{SeatSlips}
 use Rattle.lru_desks.specs.declared.hand.DeskHand.{DeskHand}
 use Rattle.lru_hands.specs.Hands.{total, Among, Held}
 use Rattle.lru_hands.proofs.Hands.{none_some, among_either, among_length, at_most, two_within, total_append, counts_one, counts_none, held_at, held_find, split_from, join_from, total_split, total_join, total_same, take_drop, dropped, taken, one_of}
 use Rattle.lru_desks.specs.Ties.{kept, hand, of_desk, of_seat, known, own, blank_lists, blank_seats, named, Agrees, Ties, noted, Shows, Notes, Looks, joined}
 
 -- a seat among these has its number among them
-pub among_named : (s : Kept) (seats : List Kept) → Among s seats → 0 < named s.number seats
+pub among_named : (s : SeatSlips) (seats : List SeatSlips) → Among s seats → 0 < named s.number seats
 among_named s [] a = absurd a
-among_named s (t ∷ ts) (inl e) = omega (arith, counts_one s.number t.number (ap (λ (z : Kept). z.number) (sym e)))
+among_named s (t ∷ ts) (inl e) = omega (arith, counts_one s.number t.number (ap (λ (z : SeatSlips). z.number) (sym e)))
 among_named s (t ∷ ts) (inr a) = let ih = among_named s ts a in omega (arith, ih)
 
 none_before : (n from count : ℕ) → n < from → named n (blank_seats from count) ≡ 0
@@ -40,8 +40,8 @@ pub record Cuts (v l r : DeskHand) : Type 0 where
   pub seats : (n : ℕ) → named n l.seats + named n r.seats ≡ named n v.seats
   pub desks_l : (x : List (List Slip)) → Among x l.desks → Among x v.desks
   pub desks_r : (x : List (List Slip)) → Among x r.desks → Among x v.desks
-  pub seats_l : (x : Kept) → Among x l.seats → Among x v.seats
-  pub seats_r : (x : Kept) → Among x r.seats → Among x v.seats
+  pub seats_l : (x : SeatSlips) → Among x l.seats → Among x v.seats
+  pub seats_r : (x : SeatSlips) → Among x r.seats → Among x v.seats
 
 ties_split : (vs : List DeskHand) (i : ℕ) (v l r : DeskHand) → Cuts v l r → Ties vs → get_elem? vs i ≡ some v → Ties (set vs i l ++ r ∷ [])
 ties_split vs i v l r cut t at = record {
@@ -104,9 +104,9 @@ blank_get n zero h = absurd (omega (arith, h))
 blank_get zero (suc count) h = refl
 blank_get (suc n) (suc count) h = blank_get n count (omega (arith, h))
 
-blank_among : (s : Kept) (from count : ℕ) → Among s (blank_seats from count) → (s.slips ≡ []) × (s.number < from + count)
+blank_among : (s : SeatSlips) (from count : ℕ) → Among s (blank_seats from count) → (s.slips ≡ []) × (s.number < from + count)
 blank_among s from zero a = absurd a
-blank_among s from (suc count) (inl e) = (ap (λ (z : Kept). z.slips) e, let n : s.number ≡ from = ap (λ (z : Kept). z.number) e in omega (arith, n))
+blank_among s from (suc count) (inl e) = (ap (λ (z : SeatSlips). z.slips) e, let n : s.number ≡ from = ap (λ (z : SeatSlips). z.number) e in omega (arith, n))
 blank_among s from (suc count) (inr a) = let r = blank_among s (suc from) count a in (r.0, let n = r.1 in omega (arith, n))
 
 pub begins : (count : ℕ) → Ties (hand (blank_lists count ∷ []) (blank_seats 0 count) ∷ [])
@@ -121,11 +121,11 @@ begins count = record {
     one_held (inl (inr a)) = absurd a
     one_held (inr a) = absurd a
 
-    one_kept : (s : Kept) → Among s (blank_seats 0 count) ⊎ ⊥ → Among s (blank_seats 0 count)
+    one_kept : (s : SeatSlips) → Among s (blank_seats 0 count) ⊎ ⊥ → Among s (blank_seats 0 count)
     one_kept s (inl a) = a
     one_kept s (inr a) = absurd a
 
-    blank_agrees : (lists : List (List Slip)) (s : Kept) → lists ≡ blank_lists count → Among s (blank_seats 0 count) → Agrees lists s
+    blank_agrees : (lists : List (List Slip)) (s : SeatSlips) → lists ≡ blank_lists count → Among s (blank_seats 0 count) → Agrees lists s
     blank_agrees lists s e a =
         let r = blank_among s 0 count a in
         ap (λ l. slice_get l s.number) e ∙ blank_get s.number count (let n = r.1 in omega (arith, n)) ∙ ap (λ (l : List Slip). Some l) (sym r.0)
@@ -160,7 +160,7 @@ set_other (z ∷ zs) (suc k) zero y n = refl
 set_other (z ∷ zs) (suc k) (suc j) y n = set_other zs k j y (λ e. n (ap suc e))
 
 -- a slip is noted in a hand of the desk and one seat
-module _ (vs : List DeskHand) (i : ℕ) (lists : List (List Slip)) (q : Kept) (x : Slip) (t : Ties vs) (at : get_elem? vs i ≡ some (hand (lists ∷ []) (q ∷ []))) where
+module _ (vs : List DeskHand) (i : ℕ) (lists : List (List Slip)) (q : SeatSlips) (x : Slip) (t : Ties vs) (at : get_elem? vs i ≡ some (hand (lists ∷ []) (q ∷ []))) where
   abbrev v : DeskHand
   v = hand (lists ∷ []) (q ∷ [])
 
@@ -188,7 +188,7 @@ module _ (vs : List DeskHand) (i : ℕ) (lists : List (List Slip)) (q : Kept) (x
       (at_set vs i r.0 w r.1 r.2)
 
   -- another seat has another number
-  same_or_else : (s : Kept) → Held (λ u. u.seats) s (set vs i w) → (s ≡ kept q.number more) ⊎ ((s.number ≢ q.number) × Held (λ u. u.seats) s vs)
+  same_or_else : (s : SeatSlips) → Held (λ u. u.seats) s (set vs i w) → (s ≡ kept q.number more) ⊎ ((s.number ≢ q.number) × Held (λ u. u.seats) s vs)
   same_or_else s h = let r = held_find (λ u. u.seats) s (set vs i w) h in ⊎_elim
       (λ (e : (r.0 ≡ i) × (w ≡ r.1)). inl (one_of s (kept q.number more) (subst (λ (u : DeskHand). Among s u.seats) (sym e.1) r.3)))
       (λ (e : (r.0 ≢ i) × (get_elem? vs r.0 ≡ some r.1)). inr (
@@ -202,7 +202,7 @@ module _ (vs : List DeskHand) (i : ℕ) (lists : List (List Slip)) (q : Kept) (x
       ))
       (at_set vs i r.0 w r.1 r.2)
 
-  still_agrees : (s : Kept) → (s ≡ kept q.number more) ⊎ ((s.number ≢ q.number) × Held (λ u. u.seats) s vs) → Agrees lists' s
+  still_agrees : (s : SeatSlips) → (s ≡ kept q.number more) ⊎ ((s.number ≢ q.number) × Held (λ u. u.seats) s vs) → Agrees lists' s
   still_agrees s (inl e) = subst (Agrees lists') (sym e) (set_get lists q.number q.slips more agrees)
   still_agrees s (inr e) = set_other lists q.number s.number more e.0 ∙ t.agree lists s (held_at (λ u. u.desks) lists vs i v at (inl refl)) e.1
 
@@ -214,7 +214,7 @@ module _ (vs : List DeskHand) (i : ℕ) (lists : List (List Slip)) (q : Kept) (x
   }
 
 -- a hand of the desk and one seat, whatever it knows
-pub notes : (slots id i a b : ℕ) (me : Me (Unit {0}) DeskHand) (lists : List (List Slip)) (q : Kept) (x : Slip) → me ≡ (hand (lists ∷ []) (q ∷ []), [])
+pub notes : (slots id i a b : ℕ) (me : Me (Unit {0}) DeskHand) (lists : List (List Slip)) (q : SeatSlips) (x : Slip) → me ≡ (hand (lists ∷ []) (q ∷ []), [])
     → Allows (λ (s : State (Unit {0}) DeskHand). Ties s.views) slots id me i (λ n. n) (Notes x (step slots i a b none) me)
 notes slots id i a b me lists q x is s t wide at fits =
     let at' : get_elem? s.views id ≡ some (hand (lists ∷ []) (q ∷ [])) = at ∙ ap (λ (m : Me (Unit {0}) DeskHand). some m.0) is in (

@@ -6,7 +6,7 @@ ghost use Rattle.lru_hands.specs.Hands.{up};
 ghost use Rattle.lru_desks.specs.Ties.{hand, of_desk, known};
 
 use crate::seats::{PutSeat, TakeSeat, put_seats, take_seats};
-use crate::tie::{BlankSeats, Blanks, Registry, DeskTie, DeskToken};
+use crate::tie::{BlankSeats, Blanks, BoxRegistry, DeskTie, DeskToken};
 use lru_mailbox::{LedgerState, MailError, Settled, Slip};
 use std::alloc::{AllocError, Global};
 use std::marker::{Model, PhantomData};
@@ -15,7 +15,7 @@ use std::marker::{Model, PhantomData};
 /// lost. The slips of what was put and taken stand with the seats; the desk's tokens know them, so that it and its seats
 /// always agree.
 #[derive(Drop)]
-pub struct Desk<K: Drop, B: Registry> {
+pub struct Desk<K: Drop, B: BoxRegistry> {
     state: LedgerState<K>,
     puts: DeskTie,
     putting: DeskToken,
@@ -24,7 +24,7 @@ pub struct Desk<K: Drop, B: Registry> {
     brand: PhantomData<B>,
 }
 
-impl<K: Drop, B: Registry> Model for Desk<K, B> {
+impl<K: Drop, B: BoxRegistry> Model for Desk<K, B> {
     ghost use Rattle.std.specs.Prelude.{◌≡◌};
     ghost use Rattle.lru_mailbox.specs.Ledger.{Stock};
     ghost use Rattle.lru_desks.specs.Desks.{IsDesk};
@@ -36,7 +36,7 @@ impl<K: Drop, B: Registry> Model for Desk<K, B> {
     ghost invariant = { λ s. ((s.puts.table.shared.table_id ≡ B.puts) × (s.putting.table_id ≡ B.puts)) × (((s.takes.table.shared.table_id ≡ B.takes) × (s.taking.table_id ≡ B.takes)) × IsDesk B.putters B.takers s.state s.putting.me s.taking.me) };
 }
 
-impl<K: Drop, B: Registry> Desk<K, B> {
+impl<K: Drop, B: BoxRegistry> Desk<K, B> {
     ghost use Rattle.lru_mailbox.specs.Ledger.{slip_put, put, shut, left, empty, Puts, Takes};
 
     /// An open desk where nothing waits, and its seats, which are numbered in order.
@@ -201,7 +201,7 @@ impl<K: Drop, B: Registry> Desk<K, B> {
 }
 
 // Takes seats apart: each one's slips go into a list of its own, and its token to the desk's, which knew all of these lists.
-fn gather_puts<B: Registry>(
+fn gather_puts<B: BoxRegistry>(
     tie: &DeskTie,
     desk: &mut DeskToken,
     seats: Vec<PutSeat<B>>,
@@ -224,7 +224,7 @@ fn gather_puts<B: Registry>(
 }
 
 // The same of seats of those who take.
-fn gather_takes<B: Registry>(
+fn gather_takes<B: BoxRegistry>(
     tie: &DeskTie,
     desk: &mut DeskToken,
     seats: Vec<TakeSeat<B>>,

@@ -15,4 +15,4 @@ pub mod tie;
 pub use desk_putter::DeskPutter;
 pub use ledger_box::LedgerBox;
 pub use seats::{PutSeat, TakeSeat};
-pub use tie::{Blanks, Registry};
+pub use tie::{Blanks, BoxRegistry};

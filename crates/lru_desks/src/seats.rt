@@ -4,14 +4,14 @@ ghost use Rattle.lru_mailbox.specs.declared.slip.Slip.{Slip};
 ghost use Rattle.lru_hands.specs.Hands.{up};
 ghost use Rattle.lru_desks.specs.Ties.{hand, of_seat, of_desk, blank_lists, blank_seats};
 
-use crate::tie::{Registry, DeskTie, DeskToken};
+use crate::tie::{BoxRegistry, DeskTie, DeskToken};
 use lru_mailbox::{PutShare, Slip, TakeShare};
 use std::alloc::{AllocError, Global};
 use std::marker::PhantomData;
 
 /// The seat of one who puts pairs into a box. It is made with the box, and cannot be copied.
 #[derive(Drop)]
-pub struct PutSeat<B: Registry> {
+pub struct PutSeat<B: BoxRegistry> {
     /// The number of the seat, among those who put.
     pub number: usize,
     /// The slips of what was put with the seat, in order.
@@ -23,7 +23,7 @@ pub struct PutSeat<B: Registry> {
     pub ghost told: { token.me ≡ (of_seat number share.slips, []) },
 }
 
-impl<B: Registry> PutSeat<B> {
+impl<B: BoxRegistry> PutSeat<B> {
     /// A seat without slips.
     pub fn new(alloc: Global, number: usize, token: DeskToken) -> Self
         requires { (token.table_id ≡ B.puts) × (token.me ≡ (of_seat number [], [])) }
@@ -63,7 +63,7 @@ impl<B: Registry> PutSeat<B> {
 
 /// The seat of one who takes pairs out of a box. It is made with the box, and cannot be copied.
 #[derive(Drop)]
-pub struct TakeSeat<B: Registry> {
+pub struct TakeSeat<B: BoxRegistry> {
     /// The number of the seat, among those who take.
     pub number: usize,
     /// The slips of what was taken with the seat, in order.
@@ -75,7 +75,7 @@ pub struct TakeSeat<B: Registry> {
     pub ghost told: { token.me ≡ (of_seat number share.slips, []) },
 }
 
-impl<B: Registry> TakeSeat<B> {
+impl<B: BoxRegistry> TakeSeat<B> {
     /// A seat without slips.
     pub fn new(alloc: Global, number: usize, token: DeskToken) -> Self
         requires { (token.table_id ≡ B.takes) × (token.me ≡ (of_seat number [], [])) }
@@ -114,7 +114,7 @@ impl<B: Registry> TakeSeat<B> {
 }
 
 // The seats of so many who put, in order. The token that spoke for them and the desk then speaks for the desk alone.
-pub(crate) fn put_seats<B: Registry>(
+pub(crate) fn put_seats<B: BoxRegistry>(
     alloc: Global,
     tie: &DeskTie,
     rest: &mut DeskToken,
@@ -135,7 +135,7 @@ pub(crate) fn put_seats<B: Registry>(
 }
 
 // The seats of so many who take, in the same way.
-pub(crate) fn take_seats<B: Registry>(
+pub(crate) fn take_seats<B: BoxRegistry>(
     alloc: Global,
     tie: &DeskTie,
     rest: &mut DeskToken,

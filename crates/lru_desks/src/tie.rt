@@ -11,7 +11,7 @@ use std::alloc::{AllocError, Global};
 use std::marker::{Brand, PhantomData};
 
 /// Names the two tables of one box, that of those who put and that of those who take, and how many of each there are.
-pub trait Registry {
+pub trait BoxRegistry {
     ghost use Rattle.std.specs.Prelude.{ℕ};
     ghost use Rattle.atomic_table.specs.Seated.{TableId};
 
@@ -24,7 +24,7 @@ pub trait Registry {
     ghost takers: { ℕ };
 }
 
-impl Registry for Brand {
+impl BoxRegistry for Brand {
     ghost puts = { no_table };
 
     ghost takes = { no_table };
@@ -156,7 +156,13 @@ impl DeskTie {
         self.table.shared.load::<Looking>(token, 0);
     }
 
-    fn note_said<S: Saying>(&self, desk: &mut DeskToken, seat: &mut DeskToken, number: usize, said: &Slip)
+    fn note_said<S: Saying>(
+        &self,
+        desk: &mut DeskToken,
+        seat: &mut DeskToken,
+        number: usize,
+        said: &Slip,
+    )
         requires said { S.said ≡ said.now }
         requires ids { (desk.old.table_id ≡ self.now.table.shared.table_id) × (seat.old.table_id ≡ self.now.table.shared.table_id) }
         requires desk { desk.old.me ≡ (of_desk (known desk.old.me.0), []) }

@@ -5,7 +5,7 @@ ghost use Rattle.lru_generations.specs.declared.names.PartName.{PartName};
 ghost use Rattle.lru_generations.specs.Names.{generation_of};
 ghost use Rattle.lru_generations.specs.Touching.{TouchesNothing};
 ghost use Rattle.lru_generations.specs.Loads.{IsFault};
-ghost use Rattle.lru_generations.specs.declared.generation_checks.Told.{Told};
+ghost use Rattle.lru_generations.specs.declared.generation_checks.FoundGeneration.{FoundGeneration};
 ghost use Rattle.lru_generations.specs.Faults.{IsFailed, IsUnlisted};
 ghost use Rattle.lru_generations.specs.Told.{AreAll, IsTold};
 
@@ -18,7 +18,7 @@ use std::alloc::{AllocError, Global};
 
 /// A generation that a folder has a file of.
 #[derive(Clone, Copy, Debug, PartialEq, Eq)]
-pub struct Told {
+pub struct FoundGeneration {
     /// Its number.
     pub generation: u64,
     /// How many shards it has where it is whole, and else what of it is not there, damaged or of another checkpoint.
@@ -48,7 +48,7 @@ fn tell<F: Folder>(
     dir: &str,
     file_name: &str,
     generation: u64,
-) -> Result<Told, CheckpointError>
+) -> Result<FoundGeneration, CheckpointError>
     ensures number { IfOk result (λ told. told.generation ≡ generation) }
     ensures told { F.meaning.keeps folder.old → IfOk result (λ told. IsTold dir.now file_name.now F.meaning folder.old folder.new generation told.shards) }
     ensures error { IfErr result IsFault }
@@ -62,14 +62,14 @@ fn tell<F: Folder>(
     match check_generation(alloc, folder, dir, file_name, generation) {
         Ok(manifest) => {
             let shards = Ok(manifest.frames.len() as u64);
-            Ok(Told { generation, shards })
+            Ok(FoundGeneration { generation, shards })
         }
         Err(error) => {
             if error.is_fault() {
                 return Err(error);
             }
             let shards = Err(error);
-            Ok(Told { generation, shards })
+            Ok(FoundGeneration { generation, shards })
         }
     }
 }
@@ -81,9 +81,9 @@ fn tell_each<F: Folder>(
     dir: &str,
     file_name: &str,
     generations: &[u64],
-) -> Result<Vec<Told>, CheckpointError>
+) -> Result<Vec<FoundGeneration>, CheckpointError>
     ensures all { IfOk result (λ told. map (λ one. one.generation) told.items ≡ generations.now) }
-    ensures told { F.meaning.keeps folder.old → IfOk result (λ told. (one : Told) → Contains told.items one
+    ensures told { F.meaning.keeps folder.old → IfOk result (λ told. (one : FoundGeneration) → Contains told.items one
         → IsTold dir.now file_name.now F.meaning folder.old folder.new one.generation one.shards) }
     ensures error { IfErr result IsFault }
     ensures reason { F.meaning.keeps folder.old → IfErr result (IsFailed F.meaning folder.old folder.new) }
@@ -113,14 +113,14 @@ pub fn check_all<F: Folder>(
     folder: &mut F,
     dir: &str,
     file_name: &str,
-) -> Result<Vec<Told>, CheckpointError>
+) -> Result<Vec<FoundGeneration>, CheckpointError>
     requires { has_slash file_name.now ≡ false }
 
     // No generation is left out, and none is told of twice.
     ensures all { F.meaning.keeps folder.old → IfOk result (λ told. AreAll dir.now file_name.now (F.meaning.files folder.old) (map (λ one. one.generation) told.items)) }
 
     // Of each it is told whether it is whole.
-    ensures told { F.meaning.keeps folder.old → IfOk result (λ told. (one : Told) → Contains told.items one
+    ensures told { F.meaning.keeps folder.old → IfOk result (λ told. (one : FoundGeneration) → Contains told.items one
         → IsTold dir.now file_name.now F.meaning folder.old folder.new one.generation one.shards) }
 
     ensures error { IfErr result IsFault }

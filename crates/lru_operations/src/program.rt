@@ -8,7 +8,7 @@ ghost use Rattle.lru_operations.specs.Outcomes.{unread_words, LeavesFiles, Leave
 
 use crate::engine::{run_buffered, tell_buffered};
 use crate::outcome::Outcome;
-use crate::requests::{Misuse, WordsError};
+use crate::requests::{TaskMisuse, WordsError};
 use lru_folder::synced_folder::SyncedFolder;
 use lru_lines::input::Input;
 use std::alloc::{AllocError, Global};
@@ -76,7 +76,7 @@ fn unread(error: WordsError) -> Outcome
 {
     match error {
         WordsError::Memory => Outcome::Memory,
-        WordsError::NoText => Outcome::Misused(Misuse::NoText),
+        WordsError::NoText => Outcome::Misused(TaskMisuse::NoText),
     }
 }
 

@@ -14,7 +14,7 @@ ghost use Rattle.lru_generations.specs.Saving.{IsForGood, IsOlder, IsUnsaved, Is
 ghost use Rattle.lru_order_checkpoints.specs.Restores.{IfUnloaded, IsCopyOf, IsSameWord, IsWord, Restores};
 
 use crate::core_captures::{CoreSource, restore_shards};
-use crate::restored::{RestoreError, Restored};
+use crate::restored::{OrderRestoreError, RestoredOrder};
 use lru_cores::lru_core::LruCore;
 use lru_folder::folder::Folder;
 use lru_folder::synced_folder::SyncedFolder;
@@ -121,7 +121,7 @@ pub fn load_core<F: Folder, V: Stored, const N: usize>(
     dir: &str,
     file_name: &str,
     core: &mut LruCore<(u64, V), N>,
-) -> Result<Restored, RestoreError<V>>
+) -> Result<RestoredOrder, OrderRestoreError<V>>
     requires { has_slash file_name.now ≡ false }
     ensures restores { F.meaning.keeps folder.old → Restores word IsWord IsSameWord V.bytes_of V.is_value V.is_same
         dir.now file_name.now (F.meaning.files folder.old) core.old result core.new }
@@ -149,14 +149,14 @@ pub fn load_core<F: Folder, V: Stored, const N: usize>(
 {
     let Loaded { newest, passed } = load(alloc, folder, dir, file_name)?;
     let Some(checkpoint) = newest else {
-        return Ok(Restored {
+        return Ok(RestoredOrder {
             generation: None,
             known: None,
             passed,
         });
     };
     restore_shards(core, checkpoint.shards)?;
-    Ok(Restored {
+    Ok(RestoredOrder {
         generation: Some(checkpoint.generation),
         known: Some(checkpoint.known),
         passed,

@@ -14,7 +14,7 @@ ghost use Rattle.lru_generations.specs.Newest.{AreGenerations, ArePassed, IsAsKn
 ghost use Rattle.lru_generations.specs.Saving.{IsForGood, IsOlder, IsUnsaved, IsUnused, SavesAfter, SavesNext, TellsPassed};
 ghost use Rattle.lru_order_checkpoints.specs.Restores.{IfUnloaded, IsSameWord, IsWord, MayRestore};
 
-use crate::restored::{RestoreError, Restored};
+use crate::restored::{OrderRestoreError, RestoredOrder};
 use crate::shared_captures::{LruSource, restore_shards};
 use lru_folder::folder::Folder;
 use lru_folder::synced_folder::SyncedFolder;
@@ -127,7 +127,7 @@ pub fn load_lru<F: Folder, V: Stored, const N: usize>(
     dir: &str,
     file_name: &str,
     lru: &Lru<(u64, V), N>,
-) -> Result<Restored, RestoreError<V>>
+) -> Result<RestoredOrder, OrderRestoreError<V>>
     requires { has_slash file_name.now ≡ false }
     ensures restores { F.meaning.keeps folder.old → MayRestore word IsWord IsSameWord V.bytes_of V.is_value V.is_same
         dir.now file_name.now (F.meaning.files folder.old) N result }
@@ -155,14 +155,14 @@ pub fn load_lru<F: Folder, V: Stored, const N: usize>(
 {
     let Loaded { newest, passed } = load(alloc, folder, dir, file_name)?;
     let Some(checkpoint) = newest else {
-        return Ok(Restored {
+        return Ok(RestoredOrder {
             generation: None,
             known: None,
             passed,
         });
     };
     restore_shards(rt, lru, checkpoint.shards)?;
-    Ok(Restored {
+    Ok(RestoredOrder {
         generation: Some(checkpoint.generation),
         known: Some(checkpoint.known),
         passed,

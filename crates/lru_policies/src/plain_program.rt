@@ -5,7 +5,7 @@ ghost use Rattle.lru_policies.specs.Traces.{AreOfSizeOne};
 use crate::help::{HELP, USAGE};
 use crate::one_pass::{are_of_size_one, play_all};
 use crate::player::{Request, Tally, play};
-use crate::plot::{Counted, Plot};
+use crate::plot::{CountedUnit, Plot};
 use crate::progress::Progress;
 use crate::requests::{LineFault, read_line};
 use crate::settings::{Asked, Settings, asked_of};
@@ -201,10 +201,10 @@ fn play_input(rt: HostRuntime, settings: &Settings) -> io::Result<ExitCode> {
     println!(rt; "{} requests", requests.len())?;
     let (played, counted) = if are_of_size_one(&requests) {
         let played = play_at_once(rt, progress, settings, &requests)?;
-        (played, Counted::Objects)
+        (played, CountedUnit::Objects)
     } else {
         let played = play_each(rt, progress, settings, &requests)?;
-        (played, Counted::Bytes)
+        (played, CountedUnit::Bytes)
     };
     let Some(mut rows) = played else {
         return Ok(ExitCode::from(1));

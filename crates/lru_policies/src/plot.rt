@@ -22,7 +22,7 @@ const DIGIT: u64 = 6;
 
 /// What limits and sizes count.
 #[derive(Clone, Copy, Debug, PartialEq, Eq)]
-pub enum Counted {
+pub enum CountedUnit {
     /// Bytes.
     Bytes,
     /// Objects, each of which has the size 1, so that the share of bytes is that of requests.
@@ -35,7 +35,7 @@ pub enum Counted {
 #[derive(Clone, Copy)]
 pub struct Plot<'a> {
     rows: &'a [(usize, Tally)],
-    counted: Counted,
+    counted: CountedUnit,
     limits: Scale,
     shares: Range,
 }
@@ -224,7 +224,7 @@ impl Display for Label {
 
 impl<'a> Plot<'a> {
     /// The plot of these limits and tallies, which it brings into the order of the limits.
-    pub fn new(rows: &'a mut [(usize, Tally)], counted: Counted) -> Self {
+    pub fn new(rows: &'a mut [(usize, Tally)], counted: CountedUnit) -> Self {
         rows.sort_unstable_by_key(|row| row.0);
         let (mut least, mut most) = (10000, 0);
         for (_, tally) in rows.iter() {
@@ -318,8 +318,8 @@ impl<'a> Plot<'a> {
             write!(f, " (the axis begins at {})", self.shares.low / 100)?;
         }
         let counted = match self.counted {
-            Counted::Bytes => "bytes",
-            Counted::Objects => "objects",
+            CountedUnit::Bytes => "bytes",
+            CountedUnit::Objects => "objects",
         };
         let form = if self.limits.is_logarithmic {
             ", on a logarithmic scale"
@@ -374,7 +374,7 @@ impl Display for Plot<'_> {
         self.write_limits(f)?;
         self.write_legend(f, Share::Requests, 70)?;
         self.write_curve(f, Share::Requests)?;
-        if self.counted == Counted::Bytes {
+        if self.counted == CountedUnit::Bytes {
             self.write_legend(f, Share::Bytes, 320)?;
             self.write_curve(f, Share::Bytes)?;
         }

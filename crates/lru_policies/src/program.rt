@@ -1,6 +1,6 @@
 //! The program `trace_player`: the words `compare`, `sample` and `make`, and all others as `plain_program` has them.
 
-use crate::compared::{Head, Line, Row, is_exact, row_of};
+use crate::compared::{Head, HitsRow, TableLine, is_exact, row_of};
 use crate::curves::Curves;
 use crate::made::{Recipe, keys_of};
 use crate::plain_program;
@@ -162,7 +162,7 @@ fn tell_rows(
     name: &str,
     limits: &[usize],
     requests: &[Request],
-) -> io::Result<Option<Vec<Row>>> {
+) -> io::Result<Option<Vec<HitsRow>>> {
     println!(rt; "{name}: {} requests", requests.len())?;
     println!(rt; "{}", Head::new(is_exact(requests)))?;
     let mut rows = Vec::new(rt.alloc());
@@ -172,7 +172,7 @@ fn tell_rows(
         progress.clear(rt);
         match played {
             Ok(row) => {
-                println!(rt; "{}", Line::new(&row, requests.len()))?;
+                println!(rt; "{}", TableLine::new(&row, requests.len()))?;
                 rows.push(row)?;
             }
             Err(refusal) => {

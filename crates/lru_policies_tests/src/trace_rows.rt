@@ -4,7 +4,7 @@ use lru_policies::numbers::NumberFault;
 use lru_policies::one_pass::{are_of_size_one, play_all};
 use lru_policies::plain_program::{BadLine, read_trace};
 use lru_policies::player::{Request, Tally, play};
-use lru_policies::plot::{Counted, Plot};
+use lru_policies::plot::{CountedUnit, Plot};
 use lru_policies::progress::Progress;
 use lru_policies::requests::{Format, LineFault, format_of, read_request, request_of};
 use lru_policies::settings::{Asked, asked_by};
@@ -314,12 +314,12 @@ fn wrong_pass(alloc: Global) -> Result<String, AllocError> {
 fn wrong_picture(alloc: Global) -> Result<String, AllocError> {
     for (drawn, hits, bytes, said) in PICTURES {
         let mut rows = drawn.map(tallied);
-        let text = format!(in alloc; "{}", Plot::new(&mut rows, Counted::Bytes))?;
+        let text = format!(in alloc; "{}", Plot::new(&mut rows, CountedUnit::Bytes))?;
         if !text.contains(hits) || !text.contains(bytes) || !text.contains(said) {
             return Ok(text);
         }
         // Where all sizes are 1, the share of bytes is that of requests.
-        let text = format!(in alloc; "{}", Plot::new(&mut rows, Counted::Objects))?;
+        let text = format!(in alloc; "{}", Plot::new(&mut rows, CountedUnit::Objects))?;
         if !text.contains("limit in objects") || text.contains("byte") {
             return Ok(text);
         }

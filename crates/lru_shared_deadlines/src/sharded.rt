@@ -16,7 +16,7 @@ ghost use Rattle.lru_shared_deadlines.specs.Sharded.{empty_shards};
 use crate::ages::Moment;
 pub use crate::ages::{Aged, Ages, Gone};
 use crate::calls;
-use crate::one::Shard;
+use crate::one::DeadlineShard;
 use lru_deadlines::deadlines::{DeadlineCache, Until};
 use lru_index::alike::SameHashes;
 use lru_index::hashing::SeededHashes;
@@ -75,7 +75,7 @@ pub(crate) fn empty_shards<K: Hash + Drop, V: Drop, S: BuildHasher + Copy + Drop
     limits: Limits,
     shards: usize,
     hash_builder: S,
-) -> Result<Vec<Shard<K, V, S>>, AllocError>
+) -> Result<Vec<DeadlineShard<K, V, S>>, AllocError>
     requires { 0 < shards }
     ensures { IfOk result (λ made. made.items ≡ replicate shards (empty_shard hash_builder (limits.weight / shards) (limits.entries / shards))) }
 {

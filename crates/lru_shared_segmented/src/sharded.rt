@@ -12,7 +12,7 @@ ghost use Rattle.lru_shared_segmented.specs.Making.{GetsOrPuts};
 ghost use Rattle.lru_shared_segmented.specs.Sharded.{empty_shard, empty_shards};
 
 use crate::calls;
-use crate::one::Shard;
+use crate::one::SegmentedShard;
 use lru_index::alike::SameHashes;
 use lru_index::hashing::SeededHashes;
 use lru_index::keys::Query;
@@ -69,7 +69,7 @@ pub(crate) fn empty_shards<K: Hash + Drop, V: Drop, S: BuildHasher + Copy + Drop
     protected: usize,
     shards: usize,
     hash_builder: S,
-) -> Result<Vec<Shard<K, V, S>>, AllocError>
+) -> Result<Vec<SegmentedShard<K, V, S>>, AllocError>
     requires { 0 < shards }
     ensures { IfOk result (λ made. made.items ≡ replicate shards (empty_shard hash_builder (limits.weight / shards) (limits.entries / shards) (protected / shards))) }
 {

@@ -9,7 +9,7 @@ ghost use Rattle.lru_shared_segmented.specs.Calls.{Gets, Lends, Takes, PopsShard
 ghost use Rattle.lru_shared_segmented.specs.Answers.{MayBe, MayChange, MayGetOrPut};
 
 use crate::calls;
-use crate::one::Shard;
+use crate::one::SegmentedShard;
 use crate::sharded::empty_shards;
 use crossbeam_utils::CachePadded;
 use lru_index::alike::SameHashes;
@@ -29,11 +29,11 @@ use std::sync::Wait;
 
 /// A shard under its lock, which is held as long as this is there.
 #[derive(Drop)]
-pub struct LockedShard<'a, K: Hash, V, S: BuildHasher> {
+pub struct LockedSegmentedShard<'a, K: Hash, V, S: BuildHasher> {
     held: Held<'a, Counted<SegmentedCache<K, V, S>>>,
 }
 
-impl<'a, K: Hash, V, S: BuildHasher> LockedShard<'a, K, V, S> {
+impl<'a, K: Hash, V, S: BuildHasher> LockedSegmentedShard<'a, K, V, S> {
     /// The entries of the shard, as they are while the lock is held.
     pub fn cache(&self) -> &SegmentedCache<K, V, S> {
         &self.held.cache().cache
@@ -147,7 +147,7 @@ impl<K: Hash, V, const N: usize, S: BuildHasher> SharedSegmentedCache<K, V, N, S
 
     // The shards behind their locks, for which a call waits.
     #[inline(always)]
-    fn locked<'a, W: Wait>(&'a self, rt: &'a W) -> Locked<'a, Shard<K, V, S>, W, N>
+    fn locked<'a, W: Wait>(&'a self, rt: &'a W) -> Locked<'a, SegmentedShard<K, V, S>, W, N>
         ensures some { 0 < N }
         ensures many { length result.shards.now ≡ N }
     {
@@ -228,10 +228,10 @@ impl<K: Hash, V, const N: usize, S: BuildHasher> SharedSegmentedCache<K, V, N, S
 
     /// Takes the lock of a shard, and holds it as long as what it answers is there. Meanwhile a call that waits for the same
     /// shard has to come from another thread.
-    pub fn lock_shard(&self, rt: &impl Wait, shard: usize) -> LockedShard<'_, K, V, S>
+    pub fn lock_shard(&self, rt: &impl Wait, shard: usize) -> LockedSegmentedShard<'_, K, V, S>
         requires { shard < N }
     {
-        LockedShard {
+        LockedSegmentedShard {
             held: self.shards[shard].lock(rt),
         }
     }

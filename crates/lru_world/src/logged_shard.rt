@@ -12,7 +12,7 @@ ghost use Rattle.lru_world.specs.Looking.{LearnsWeight};
 use lru_actors::message::LruMsg;
 use lru_actors::state::ShardState;
 use lru_desks::seats::PutSeat;
-use lru_desks::tie::Registry;
+use lru_desks::tie::BoxRegistry;
 use lru_inbox::tie::{Archive, LogToken};
 use lru_inbox::{Caller, Taker};
 use std::alloc::{AllocError, Global};
@@ -20,7 +20,7 @@ use std::collections::HashMap;
 
 /// A shard whose log is kept: it is what a beginning of the log leaves.
 #[derive(Drop)]
-pub struct LoggedShard<K: Clone + Drop, B: Registry + Archive> {
+pub struct LoggedShard<K: Clone + Drop, B: BoxRegistry + Archive> {
     /// The number of the shard.
     pub shard: usize,
     /// Its rows, and how many messages it refused.
@@ -39,7 +39,7 @@ pub struct LoggedShard<K: Clone + Drop, B: Registry + Archive> {
     pub ghost kept: { ∥ IsKept (cap_of B.shards) (shown seen.me.0) state (hash_map.get nat_eq weights) (slips_at seat) ∥₁ },
 }
 
-impl<K: Clone + Drop, B: Registry + Archive> LoggedShard<K, B> {
+impl<K: Clone + Drop, B: BoxRegistry + Archive> LoggedShard<K, B> {
     /// An empty one among so many, with room for so many rows: no message was processed. The token speaks for an empty beginning
     /// of its log, and the seat has no slip.
     pub fn new(

@@ -10,7 +10,7 @@ use crate::logged_shard::LoggedShard;
 use lru_actors::message::LruMsg;
 use lru_actors::state::ShardState;
 use lru_desks::seats::PutSeat;
-use lru_desks::tie::Registry;
+use lru_desks::tie::BoxRegistry;
 use lru_inbox::tie::Archive;
 use lru_inbox::voice::Voice;
 use lru_inbox::{Caller, Inbox};
@@ -39,7 +39,7 @@ impl<K: Clone + Drop, B: Archive> ShardEnd<K, B> {
     }
 }
 
-impl<K: Clone + Drop, B: Registry + Archive> LoggedShard<K, B> {
+impl<K: Clone + Drop, B: BoxRegistry + Archive> LoggedShard<K, B> {
     /// What the shard of this number came to, with the seat that has the slips of what it evicted, by its mailbox: the account of
     /// its rows by all messages that were taken. `None` where the mailbox or the rows are those of another shard, where there is no
     /// seat or no log, or where messages that were taken are not processed.

@@ -16,7 +16,7 @@ pub use lru_actors::state::ShardState;
 /// The order, the rows of a shard that it saves, and what it came to.
 pub use lru_async::async_lru::{AsyncLru, Closed, ShardData};
 /// How it is made.
-pub use lru_async::builder::{AsyncLruBuilder, Settings};
+pub use lru_async::builder::{AsyncLruBuilder, BuilderSettings};
 /// One whose evicted pairs are counted.
 pub use lru_async::ledger_lru::LedgerLru;
 /// A receiver of its evicted pairs.

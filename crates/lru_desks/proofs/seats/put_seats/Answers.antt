@@ -2,7 +2,7 @@ use Rattle.std.proofs.Common.{◌≡◌, ◌+◌, ◌-◌, [], ◌∷◌, ◌++�
 use Rattle.std.specs.Prelude.{All}
 use Rattle.std.proofs.lemmas.List.Elements.{All-push}
 use Rattle.atomic_table.specs.Table.{Me}
-use Rattle.lru_desks.specs.declared.hand.Kept.{Kept}
+use Rattle.lru_desks.specs.declared.hand.SeatSlips.{SeatSlips}
 use Rattle.lru_desks.specs.declared.hand.DeskHand.{DeskHand}
 use Rattle.lru_hands.specs.Hands.{up}
 use Rattle.lru_desks.specs.Ties.{hand, kept, blank_seats}
@@ -14,7 +14,7 @@ pub new-requires : goal.new-requires
 new-requires g c =
     let i = c.loop-number.invariant in
     let seats : c.loop-number.rest.me.0.seats ≡ kept c.loop-number.number [] ∷ blank_seats (c.loop-number.number + 1) (c.args.count - (c.loop-number.number + 1)) = ap (λ (m : Me (Unit {0}) DeskHand). m.0.seats) i.1.1 ∙ seats_rest _ _ (search rules) in
-    (c.next_seat-token.ensures.ids.1 ∙ i.0, c.next_seat-token.ensures.one ∙ ap (λ (l : List Kept). (hand [] (take 1 l), [])) seats)
+    (c.next_seat-token.ensures.ids.1 ∙ i.0, c.next_seat-token.ensures.one ∙ ap (λ (l : List SeatSlips). (hand [] (take 1 l), [])) seats)
 
 pub loop-number-preserved : goal.loop-number-preserved
 loop-number-preserved g c =

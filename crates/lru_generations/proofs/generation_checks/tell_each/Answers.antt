@@ -3,7 +3,7 @@ use Rattle.std.proofs.lemmas.List.{take_all}
 use Rattle.std.specs.Prelude.{Contains, map}
 use Rattle.lru_folder.specs.Meaning.{Meaning}
 use Rattle.lru_generations.proofs.Touched.{touches_started, touches_then}
-use Rattle.lru_generations.specs.declared.generation_checks.Told.{Told}
+use Rattle.lru_generations.specs.declared.generation_checks.FoundGeneration.{FoundGeneration}
 use Rattle.lru_generations.specs.Told.{IsTold}
 use Rattle.lru_generations.proofs.Passing.{each_more, map_more}
 use Rattle.lru_generations.proofs.Telling.{told_again}
@@ -13,8 +13,8 @@ pub loop-generation-init : goal.loop-generation-init
 loop-generation-init g c =
     let none = c.new-told.ensures.items in
     record {
-      all = ap (λ (l : List Told). map (λ (one : Told). one.generation) l) none;
-      each = λ k one h. absurd (omega (arith, h.1, ap (λ (l : List Told). length l) none));
+      all = ap (λ (l : List FoundGeneration). map (λ (one : FoundGeneration). one.generation) l) none;
+      each = λ k one h. absurd (omega (arith, h.1, ap (λ (l : List FoundGeneration). length l) none));
       files = λ k. refl;
       touches = λ k. touches_started g.F.Folder.meaning (λ q. ⊥) c.args.folder.now k;
       quiet = λ k. refl;
@@ -44,16 +44,16 @@ loop-generation-preserved g c =
     let numbers = c.args.generations.now in
     let i = c.loop-generation.generation-index in
     let told = c.loop-generation.told.items in
-    let last : Told = c.in_ok-one.one in
+    let last : FoundGeneration = c.in_ok-one.one in
     let is : c.push.new.self.items ≡ told ++ last ∷ [] = c.in-Ok.ensures.items in
     record {
-      all = ap (λ (l : List Told). map (λ (one : Told). one.generation) l) is
-          ∙ map_more (λ (one : Told). one.generation) numbers i told last c.loop-generation-test.true so_far.all c.in_ok-one.ensures.number;
-      each = λ k one h. each_more (λ (t : Told). IsTold dir file_name m start new t.generation t.shards) told last
+      all = ap (λ (l : List FoundGeneration). map (λ (one : FoundGeneration). one.generation) l) is
+          ∙ map_more (λ (one : FoundGeneration). one.generation) numbers i told last c.loop-generation-test.true so_far.all c.in_ok-one.ensures.number;
+      each = λ k one h. each_more (λ (t : FoundGeneration). IsTold dir file_name m start new t.generation t.shards) told last
           (λ t at. told_again m dir file_name start mid start new refl t.generation t.shards (so_far.each k t at))
           (subst (λ (n : ℕ). IsTold dir file_name m start new n last.shards) (sym c.in_ok-one.ensures.number)
           (told_again m dir file_name mid new start new (so_far.files k) (get_or numbers i 0) last.shards (c.in_ok-one.ensures.told (so_far.kept.0 k))))
-          one (subst (λ (l : List Told). Contains l one) is h);
+          one (subst (λ (l : List FoundGeneration). Contains l one) is h);
       files = λ k. c.tell.ensures.files (so_far.kept.0 k) ∙ so_far.files k;
       touches = λ k. touches_then m (λ q. ⊥) start mid new (so_far.touches k) (c.tell.ensures.touches (so_far.kept.0 k));
       quiet = λ k. c.in_ok-one.ensures.faults (so_far.kept.0 k) ∙ so_far.quiet k;

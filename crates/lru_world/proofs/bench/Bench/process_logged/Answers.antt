@@ -8,7 +8,7 @@ use Rattle.std.specs.Prelude.{Option, is_some}
 use Rattle.std.proofs.Common.{Some, None, refl, ◌≡◌}
 use Rattle.std.proofs.Math.Logic.{∥∥₁_map}
 use Rattle.lru_desks.specs.declared.seats.PutSeat.{PutSeat}
-use Rattle.lru_desks.specs.declared.tie.Registry.{Ghosts}
+use Rattle.lru_desks.specs.declared.tie.BoxRegistry.{Ghosts}
 use Rattle.lru_world.specs.Accounts.{IsKept}
 use Rattle.lru_world.specs.Seats.{slips_at}
 use Rattle.lru_world.specs.Outlets.{is_ledger}
