@@ -8,7 +8,7 @@ ghost use Rattle.lru_memory_folder.specs.History.{end_of, files_left, with_call,
 ghost use Rattle.lru_memory_folder.specs.Kept.{IsMarked};
 ghost use Rattle.lru_memory_folder.specs.ReplayInside.{kept_of, loss_in};
 
-use crate::calls::{End, EndedCall, FolderCall, end_of};
+use crate::calls::{End, EndedCall, FileCall, end_of};
 use crate::held::{PathBytes, append, copy_all, front, give_name, put, take_out};
 use crate::replay::Replay;
 use lru_folder::fault::FolderFault;
@@ -109,12 +109,7 @@ impl CallJournal {
     }
 
     /// Does what a call does that ends so, and notes it. Where memory is refused, nothing changes.
-    pub(crate) fn note(
-        &mut self,
-        alloc: Global,
-        call: FolderCall,
-        end: End,
-    ) -> Result<(), AllocError>
+    pub(crate) fn note(&mut self, alloc: Global, call: FileCall, end: End) -> Result<(), AllocError>
         ensures ok { OnOk result (self.new ≡ with_call self.old (deed_of call) end) }
         ensures err { OnErr result (self.new ≡ self.old) }
     {
@@ -127,7 +122,7 @@ impl CallJournal {
     pub(crate) fn conclude(
         &mut self,
         alloc: Global,
-        call: FolderCall,
+        call: FileCall,
         fate: Option<usize>,
         found: bool,
     ) -> Result<(), FolderFault>
@@ -148,7 +143,7 @@ fn make_ready(
     alloc: Global,
     calls: &mut Vec<EndedCall>,
     held: &mut PathBytes,
-    call: &FolderCall,
+    call: &FileCall,
     end: End,
 ) -> Result<(), AllocError>
     ensures calls { calls.new.items ≡ calls.old.items }
@@ -161,7 +156,7 @@ fn make_ready(
 }
 
 /// Puts a call behind the others, for which there is room.
-fn push(calls: &mut Vec<EndedCall>, call: FolderCall, end: End)
+fn push(calls: &mut Vec<EndedCall>, call: FileCall, end: End)
     requires { vec_len calls.old < vec_capacity calls.old }
     ensures { calls.new.items ≡ calls.old.items ++ record { call = call; end = end } ∷ [] }
 {
@@ -172,7 +167,7 @@ fn push(calls: &mut Vec<EndedCall>, call: FolderCall, end: End)
 pub(crate) fn apply(
     alloc: Global,
     held: &mut PathBytes,
-    call: &FolderCall,
+    call: &FileCall,
     end: End,
 ) -> Result<(), AllocError>
     ensures ok { OnOk result (files_in held.new.entries ≡ ended (deed_of call.now) end (files_in held.old.entries)) }
@@ -186,21 +181,21 @@ pub(crate) fn apply(
 }
 
 /// Does to the files what the whole of a call does.
-fn apply_whole(alloc: Global, held: &mut PathBytes, call: &FolderCall) -> Result<(), AllocError>
+fn apply_whole(alloc: Global, held: &mut PathBytes, call: &FileCall) -> Result<(), AllocError>
     ensures ok { OnOk result (files_in held.new.entries ≡ whole (deed_of call.now) (files_in held.old.entries)) }
     ensures err { OnErr result (files_in held.new.entries ≡ files_in held.old.entries) }
 {
     match call {
-        FolderCall::Create(path) => put(alloc, held, path.as_str(), Vec::new(alloc)),
-        FolderCall::Write(path, piece) => append(alloc, held, path.as_str(), piece),
-        FolderCall::Rename(from, to) => give_name(alloc, held, from.as_str(), to.as_str()),
-        FolderCall::Remove(path) => {
+        FileCall::Create(path) => put(alloc, held, path.as_str(), Vec::new(alloc)),
+        FileCall::Write(path, piece) => append(alloc, held, path.as_str(), piece),
+        FileCall::Rename(from, to) => give_name(alloc, held, from.as_str(), to.as_str()),
+        FileCall::Remove(path) => {
             take_out(held, path.as_str());
             Ok(())
         }
-        FolderCall::Sync(_) => Ok(()),
-        FolderCall::SyncDir(_) => Ok(()),
-        FolderCall::Look => Ok(()),
+        FileCall::Sync(_) => Ok(()),
+        FileCall::SyncDir(_) => Ok(()),
+        FileCall::Look => Ok(()),
     }
 }
 
@@ -208,19 +203,19 @@ fn apply_whole(alloc: Global, held: &mut PathBytes, call: &FolderCall) -> Result
 fn apply_front(
     alloc: Global,
     held: &mut PathBytes,
-    call: &FolderCall,
+    call: &FileCall,
     part: usize,
 ) -> Result<(), AllocError>
     ensures ok { OnOk result (files_in held.new.entries ≡ begun (deed_of call.now) part (files_in held.old.entries)) }
     ensures err { OnErr result (files_in held.new.entries ≡ files_in held.old.entries) }
 {
     match call {
-        FolderCall::Write(path, piece) => append(alloc, held, path.as_str(), front(piece, part)),
-        FolderCall::Create(_) => Ok(()),
-        FolderCall::Rename(_, _) => Ok(()),
-        FolderCall::Remove(_) => Ok(()),
-        FolderCall::Sync(_) => Ok(()),
-        FolderCall::SyncDir(_) => Ok(()),
-        FolderCall::Look => Ok(()),
+        FileCall::Write(path, piece) => append(alloc, held, path.as_str(), front(piece, part)),
+        FileCall::Create(_) => Ok(()),
+        FileCall::Rename(_, _) => Ok(()),
+        FileCall::Remove(_) => Ok(()),
+        FileCall::Sync(_) => Ok(()),
+        FileCall::SyncDir(_) => Ok(()),
+        FileCall::Look => Ok(()),
     }
 }

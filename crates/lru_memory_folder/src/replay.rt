@@ -8,7 +8,7 @@ ghost use Rattle.lru_memory_folder.specs.Kept.{changes_names, is_synced, IsMarke
 ghost use Rattle.lru_memory_folder.specs.ReplayInside.{Counts, IsReplay, kept_of, loss_in};
 ghost use Rattle.lru_memory_folder.specs.MarksInside.{lost_after, lost_done, lost_failed, marked, put_some};
 
-use crate::calls::{End, EndedCall, FolderCall};
+use crate::calls::{End, EndedCall, FileCall};
 use crate::held::{PathBytes, copy_all, find, give_name, put, take_out};
 use crate::journal::apply;
 use std::alloc::{AllocError, Global};
@@ -61,22 +61,22 @@ fn lose_whole(
     alloc: Global,
     lost: &mut PathBytes,
     held: &PathBytes,
-    call: &FolderCall,
+    call: &FileCall,
     byte: u8,
 ) -> Result<(), AllocError>
     ensures { OnOk result (files_in lost.new.entries ≡ lost_done (deed_of call.now) byte (files_in held.now.entries) (files_in lost.old.entries)) }
 {
     match call {
-        FolderCall::Create(path) => mark(alloc, lost, held, path.as_str(), byte),
-        FolderCall::Write(path, _) => mark(alloc, lost, held, path.as_str(), byte),
-        FolderCall::Rename(from, to) => give_name(alloc, lost, from.as_str(), to.as_str()),
-        FolderCall::Remove(path) => {
+        FileCall::Create(path) => mark(alloc, lost, held, path.as_str(), byte),
+        FileCall::Write(path, _) => mark(alloc, lost, held, path.as_str(), byte),
+        FileCall::Rename(from, to) => give_name(alloc, lost, from.as_str(), to.as_str()),
+        FileCall::Remove(path) => {
             take_out(lost, path.as_str());
             Ok(())
         }
-        FolderCall::Sync(path) => restore(alloc, lost, held, path.as_str()),
-        FolderCall::SyncDir(_) => Ok(()),
-        FolderCall::Look => Ok(()),
+        FileCall::Sync(path) => restore(alloc, lost, held, path.as_str()),
+        FileCall::SyncDir(_) => Ok(()),
+        FileCall::Look => Ok(()),
     }
 }
 
@@ -85,19 +85,19 @@ fn lose_part(
     alloc: Global,
     lost: &mut PathBytes,
     held: &PathBytes,
-    call: &FolderCall,
+    call: &FileCall,
     byte: u8,
 ) -> Result<(), AllocError>
     ensures { OnOk result (files_in lost.new.entries ≡ lost_failed (deed_of call.now) byte (files_in held.now.entries) (files_in lost.old.entries)) }
 {
     match call {
-        FolderCall::Create(path) => mark(alloc, lost, held, path.as_str(), byte),
-        FolderCall::Write(path, _) => mark(alloc, lost, held, path.as_str(), byte),
-        FolderCall::Rename(_, _) => Ok(()),
-        FolderCall::Remove(_) => Ok(()),
-        FolderCall::Sync(_) => Ok(()),
-        FolderCall::SyncDir(_) => Ok(()),
-        FolderCall::Look => Ok(()),
+        FileCall::Create(path) => mark(alloc, lost, held, path.as_str(), byte),
+        FileCall::Write(path, _) => mark(alloc, lost, held, path.as_str(), byte),
+        FileCall::Rename(_, _) => Ok(()),
+        FileCall::Remove(_) => Ok(()),
+        FileCall::Sync(_) => Ok(()),
+        FileCall::SyncDir(_) => Ok(()),
+        FileCall::Look => Ok(()),
     }
 }
 
@@ -124,7 +124,7 @@ fn is_sync(ended: &EndedCall) -> bool
 {
     matches!(
         (&ended.call, ended.end),
-        (FolderCall::Sync(_) | FolderCall::SyncDir(_), End::Done)
+        (FileCall::Sync(_) | FileCall::SyncDir(_), End::Done)
     )
 }
 
@@ -135,7 +135,7 @@ fn changes_names(ended: &EndedCall) -> bool
     matches!(
         (&ended.call, ended.end),
         (
-            FolderCall::Create(_) | FolderCall::Rename(_, _) | FolderCall::Remove(_),
+            FileCall::Create(_) | FileCall::Rename(_, _) | FileCall::Remove(_),
             End::Done
         )
     )

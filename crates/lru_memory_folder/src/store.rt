@@ -14,7 +14,7 @@ ghost use Rattle.lru_memory_folder.specs.OpenInside.{opened_in};
 ghost use Rattle.lru_memory_folder.specs.Kept.{IsMarked};
 ghost use Rattle.lru_memory_folder.specs.ReplayInside.{kept_of, loss_in};
 
-use crate::calls::FolderCall;
+use crate::calls::FileCall;
 use crate::held::{PathBytes, bytes_of, holds, names_of, paths_of, piece_at};
 use crate::journal::CallJournal;
 use crate::open::{Open, set, shut};
@@ -113,7 +113,7 @@ impl Store {
             make_all(self.alloc, &mut self.made, dir.as_bytes())?;
         }
         self.journal
-            .conclude(self.alloc, FolderCall::Look, fate, true)
+            .conclude(self.alloc, FileCall::Look, fate, true)
     }
 
     pub(crate) fn create(&mut self, path: &str, fate: Option<usize>) -> Result<(), FolderFault>
@@ -123,7 +123,7 @@ impl Store {
     {
         shut(&mut self.file);
         let name = String::from_str(self.alloc, path)?;
-        let call = FolderCall::Create(String::from_str(self.alloc, path)?);
+        let call = FileCall::Create(String::from_str(self.alloc, path)?);
         let found = is_there(&self.made, folder_of(path));
         self.journal.conclude(self.alloc, call, fate, found)?;
         set(&mut self.file, Open::Writing(name));
@@ -140,7 +140,7 @@ impl Store {
             unreachable!()
         };
         let path = String::from_str(self.alloc, path.as_str())?;
-        let call = FolderCall::Write(path, piece.to_vec(self.alloc)?);
+        let call = FileCall::Write(path, piece.to_vec(self.alloc)?);
         self.journal.conclude(self.alloc, call, fate, true)
     }
 
@@ -150,7 +150,7 @@ impl Store {
         ensures made { self.new.made ≡ self.old.made }
     {
         self.journal
-            .conclude(self.alloc, FolderCall::Look, fate, true)
+            .conclude(self.alloc, FileCall::Look, fate, true)
     }
 
     pub(crate) fn sync(&mut self, fate: Option<usize>) -> Result<(), FolderFault>
@@ -162,7 +162,7 @@ impl Store {
         let Open::Writing(path) = &self.file else {
             unreachable!()
         };
-        let call = FolderCall::Sync(String::from_str(self.alloc, path.as_str())?);
+        let call = FileCall::Sync(String::from_str(self.alloc, path.as_str())?);
         self.journal.conclude(self.alloc, call, fate, true)
     }
 
@@ -171,7 +171,7 @@ impl Store {
         ensures goes { Goes (SyncsNames dir.now) (end_of fate (is_there (folders_in self.old.made.items) dir.now)) self.old.journal self.new.journal result }
         ensures made { self.new.made ≡ self.old.made }
     {
-        let call = FolderCall::SyncDir(String::from_str(self.alloc, dir)?);
+        let call = FileCall::SyncDir(String::from_str(self.alloc, dir)?);
         let found = is_there(&self.made, dir.as_bytes());
         self.journal.conclude(self.alloc, call, fate, found)
     }
@@ -189,7 +189,7 @@ impl Store {
     {
         let found = is_there(&self.made, dir.as_bytes());
         self.journal
-            .conclude(self.alloc, FolderCall::Look, fate, found)?;
+            .conclude(self.alloc, FileCall::Look, fate, found)?;
         Ok(alone)
     }
 
@@ -205,7 +205,7 @@ impl Store {
     {
         shut(&mut self.file);
         let noted = String::from_str(self.alloc, from)?;
-        let call = FolderCall::Rename(noted, String::from_str(self.alloc, to)?);
+        let call = FileCall::Rename(noted, String::from_str(self.alloc, to)?);
         let found = holds(self.journal.held(), from);
         self.journal.conclude(self.alloc, call, fate, found)
     }
@@ -221,7 +221,7 @@ impl Store {
         let found = holds(self.journal.held(), path);
         let len = bytes_of(self.journal.held(), path).len() as u64;
         self.journal
-            .conclude(self.alloc, FolderCall::Look, fate, found)?;
+            .conclude(self.alloc, FileCall::Look, fate, found)?;
         set(&mut self.file, Open::Reading(name, 0));
         Ok(len)
     }
@@ -240,7 +240,7 @@ impl Store {
         };
         let piece = piece_at(self.alloc, self.journal.held(), path.as_str(), *at, max)?;
         self.journal
-            .conclude(self.alloc, FolderCall::Look, fate, true)?;
+            .conclude(self.alloc, FileCall::Look, fate, true)?;
         *at += piece.len();
         Ok(piece)
     }
@@ -259,7 +259,7 @@ impl Store {
         let found = !dir.is_empty() && is_there(&self.made, dir.as_bytes());
         let listed = names_of(self.alloc, self.journal.held(), dir)?;
         self.journal
-            .conclude(self.alloc, FolderCall::Look, fate, found)?;
+            .conclude(self.alloc, FileCall::Look, fate, found)?;
         Ok(listed)
     }
 
@@ -269,7 +269,7 @@ impl Store {
         ensures made { self.new.made ≡ self.old.made }
     {
         shut(&mut self.file);
-        let call = FolderCall::Remove(String::from_str(self.alloc, path)?);
+        let call = FileCall::Remove(String::from_str(self.alloc, path)?);
         let found = holds(self.journal.held(), path);
         self.journal.conclude(self.alloc, call, fate, found)
     }
