@@ -49,13 +49,13 @@ pub mod shared {
     };
 }
 
-/// A cache that threads share, whose entries end, saved by one call and loaded step by step.
+/// A cache that threads share, whose entries end, the same.
 pub mod shared_deadlines {
     pub use lru_cache_checkpoints::shared_deadline_captures::{
         SharedDeadlineSource, capture_ages, capture_shard, restore_shard, restore_shards,
     };
     pub use lru_cache_checkpoints::shared_deadlines::{
-        save_shared_deadlines, save_shared_deadlines_after,
+        load_shared_deadlines, save_shared_deadlines, save_shared_deadlines_after,
     };
 }
 
