@@ -9,6 +9,7 @@ mod short_mutex;
 
 pub use short_lock::ShortLock;
 pub use short_mutex::ShortMutex;
+
 use std::hint;
 
 // How often a lock is tried before the thread waits for it: for about as long as it takes to put a thread to sleep and to wake it.
