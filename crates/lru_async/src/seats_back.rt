@@ -1,7 +1,7 @@
 //! Seats that ended threads gave back, and what nobody else holds any more.
 ghost use Rattle.std.specs.Prelude.{◌≡◌, map};
 ghost use Rattle.std.specs.Arc.{arc_value};
-ghost use Rattle.lru_short_locks.specs.Hands.{up};
+ghost use Rattle.lru_sharing.specs.Hands.{up};
 
 use lru_desks::{BoxRegistry, PutSeat, TakeSeat};
 use std::alloc::Global;

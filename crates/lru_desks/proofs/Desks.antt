@@ -8,10 +8,10 @@ use Rattle.lru_mailbox.specs.Ledger.{Book, Stock, book_of, seats_of, slip_put, p
 use Rattle.lru_mailbox.proofs.TieLaws.{put_tied, take_tied, shut_tied, left_tied, fresh_tied}
 use Rattle.lru_desks.specs.declared.hand.SeatSlips.{SeatSlips}
 use Rattle.lru_desks.specs.declared.hand.DeskHand.{DeskHand}
-use Rattle.lru_short_locks.specs.Hands.{up, Among}
+use Rattle.lru_sharing.specs.Hands.{up, Among}
 use Rattle.lru_desks.specs.Ties.{kept, hand, of_desk, of_seat, known, blank_lists, joined, Agrees, Shows}
 use Rattle.lru_desks.specs.Desks.{IsDesk}
-use Rattle.lru_short_locks.proofs.Hands.{some_same, none_some, as_many}
+use Rattle.lru_sharing.proofs.Hands.{some_same, none_some, as_many}
 
 set_length : {A : Type 0} (xs : List A) (k : ℕ) (y : A) → length (slice_set xs k y) ≡ length xs
 set_length [] k y = refl

@@ -11,8 +11,8 @@ use Rattle.atomic_table.proofs.Lists.{at_set, at_snoc, set_else, set_again}
 use Rattle.lru_mailbox.specs.declared.slip.Slip.{Slip}
 use Rattle.lru_desks.specs.declared.hand.SeatSlips.{SeatSlips}
 use Rattle.lru_desks.specs.declared.hand.DeskHand.{DeskHand}
-use Rattle.lru_short_locks.specs.Hands.{total, Among, Held}
-use Rattle.lru_short_locks.proofs.Hands.{none_some, among_either, among_length, at_most, two_within, total_append, counts_one, counts_none, held_at, held_find, split_from, join_from, total_split, total_join, total_same, take_drop, dropped, taken, one_of}
+use Rattle.lru_sharing.specs.Hands.{total, Among, Held}
+use Rattle.lru_sharing.proofs.Hands.{none_some, among_either, among_length, at_most, two_within, total_append, counts_one, counts_none, held_at, held_find, split_from, join_from, total_split, total_join, total_same, take_drop, dropped, taken, one_of}
 use Rattle.lru_desks.specs.Ties.{kept, hand, of_desk, of_seat, known, own, blank_lists, blank_seats, named, Agrees, Ties, noted, Shows, Notes, Looks, joined}
 
 -- a seat among these has its number among them

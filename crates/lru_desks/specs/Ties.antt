@@ -1,7 +1,7 @@
 -- The slips that seats keep, and that a desk knows them to keep.
 use Rattle.std.specs.Prelude.{◌≡◌, ℕ, zero, suc, ◌+◌, ◌≤◌, ◌==◌, if◌then◌else◌, List, [], ◌∷◌, ◌++◌, length, map, slice_get, slice_set, Some, ◌⊎◌}
 use Rattle.atomic_table.specs.Table.{Me, Step}
-use Rattle.lru_short_locks.specs.Hands.{total, up, Among, Held}
+use Rattle.lru_sharing.specs.Hands.{total, up, Among, Held}
 use Rattle.lru_mailbox.specs.declared.slip.Slip.{Slip}
 use Rattle.lru_desks.specs.declared.hand.SeatSlips.{SeatSlips}
 use Rattle.lru_desks.specs.declared.hand.DeskHand.{DeskHand}

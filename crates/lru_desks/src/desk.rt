@@ -2,7 +2,7 @@
 ghost use Rattle.std.specs.Prelude.{◌≡◌, ℕ, ◌<◌, ◌≤◌, ◌++◌, ◌∷◌, [], IsOk, IsErr, IfOk, OnOk, All, map, length, min, vec_len, vec_capacity};
 ghost use Rattle.lru_mailbox.specs.Ledger.{slips_of};
 ghost use Rattle.lru_mailbox.specs.Slips.{lists_of, IsSettled};
-ghost use Rattle.lru_short_locks.specs.Hands.{up};
+ghost use Rattle.lru_sharing.specs.Hands.{up};
 ghost use Rattle.lru_desks.specs.Ties.{hand, of_desk, known};
 
 use crate::seats::{PutSeat, TakeSeat, put_seats, take_seats};

@@ -2,7 +2,7 @@
 ghost use Rattle.std.specs.Prelude.{◌≡◌, [], map, All, IfOk};
 ghost use Rattle.lru_mailbox.specs.Ledger.{slips_of};
 ghost use Rattle.lru_mailbox.specs.Slips.{lists_of, IsSettled};
-ghost use Rattle.lru_short_locks.specs.Hands.{up};
+ghost use Rattle.lru_sharing.specs.Hands.{up};
 ghost use Rattle.lru_desks.specs.Putting.{PutsSlip, TakesSlip};
 
 use crate::desk::Desk;

@@ -2,7 +2,7 @@
 //! desk, which holds what waits and what is lost, knows them all, since both hold tokens of one table.
 //!
 //! What a desk and its seats hold is exact; at the end each slip was taken, is lost, or is left. It stands on the table of
-//! `atomic_table` by the words of `lru_short_locks`, and on the box as a value (`lru_mailbox`).
+//! `atomic_table` by the words of `lru_sharing`, and on the box as a value (`lru_mailbox`).
 #![tactic(auto)]
 
 pub mod desk;

@@ -1,7 +1,7 @@
 //! Seats at a box.
 ghost use Rattle.std.specs.Prelude.{◌≡◌, ◌↔◌, IsTrue, [], ◌∷◌, map, All, IfOk, OnOk};
 ghost use Rattle.lru_mailbox.specs.declared.slip.Slip.{Slip};
-ghost use Rattle.lru_short_locks.specs.Hands.{up};
+ghost use Rattle.lru_sharing.specs.Hands.{up};
 ghost use Rattle.lru_desks.specs.Ties.{hand, of_seat, of_desk, blank_lists, blank_seats};
 
 use crate::tie::{BoxRegistry, DeskTie, DeskToken};

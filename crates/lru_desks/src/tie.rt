@@ -1,7 +1,7 @@
 //! The table that ties a desk to its seats. It has one word, which says nothing; what is known lies in its tokens, which take
 //! no bytes.
 ghost use Rattle.std.specs.Prelude.{◌≡◌, [], ◌∷◌, ◌++◌, take, drop, slice_get, slice_set, Some, IfOk};
-ghost use Rattle.lru_short_locks.specs.Hands.{no_table};
+ghost use Rattle.lru_sharing.specs.Hands.{no_table};
 ghost use Rattle.lru_desks.specs.Ties.{hand, of_desk, of_seat, known, own, blank_lists, blank_seats, Ties, Notes, Looks, Shows, joined};
 
 use crate::hand::DeskHand;

@@ -14,7 +14,7 @@ use lru_shard::counters::{growth, shift};
 use lru_shard::eviction::{EvictError, Readings, drawn_shards, longer_of, shard_after};
 use lru_shard::totals::{Totals, Units};
 use lru_shard::unit::{Cause, LruUnit, Refused};
-use lru_short_locks::ShortMutex;
+use lru_sharing::ShortMutex;
 use rand_core::Rng;
 use std::alloc::{AllocError, Global};
 use std::sync::atomic::{AtomicUsize, Ordering};

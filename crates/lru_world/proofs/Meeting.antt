@@ -1,8 +1,8 @@
 -- What two tokens show together.
 use Rattle.std.proofs.Common.{◌≡◌, ℕ, List, [], ◌∷◌, ◌++◌, length, sym, refl, ap, ◌∙◌, subst, inl, ⊎_elim, arith, append-nil, append_assoc}
 use Rattle.std.proofs.lemmas.List.{length-append}
-use Rattle.lru_short_locks.specs.Hands.{Among}
-use Rattle.lru_short_locks.proofs.Hands.{among_left, among_right}
+use Rattle.lru_sharing.specs.Hands.{Among}
+use Rattle.lru_sharing.proofs.Hands.{among_left, among_right}
 use Rattle.lru_inbox.specs.declared.hand.Front.{Front}
 use Rattle.lru_inbox.specs.declared.hand.Log.{Log}
 use Rattle.lru_inbox.specs.Logs.{Begins, accepted, front, front_of, hand, of_fronts, seen_of, Shows}

@@ -5,7 +5,7 @@ use Rattle.std.specs.Option.{ForSome}
 use Rattle.std.proofs.Math.Logic.{∥∥₁_map}
 use Rattle.std.proofs.Math.Nat.{mod-eq_of_lt, add-mod_right}
 use Rattle.std.proofs.lemmas.List.{map-append, length-append, length-map}
-use Rattle.lru_short_locks.proofs.Hands.{some_same, none_some}
+use Rattle.lru_sharing.proofs.Hands.{some_same, none_some}
 use Rattle.lru_shard.specs.Row.{Row}
 use Rattle.lru_actors.specs.declared.message.LruMsg.{LruMsg}
 use Rattle.lru_actors.specs.declared.effect.Effect.{Effect}

@@ -19,7 +19,7 @@ use lru_actors::{Letter, ReplyCell};
 use lru_desks::{BoxRegistry, PutSeat};
 use lru_inbox::tie::Archive;
 use lru_inbox::{Taker, Told};
-use lru_short_locks::ShortMutex;
+use lru_sharing::ShortMutex;
 use std::alloc::{AllocError, Global};
 use std::marker::Brand;
 use std::sync::{Arc, MutexGuard, Wait};

@@ -23,7 +23,7 @@ use lru_desks::{BoxRegistry, DeskPutter, PutSeat};
 use lru_inbox::Taker;
 use lru_inbox::tie::Archive;
 use lru_mailbox::{Dispatch, MailState};
-use lru_short_locks::ShortLock;
+use lru_sharing::ShortLock;
 use std::alloc::{AllocError, Global};
 use std::collections::HashMap;
 use std::sync::{Arc, Wait};

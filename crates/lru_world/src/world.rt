@@ -23,7 +23,7 @@ use lru_inbox::voice::Voice;
 use lru_inbox::{Caller, Inbox, SharedInbox, Taker};
 use lru_shard::counters::shift;
 use lru_shard::eviction::is_past;
-use lru_short_locks::{ShortLock, ShortMutex};
+use lru_sharing::{ShortLock, ShortMutex};
 use std::alloc::{AllocError, Global};
 use std::collections::HashMap;
 use std::marker::Brand;

@@ -1,6 +1,6 @@
 use Rattle.std.proofs.Common.{◌≡◌, ◌+◌, ◌-◌, [], ◌∷◌, map}
 use Rattle.std.specs.Prelude.{All}
-use Rattle.lru_short_locks.specs.Hands.{up}
+use Rattle.lru_sharing.specs.Hands.{up}
 use Rattle.lru_desks.specs.Ties.{hand, blank_lists, blank_seats}
 use Rattle.lru_desks.proofs.seats.put_seats.Given as goal
 

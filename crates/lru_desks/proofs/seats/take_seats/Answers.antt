@@ -4,9 +4,9 @@ use Rattle.std.proofs.lemmas.List.Elements.{All-push}
 use Rattle.atomic_table.specs.Table.{Me}
 use Rattle.lru_desks.specs.declared.hand.SeatSlips.{SeatSlips}
 use Rattle.lru_desks.specs.declared.hand.DeskHand.{DeskHand}
-use Rattle.lru_short_locks.specs.Hands.{up}
+use Rattle.lru_sharing.specs.Hands.{up}
 use Rattle.lru_desks.specs.Ties.{hand, kept, blank_seats}
-use Rattle.lru_short_locks.proofs.Hands.{up_snoc, map_snoc}
+use Rattle.lru_sharing.proofs.Hands.{up_snoc, map_snoc}
 use Rattle.lru_desks.proofs.Dealing.{seats_rest}
 use Rattle.lru_desks.proofs.seats.take_seats.Goals as goal
 
