@@ -1,4 +1,5 @@
 //! A cache whose entries have deadlines.
+
 use lru_cache::deadlines::DeadlineCache;
 
 pub fn session_of(sessions: &mut DeadlineCache<u64, u64>, id: u64, time: u64) -> Option<u64> {
@@ -10,8 +11,4 @@ pub fn session_of(sessions: &mut DeadlineCache<u64, u64>, id: u64, time: u64) ->
         Ok(user) => user,
         Err(_past) => None, // the entry, which is out of the cache now
     }
-}
-
-pub fn tick(sessions: &mut DeadlineCache<u64, u64>, time: u64) {
-    sessions.sweep(time, 8, |_past| {});
 }
