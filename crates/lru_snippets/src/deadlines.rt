@@ -11,7 +11,3 @@ pub fn session_of(sessions: &mut DeadlineCache<u64, u64>, id: u64, time: u64) ->
         Err(_past) => None, // the entry, which is out of the cache now
     }
 }
-
-pub fn tick(sessions: &mut DeadlineCache<u64, u64>, time: u64) {
-    sessions.sweep(time, 8, |_past| {});
-}

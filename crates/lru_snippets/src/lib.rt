@@ -7,7 +7,3 @@
 pub mod caches;
 pub mod cores;
 pub mod deadlines;
-pub mod files;
-pub mod keys;
-pub mod shards;
-pub mod threads;
