@@ -6,7 +6,7 @@
 //! It shows `SharedDeadlineCache`: `get_or_put_with`, `sweep`, what goes and why, and `stats`.
 #![tactic(auto)]
 
-use lru_shared_deadlines::shared::{Ages, Gone, Limits, SharedDeadlineCache};
+use lru_cache::shared_deadlines::{Ages, Gone, Limits, SharedDeadlineCache};
 use std::alloc::{AllocError, Global};
 use std::sync::Wait;
 use std::{io, thread};

@@ -10,7 +10,7 @@ use lru_mailbox::Mailbox;
 use lru_world::actor::Actor;
 use lru_world::callback::{Gate, NoGate};
 use lru_world::outlet::Outlet;
-use lru_world::world::{Limits, World};
+use lru_world::world::{OrderLimits, World};
 use std::alloc::{AllocError, Global};
 use std::marker::Brand;
 use std::sync::atomic::{AtomicUsize, Ordering};
@@ -24,7 +24,7 @@ type Cell = Arc<ReplyCell<Told<u64, Brand>>, Global>;
 fn one_shard(alloc: Global) -> Result<World<u64>, AllocError>
     ensures { IfOk result (λ world. vec_len world.shards ≡ 1) }
 {
-    let limits = Limits {
+    let limits = OrderLimits {
         weight_limit: 1000,
         len_watermark: None,
     };

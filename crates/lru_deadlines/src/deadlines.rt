@@ -3,14 +3,14 @@ ghost use Rattle.std.specs.Prelude.{◌≡◌, ◌+◌, ◌≤◌, length, map, 
 ghost use Rattle.std.specs.Option.{option_map, option_copied};
 ghost use Rattle.lru_index.specs.Hashing.{key_hash, seeded, unseeded};
 ghost use Rattle.lru_rows.specs.Rows.{most_rows};
-ghost use Rattle.lru_cache.specs.Cache.{empty, hashes_from, entry_of, without, demoted, with_entries, parts_of, IsCache, Puts, PopsLast, PopsFirst, Limits, Clears, Drains, Retains};
-ghost use Rattle.lru_entries.specs.Entries.{weight_of};
+ghost use Rattle.lru_owned_cache.specs.Cache.{empty, hashes_from, entry_of, without, demoted, with_entries, parts_of, IsCache, Puts, PopsLast, PopsFirst, Limits, Clears, Drains, Retains};
+ghost use Rattle.lru_owned_cache.specs.Entries.{weight_of};
 ghost use Rattle.lru_deadlines.specs.Deadlines.{until, living, has_room, PromotesLiving, UpdatesLiving, UpdatesIfLiving, ReweighsLiving, UsesOrPutsLiving, TakesPast, Sweeps, MakesRoom, PutsAt};
 
-use lru_cache::cache::{Cache, Entry, NotPut, Refused};
 use lru_index::alike::SameHashes;
 use lru_index::hashing::SeededHashes;
 use lru_index::keys::Query;
+use lru_owned_cache::cache::{Cache, Entry, NotPut, Refused};
 use lru_pairs::iter::{PairsEntries, PairsKeys};
 use std::alloc::{AllocError, Global};
 use std::hash::{BuildHasher, Hash};
@@ -51,7 +51,7 @@ pub struct DeadlineCache<K: Hash, V, S: BuildHasher = SeededHashes> {
 }
 
 impl<K: Hash, V, S: BuildHasher> Model for DeadlineCache<K, V, S> {
-    ghost use Rattle.lru_cache.specs.Cache.{Cached, cached_code};
+    ghost use Rattle.lru_owned_cache.specs.Cache.{Cached, cached_code};
     ghost use Rattle.lru_deadlines.specs.Codes.{until_code};
     ghost use Rattle.lru_deadlines.specs.declared.deadlines.Until.{Until};
 

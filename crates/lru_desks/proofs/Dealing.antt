@@ -1,7 +1,7 @@
 -- Seats dealt one by one.
 use Rattle.std.proofs.Common.{◌≡◌, ℕ, zero, suc, ◌+◌, ◌-◌, ◌<◌, List, [], ◌∷◌, map, refl, sym, ap, ◌∙◌, arith}
-use Rattle.lru_desks.specs.declared.hand.Kept.{Kept}
-use Rattle.lru_hands.specs.Hands.{up}
+use Rattle.lru_desks.specs.declared.hand.SeatSlips.{SeatSlips}
+use Rattle.lru_sharing.specs.Hands.{up}
 use Rattle.lru_desks.specs.Ties.{kept, blank_seats}
 
 pub seats_rest : (i n : ℕ) → i < n → blank_seats i (n - i) ≡ kept i [] ∷ blank_seats (i + 1) (n - (i + 1))

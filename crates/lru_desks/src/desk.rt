@@ -2,11 +2,11 @@
 ghost use Rattle.std.specs.Prelude.{◌≡◌, ℕ, ◌<◌, ◌≤◌, ◌++◌, ◌∷◌, [], IsOk, IsErr, IfOk, OnOk, All, map, length, min, vec_len, vec_capacity};
 ghost use Rattle.lru_mailbox.specs.Ledger.{slips_of};
 ghost use Rattle.lru_mailbox.specs.Slips.{lists_of, IsSettled};
-ghost use Rattle.lru_hands.specs.Hands.{up};
+ghost use Rattle.lru_sharing.specs.Hands.{up};
 ghost use Rattle.lru_desks.specs.Ties.{hand, of_desk, known};
 
 use crate::seats::{PutSeat, TakeSeat, put_seats, take_seats};
-use crate::tie::{Blank, Blanks, Registry, Tie, Token};
+use crate::tie::{BlankSeats, Blanks, BoxRegistry, DeskTie, DeskToken};
 use lru_mailbox::{LedgerState, MailError, Settled, Slip};
 use std::alloc::{AllocError, Global};
 use std::marker::{Model, PhantomData};
@@ -15,16 +15,16 @@ use std::marker::{Model, PhantomData};
 /// lost. The slips of what was put and taken stand with the seats; the desk's tokens know them, so that it and its seats
 /// always agree.
 #[derive(Drop)]
-pub struct Desk<K: Drop, B: Registry> {
+pub struct Desk<K: Drop, B: BoxRegistry> {
     state: LedgerState<K>,
-    puts: Tie,
-    putting: Token,
-    takes: Tie,
-    taking: Token,
+    puts: DeskTie,
+    putting: DeskToken,
+    takes: DeskTie,
+    taking: DeskToken,
     brand: PhantomData<B>,
 }
 
-impl<K: Drop, B: Registry> Model for Desk<K, B> {
+impl<K: Drop, B: BoxRegistry> Model for Desk<K, B> {
     ghost use Rattle.std.specs.Prelude.{◌≡◌};
     ghost use Rattle.lru_mailbox.specs.Ledger.{Stock};
     ghost use Rattle.lru_desks.specs.Desks.{IsDesk};
@@ -36,7 +36,7 @@ impl<K: Drop, B: Registry> Model for Desk<K, B> {
     ghost invariant = { λ s. ((s.puts.table.shared.table_id ≡ B.puts) × (s.putting.table_id ≡ B.puts)) × (((s.takes.table.shared.table_id ≡ B.takes) × (s.taking.table_id ≡ B.takes)) × IsDesk B.putters B.takers s.state s.putting.me s.taking.me) };
 }
 
-impl<K: Drop, B: Registry> Desk<K, B> {
+impl<K: Drop, B: BoxRegistry> Desk<K, B> {
     ghost use Rattle.lru_mailbox.specs.Ledger.{slip_put, put, shut, left, empty, Puts, Takes};
 
     /// An open desk where nothing waits, and its seats, which are numbered in order.
@@ -58,11 +58,11 @@ impl<K: Drop, B: Registry> Desk<K, B> {
             puts,
             takes,
         } = blanks;
-        let Blank {
+        let BlankSeats {
             tie: puts,
             token: putting,
         } = puts;
-        let Blank {
+        let BlankSeats {
             tie: takes,
             token: taking,
         } = takes;
@@ -201,9 +201,9 @@ impl<K: Drop, B: Registry> Desk<K, B> {
 }
 
 // Takes seats apart: each one's slips go into a list of its own, and its token to the desk's, which knew all of these lists.
-fn gather_puts<B: Registry>(
-    tie: &Tie,
-    desk: &mut Token,
+fn gather_puts<B: BoxRegistry>(
+    tie: &DeskTie,
+    desk: &mut DeskToken,
     seats: Vec<PutSeat<B>>,
     lists: &mut Vec<Vec<Slip>>,
 )
@@ -224,9 +224,9 @@ fn gather_puts<B: Registry>(
 }
 
 // The same of seats of those who take.
-fn gather_takes<B: Registry>(
-    tie: &Tie,
-    desk: &mut Token,
+fn gather_takes<B: BoxRegistry>(
+    tie: &DeskTie,
+    desk: &mut DeskToken,
     seats: Vec<TakeSeat<B>>,
     lists: &mut Vec<Vec<Slip>>,
 )

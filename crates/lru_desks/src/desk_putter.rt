@@ -1,20 +1,20 @@
 //! A desk with one of its seats.
 use crate::desk::Desk;
 use crate::seats::PutSeat;
-use crate::tie::Registry;
+use crate::tie::BoxRegistry;
 use lru_mailbox::Dispatch;
 use std::alloc::AllocError;
 
 /// A desk that is lent, and the seat of one who puts. What the seat is afterwards is known, since it is no reference.
 #[derive(Drop)]
-pub struct DeskPutter<'a, K: Drop, B: Registry> {
+pub struct DeskPutter<'a, K: Drop, B: BoxRegistry> {
     /// The desk.
     pub desk: &'a mut Desk<K, B>,
     /// The seat that gets the slips of what is put.
     pub seat: PutSeat<B>,
 }
 
-impl<'a, K: Drop, B: Registry> Dispatch<K> for DeskPutter<'a, K, B> {
+impl<'a, K: Drop, B: BoxRegistry> Dispatch<K> for DeskPutter<'a, K, B> {
     ghost use Rattle.std.specs.Prelude.{◌≡◌, ◌<◌, min};
     ghost use Rattle.lru_mailbox.specs.Dispatching.{queue_of_book, IsPut};
 

@@ -2,12 +2,12 @@
 ghost use Rattle.std.specs.Prelude.{◌≡◌, [], map, All, IfOk};
 ghost use Rattle.lru_mailbox.specs.Ledger.{slips_of};
 ghost use Rattle.lru_mailbox.specs.Slips.{lists_of, IsSettled};
-ghost use Rattle.lru_hands.specs.Hands.{up};
+ghost use Rattle.lru_sharing.specs.Hands.{up};
 ghost use Rattle.lru_desks.specs.Putting.{PutsSlip, TakesSlip};
 
 use crate::desk::Desk;
 use crate::seats::{PutSeat, TakeSeat};
-use crate::tie::{Blanks, Registry};
+use crate::tie::{Blanks, BoxRegistry};
 use lru_mailbox::{MailError, Settled, Slip};
 use std::alloc::{AllocError, Global};
 use std::sync::{Condvar, Mutex, MutexGuard, Wait};
@@ -18,12 +18,12 @@ use std::sync::{Condvar, Mutex, MutexGuard, Wait};
 /// Who puts has a put seat, who takes a take seat, which keeps its own slips. The seats are those that `new` gave with the
 /// box: by their type, of which `B` is a part, they fit no other one.
 #[derive(Drop)]
-pub struct LedgerBox<K: Drop, B: Registry> {
+pub struct LedgerBox<K: Drop, B: BoxRegistry> {
     desk: Mutex<Desk<K, B>>,
     changed: Condvar,
 }
 
-impl<K: Drop, B: Registry> LedgerBox<K, B> {
+impl<K: Drop, B: BoxRegistry> LedgerBox<K, B> {
     /// An open box where nothing waits, and its seats, which are numbered in order and have no slips.
     pub fn new(
         alloc: Global,
@@ -125,6 +125,6 @@ impl<K: Drop, B: Registry> LedgerBox<K, B> {
 }
 
 // Whether there is nothing to take, and something may come.
-fn is_idle<K: Drop, B: Registry>(desk: &Desk<K, B>) -> bool {
+fn is_idle<K: Drop, B: BoxRegistry>(desk: &Desk<K, B>) -> bool {
     desk.len() == 0 && !desk.is_closed()
 }

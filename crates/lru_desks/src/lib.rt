@@ -2,7 +2,7 @@
 //! desk, which holds what waits and what is lost, knows them all, since both hold tokens of one table.
 //!
 //! What a desk and its seats hold is exact; at the end each slip was taken, is lost, or is left. It stands on the table of
-//! `atomic_table` by the words of `lru_hands`, and on the box as a value (`lru_mailbox`).
+//! `atomic_table` by the words of `lru_sharing`, and on the box as a value (`lru_mailbox`).
 #![tactic(auto)]
 
 pub mod desk;
@@ -15,4 +15,4 @@ pub mod tie;
 pub use desk_putter::DeskPutter;
 pub use ledger_box::LedgerBox;
 pub use seats::{PutSeat, TakeSeat};
-pub use tie::{Blanks, Registry};
+pub use tie::{Blanks, BoxRegistry};

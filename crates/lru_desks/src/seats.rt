@@ -1,31 +1,31 @@
 //! Seats at a box.
 ghost use Rattle.std.specs.Prelude.{◌≡◌, ◌↔◌, IsTrue, [], ◌∷◌, map, All, IfOk, OnOk};
 ghost use Rattle.lru_mailbox.specs.declared.slip.Slip.{Slip};
-ghost use Rattle.lru_hands.specs.Hands.{up};
+ghost use Rattle.lru_sharing.specs.Hands.{up};
 ghost use Rattle.lru_desks.specs.Ties.{hand, of_seat, of_desk, blank_lists, blank_seats};
 
-use crate::tie::{Registry, Tie, Token};
+use crate::tie::{BoxRegistry, DeskTie, DeskToken};
 use lru_mailbox::{PutShare, Slip, TakeShare};
 use std::alloc::{AllocError, Global};
 use std::marker::PhantomData;
 
 /// The seat of one who puts pairs into a box. It is made with the box, and cannot be copied.
 #[derive(Drop)]
-pub struct PutSeat<B: Registry> {
+pub struct PutSeat<B: BoxRegistry> {
     /// The number of the seat, among those who put.
     pub number: usize,
     /// The slips of what was put with the seat, in order.
     pub share: PutShare,
     /// Speaks for the seat.
-    pub token: Token,
+    pub token: DeskToken,
     brand: PhantomData<B>,
     pub ghost here: { token.table_id ≡ B.puts },
     pub ghost told: { token.me ≡ (of_seat number share.slips, []) },
 }
 
-impl<B: Registry> PutSeat<B> {
+impl<B: BoxRegistry> PutSeat<B> {
     /// A seat without slips.
-    pub fn new(alloc: Global, number: usize, token: Token) -> Self
+    pub fn new(alloc: Global, number: usize, token: DeskToken) -> Self
         requires { (token.table_id ≡ B.puts) × (token.me ≡ (of_seat number [], [])) }
         ensures number { result.number ≡ number }
         ensures slips { result.share.slips ≡ [] }
@@ -63,21 +63,21 @@ impl<B: Registry> PutSeat<B> {
 
 /// The seat of one who takes pairs out of a box. It is made with the box, and cannot be copied.
 #[derive(Drop)]
-pub struct TakeSeat<B: Registry> {
+pub struct TakeSeat<B: BoxRegistry> {
     /// The number of the seat, among those who take.
     pub number: usize,
     /// The slips of what was taken with the seat, in order.
     pub share: TakeShare,
     /// Speaks for the seat.
-    pub token: Token,
+    pub token: DeskToken,
     brand: PhantomData<B>,
     pub ghost here: { token.table_id ≡ B.takes },
     pub ghost told: { token.me ≡ (of_seat number share.slips, []) },
 }
 
-impl<B: Registry> TakeSeat<B> {
+impl<B: BoxRegistry> TakeSeat<B> {
     /// A seat without slips.
-    pub fn new(alloc: Global, number: usize, token: Token) -> Self
+    pub fn new(alloc: Global, number: usize, token: DeskToken) -> Self
         requires { (token.table_id ≡ B.takes) × (token.me ≡ (of_seat number [], [])) }
         ensures number { result.number ≡ number }
         ensures slips { result.share.slips ≡ [] }
@@ -114,10 +114,10 @@ impl<B: Registry> TakeSeat<B> {
 }
 
 // The seats of so many who put, in order. The token that spoke for them and the desk then speaks for the desk alone.
-pub(crate) fn put_seats<B: Registry>(
+pub(crate) fn put_seats<B: BoxRegistry>(
     alloc: Global,
-    tie: &Tie,
-    rest: &mut Token,
+    tie: &DeskTie,
+    rest: &mut DeskToken,
     count: usize,
 ) -> Result<Vec<PutSeat<B>>, AllocError>
     requires tie { tie.now.table.shared.table_id ≡ B.puts }
@@ -135,10 +135,10 @@ pub(crate) fn put_seats<B: Registry>(
 }
 
 // The seats of so many who take, in the same way.
-pub(crate) fn take_seats<B: Registry>(
+pub(crate) fn take_seats<B: BoxRegistry>(
     alloc: Global,
-    tie: &Tie,
-    rest: &mut Token,
+    tie: &DeskTie,
+    rest: &mut DeskToken,
     count: usize,
 ) -> Result<Vec<TakeSeat<B>>, AllocError>
     requires tie { tie.now.table.shared.table_id ≡ B.takes }

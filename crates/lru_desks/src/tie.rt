@@ -1,17 +1,17 @@
 //! The table that ties a desk to its seats. It has one word, which says nothing; what is known lies in its tokens, which take
 //! no bytes.
 ghost use Rattle.std.specs.Prelude.{◌≡◌, [], ◌∷◌, ◌++◌, take, drop, slice_get, slice_set, Some, IfOk};
-ghost use Rattle.lru_hands.specs.Hands.{no_table};
+ghost use Rattle.lru_sharing.specs.Hands.{no_table};
 ghost use Rattle.lru_desks.specs.Ties.{hand, of_desk, of_seat, known, own, blank_lists, blank_seats, Ties, Notes, Looks, Shows, joined};
 
-use crate::hand::Hand;
+use crate::hand::DeskHand;
 use atomic_table::{Join, Play, Seat, Split, Table, TableRule};
 use lru_mailbox::Slip;
 use std::alloc::{AllocError, Global};
 use std::marker::{Brand, PhantomData};
 
 /// Names the two tables of one box, that of those who put and that of those who take, and how many of each there are.
-pub trait Registry {
+pub trait BoxRegistry {
     ghost use Rattle.std.specs.Prelude.{ℕ};
     ghost use Rattle.atomic_table.specs.Seated.{TableId};
 
@@ -24,7 +24,7 @@ pub trait Registry {
     ghost takers: { ℕ };
 }
 
-impl Registry for Brand {
+impl BoxRegistry for Brand {
     ghost puts = { no_table };
 
     ghost takes = { no_table };
@@ -48,9 +48,9 @@ impl Saying for Brand {
 }
 
 /// The rule of the table.
-pub struct Tied;
+pub struct DeskRule;
 
-impl TableRule<(), Hand, u64> for Tied {
+impl TableRule<(), DeskHand, u64> for DeskRule {
     ghost holds = { λ _ s. Ties s.views };
 
     ghost first = { λ count. hand (blank_lists count ∷ []) (blank_seats 0 count) };
@@ -58,20 +58,20 @@ impl TableRule<(), Hand, u64> for Tied {
 
 struct Noting<S: Saying>(PhantomData<S>);
 
-impl<S: Saying> Play<(), Hand> for Noting<S> {
+impl<S: Saying> Play<(), DeskHand> for Noting<S> {
     ghost then = { Notes S.said };
 }
 
 struct Looking;
 
-impl Play<(), Hand> for Looking {
+impl Play<(), DeskHand> for Looking {
     ghost then = { Looks };
 }
 
 // All that a token has goes.
 struct Lend;
 
-impl Split<Hand> for Lend {
+impl Split<DeskHand> for Lend {
     ghost left = { λ v. hand [] [] };
 
     ghost right = { λ v. v };
@@ -79,7 +79,7 @@ impl Split<Hand> for Lend {
 
 struct Both;
 
-impl Join<Hand> for Both {
+impl Join<DeskHand> for Both {
     ghost both = { joined };
 
     ghost spent = { hand [] [] };
@@ -88,7 +88,7 @@ impl Join<Hand> for Both {
 // The desk stays, the seats go.
 struct Parts;
 
-impl Split<Hand> for Parts {
+impl Split<DeskHand> for Parts {
     ghost left = { λ v. hand v.desks [] };
 
     ghost right = { λ v. hand [] v.seats };
@@ -97,37 +97,37 @@ impl Split<Hand> for Parts {
 // The first seat goes.
 struct DealSeat;
 
-impl Split<Hand> for DealSeat {
+impl Split<DeskHand> for DealSeat {
     ghost left = { λ v. hand v.desks (drop 1 v.seats) };
 
     ghost right = { λ v. hand [] (take 1 v.seats) };
 }
 
 /// Speaks for the desk, or for some seats.
-pub type Token = Seat<(), Hand>;
+pub type DeskToken = Seat<(), DeskHand>;
 
 /// The table itself.
-pub type TieTable = Table<(), Hand, u64, Tied, Global>;
+pub type DeskTable = Table<(), DeskHand, u64, DeskRule, Global>;
 
 /// Ties a desk to its seats.
 #[derive(Drop)]
-pub struct Tie {
+pub struct DeskTie {
     /// The table.
-    pub table: TieTable,
+    pub table: DeskTable,
     ghost one: { table.shared.table_id.words ≡ 1 },
 }
 
-impl Tie {
+impl DeskTie {
     /// A tie for a desk and so many seats, without slips, and the token that speaks for all of them.
-    pub fn new(alloc: Global, seats: u64) -> Result<(Tie, Token), AllocError>
+    pub fn new(alloc: Global, seats: u64) -> Result<(DeskTie, DeskToken), AllocError>
         ensures { IfOk result (λ r. (r.1.table_id ≡ r.0.table.shared.table_id) × (r.0.table.shared.key ≡ seats) × (r.1.me ≡ (hand (blank_lists seats ∷ []) (blank_seats 0 seats), []))) }
     {
         let (table, token) = Table::of_words(alloc, &[0], &seats)?;
-        Ok((Tie { table }, token))
+        Ok((DeskTie { table }, token))
     }
 
     /// A token for the first seat.
-    pub fn next_seat(&self, rest: &mut Token) -> Token
+    pub fn next_seat(&self, rest: &mut DeskToken) -> DeskToken
         requires id { rest.old.table_id ≡ self.now.table.shared.table_id }
         requires free { rest.old.me.1 ≡ [] }
         ensures ids { (rest.new.table_id ≡ rest.old.table_id) × (result.table_id ≡ rest.old.table_id) }
@@ -138,7 +138,7 @@ impl Tie {
     }
 
     /// Puts two tokens together.
-    pub fn join(&self, one: &mut Token, other: Token)
+    pub fn join(&self, one: &mut DeskToken, other: DeskToken)
         requires ids { (one.old.table_id ≡ self.now.table.shared.table_id) × (other.table_id ≡ self.now.table.shared.table_id) }
         requires free { (one.old.me.1 ≡ []) × (other.me.1 ≡ []) }
         ensures id { one.new.table_id ≡ one.old.table_id }
@@ -148,7 +148,7 @@ impl Tie {
     }
 
     /// What a token shows of what it speaks for. It stays as it is.
-    pub fn look(&self, token: &mut Token)
+    pub fn look(&self, token: &mut DeskToken)
         requires id { token.old.table_id ≡ self.now.table.shared.table_id }
         ensures same { token.new ≡ token.old }
         ensures shows { Shows token.old.me.0 }
@@ -156,7 +156,13 @@ impl Tie {
         self.table.shared.load::<Looking>(token, 0);
     }
 
-    fn note_said<S: Saying>(&self, desk: &mut Token, seat: &mut Token, number: usize, said: &Slip)
+    fn note_said<S: Saying>(
+        &self,
+        desk: &mut DeskToken,
+        seat: &mut DeskToken,
+        number: usize,
+        said: &Slip,
+    )
         requires said { S.said ≡ said.now }
         requires ids { (desk.old.table_id ≡ self.now.table.shared.table_id) × (seat.old.table_id ≡ self.now.table.shared.table_id) }
         requires desk { desk.old.me ≡ (of_desk (known desk.old.me.0), []) }
@@ -173,7 +179,7 @@ impl Tie {
     }
 
     /// Notes a slip more of one seat, at the desk and at the seat. Before it the desk knew what the seat had.
-    pub fn note(&self, desk: &mut Token, seat: &mut Token, number: usize, said: &Slip)
+    pub fn note(&self, desk: &mut DeskToken, seat: &mut DeskToken, number: usize, said: &Slip)
         requires ids { (desk.old.table_id ≡ self.now.table.shared.table_id) × (seat.old.table_id ≡ self.now.table.shared.table_id) }
         requires desk { desk.old.me ≡ (of_desk (known desk.old.me.0), []) }
         requires seat { seat.old.me ≡ (of_seat number (own seat.old.me.0), []) }
@@ -188,22 +194,22 @@ impl Tie {
 
 /// A new tie, and the token that speaks for its desk and all its seats.
 #[derive(Drop)]
-pub struct Blank {
+pub struct BlankSeats {
     /// The tie.
-    pub tie: Tie,
+    pub tie: DeskTie,
     /// The token.
-    pub token: Token,
+    pub token: DeskToken,
     ghost here: { token.table_id ≡ tie.table.shared.table_id },
     ghost all: { token.me ≡ (hand (blank_lists tie.table.shared.key ∷ []) (blank_seats 0 tie.table.shared.key), []) },
 }
 
-impl Blank {
+impl BlankSeats {
     /// A blank for so many seats.
-    pub fn new(alloc: Global, seats: usize) -> Result<Blank, AllocError>
+    pub fn new(alloc: Global, seats: usize) -> Result<BlankSeats, AllocError>
         ensures { IfOk result (λ blank. blank.tie.table.shared.key ≡ seats) }
     {
-        let (tie, token) = Tie::new(alloc, seats as u64)?;
-        Ok(Blank { tie, token })
+        let (tie, token) = DeskTie::new(alloc, seats as u64)?;
+        Ok(BlankSeats { tie, token })
     }
 }
 
@@ -215,9 +221,9 @@ pub struct Blanks {
     /// How many seats there are for those who take.
     pub takers: usize,
     /// For those who put.
-    pub puts: Blank,
+    pub puts: BlankSeats,
     /// For those who take.
-    pub takes: Blank,
+    pub takes: BlankSeats,
     pub ghost put_key: { puts.tie.table.shared.key ≡ putters },
     pub ghost take_key: { takes.tie.table.shared.key ≡ takers },
 }
@@ -230,8 +236,8 @@ impl Blanks {
         Ok(Blanks {
             putters,
             takers,
-            puts: Blank::new(alloc, putters)?,
-            takes: Blank::new(alloc, takers)?,
+            puts: BlankSeats::new(alloc, putters)?,
+            takes: BlankSeats::new(alloc, takers)?,
         })
     }
 }

@@ -10,7 +10,7 @@ ghost use Rattle.lru_engine.specs.Program.{fresh, memory_text, input_text, Write
 
 use crate::command::command_from;
 use crate::replies::answer;
-use crate::settings::{Settings, settings_from};
+use crate::settings::{CoreSettings, settings_from};
 use log::Log;
 use lru_lines::input::{Input, InputError};
 use lru_lines::output::Output;
@@ -140,7 +140,7 @@ pub fn run<F: Folder, L: Log, R: Input, W: Output>(
     }
 }
 
-fn make_core(alloc: Global, settings: Settings) -> Result<LruCore<Keyed, 2>, AllocError>
+fn make_core(alloc: Global, settings: CoreSettings) -> Result<LruCore<Keyed, 2>, AllocError>
     ensures { IfOk result (λ core. core ≡ fresh settings) }
 {
     let watermark = match settings.watermark {

@@ -6,14 +6,14 @@ use lru_lines::numbers::{number, number_or_dash};
 
 /// The limits of the core, and the seed of its draws.
 #[derive(Clone, Copy)]
-pub struct Settings {
+pub struct CoreSettings {
     pub limit: u64,
     pub watermark: Option<u64>,
     pub seed: u64,
 }
 
 /// What the arguments say, if they are a limit, a watermark or `-`, and a seed.
-pub fn settings_from(arguments: &[String]) -> Option<Settings>
+pub fn settings_from(arguments: &[String]) -> Option<CoreSettings>
     ensures { result ≡ settings_of (map string_bytes arguments.now) }
 {
     match arguments {
@@ -21,7 +21,7 @@ pub fn settings_from(arguments: &[String]) -> Option<Settings>
             let limit = number(limit.as_bytes())?;
             let watermark = number_or_dash(mark.as_bytes())?;
             let seed = number(seed.as_bytes())?;
-            Some(Settings {
+            Some(CoreSettings {
                 limit,
                 watermark,
                 seed,

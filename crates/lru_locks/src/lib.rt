@@ -2,7 +2,7 @@
 //!
 //! It holds the order `Lru`. What a call does under a lock is proved as of a core's shard; how threads interleave is only
 //! tested. Each admission of a batch is answered in its own place. It stands on one shard (`lru_shard`) and on short locks
-//! (`lru_short_locks`).
+//! (`lru_sharing`).
 #![tactic(auto)]
 
 mod admission;

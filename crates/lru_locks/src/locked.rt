@@ -4,7 +4,7 @@ ghost use Rattle.lru_shard.specs.Limits.{cap_of};
 ghost use Rattle.lru_shard.specs.Shards.{AreAtHome, IsOwn};
 
 use crate::look::Look;
-use crate::shed::{Room, shed};
+use crate::shed::{ShardRoom, shed};
 use crate::{Admission, admit_each};
 use lru_index::hashing::SeededHashes;
 use lru_shard::totals::Totals;
@@ -13,7 +13,7 @@ use std::alloc::{AllocError, Global};
 
 // What lies behind a shard's lock. Its calls are all that is done under the lock, on the shard that it lends.
 #[derive(Drop)]
-pub(crate) struct Locked<T, const N: usize> {
+pub(crate) struct LockedUnit<T, const N: usize> {
     // which shard it is; it lies beside the lock's own word
     pub(crate) number: usize,
     pub(crate) unit: LruUnit<T>,
@@ -22,7 +22,7 @@ pub(crate) struct Locked<T, const N: usize> {
     ghost home: { AreAtHome N number unit.rows },
 }
 
-impl<T, const N: usize> Locked<T, N> {
+impl<T, const N: usize> LockedUnit<T, N> {
     ghost use Rattle.std.specs.Prelude.{[], List, map, option_map};
     ghost use Rattle.lru_shard.specs.Row.{weight_of, pair_of, row_of, is_held, last_row};
     ghost use Rattle.lru_shard.specs.Shard.{shard};
@@ -41,7 +41,7 @@ impl<T, const N: usize> Locked<T, N> {
         ensures { IfOk result (λ locked. locked.unit ≡ shard [] (cap_of N)) }
     {
         let cap = usize::MAX / N;
-        Ok(Locked {
+        Ok(LockedUnit {
             unit: LruUnit::with_capacity_and_hasher(alloc, capacity, cap, hashes)?,
             number,
         })
@@ -51,7 +51,7 @@ impl<T, const N: usize> Locked<T, N> {
     pub(crate) fn into_unit(self) -> LruUnit<T>
         ensures { IsOwn N self.number result }
     {
-        let Locked { unit, .. } = self;
+        let LockedUnit { unit, .. } = self;
         // Read for the proof alone, which learns from it what the type says of itself (here and below).
         let _weight = unit.used_weight();
         unit
@@ -123,7 +123,7 @@ impl<T, const N: usize> Locked<T, N> {
     }
 }
 
-impl<T: Drop, const N: usize> Locked<T, N> {
+impl<T: Drop, const N: usize> LockedUnit<T, N> {
     ghost use Rattle.std.specs.Prelude.{option_map};
     ghost use Rattle.lru_shard.specs.Row.{pair_of, row_of, is_held, without, last_row, without_last};
     ghost use Rattle.lru_shard.specs.Shard.{shard};
@@ -152,7 +152,7 @@ impl<T: Drop, const N: usize> Locked<T, N> {
         key: u64,
         data: T,
         weight: usize,
-        room: Room,
+        room: ShardRoom,
         visit: &mut F,
     ) -> Result<Totals, Refused<T>>
         requires home { key % N ≡ self.old.number }
@@ -166,7 +166,7 @@ impl<T: Drop, const N: usize> Locked<T, N> {
         Ok(self.shed(room, visit))
     }
 
-    pub(crate) fn shed<F: FnMut((T, usize))>(&mut self, room: Room, visit: &mut F) -> Totals
+    pub(crate) fn shed<F: FnMut((T, usize))>(&mut self, room: ShardRoom, visit: &mut F) -> Totals
         requires { F.IsAlwaysCallable visit.old }
         ensures again { F.IsAlwaysCallable visit.new }
         ensures rows { Sheds (λ p x q. F.step p x tt q) visit.old self.old.unit room.weight room.len self.new.unit visit.new }

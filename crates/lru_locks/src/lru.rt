@@ -5,16 +5,16 @@ ghost use Rattle.lru_shard.specs.Limits.{cap_of};
 ghost use Rattle.lru_shard.specs.Shards.{IsOwn, AreOwn};
 
 use crate::Admission;
-use crate::locked::Locked;
+use crate::locked::LockedUnit;
 use crate::look::Look;
-use crate::shed::Room;
+use crate::shed::ShardRoom;
 use crossbeam_utils::CachePadded;
 use lru_index::hashing::SeededHashes;
 use lru_shard::counters::{growth, shift};
 use lru_shard::eviction::{EvictError, Readings, drawn_shards, longer_of, shard_after};
 use lru_shard::totals::{Totals, Units};
 use lru_shard::unit::{Cause, LruUnit, Refused};
-use lru_short_locks::ShortMutex;
+use lru_sharing::ShortMutex;
 use rand_core::Rng;
 use std::alloc::{AllocError, Global};
 use std::sync::atomic::{AtomicUsize, Ordering};
@@ -35,7 +35,7 @@ fn empty_units<T: Drop, const N: usize>(
 {
     let mut units = Vec::with_capacity(alloc, N)?;
     for number in 0..N {
-        let locked = Locked::with_capacity(alloc, capacity, number, hashes)?;
+        let locked = LockedUnit::with_capacity(alloc, capacity, number, hashes)?;
         units.push(CachePadded::new(Shard::new(locked)))?;
     }
     Ok(units)
@@ -108,11 +108,11 @@ impl ShardCounters {
 #[derive(Drop)]
 struct Shard<T, const N: usize> {
     counts: ShardCounters,
-    lock: ShortMutex<Locked<T, N>>,
+    lock: ShortMutex<LockedUnit<T, N>>,
 }
 
 impl<T, const N: usize> Shard<T, N> {
-    fn new(locked: Locked<T, N>) -> Self {
+    fn new(locked: LockedUnit<T, N>) -> Self {
         Shard {
             counts: ShardCounters::zero(),
             lock: ShortMutex::new(locked),
@@ -386,7 +386,7 @@ impl<T, const N: usize> Lru<T, N> {
     // Takes the lock of a shard, for a call that may bring a key in. No type says which lock has which shard, so the number is
     // looked at; the first one is the right one.
     #[inline(always)]
-    fn unit_at(&self, rt: &impl Wait, shard: usize) -> MutexGuard<'_, Locked<T, N>>
+    fn unit_at(&self, rt: &impl Wait, shard: usize) -> MutexGuard<'_, LockedUnit<T, N>>
         requires { shard < N }
         ensures { (mutex_guard_value result).number ≡ shard }
     {
@@ -401,7 +401,7 @@ impl<T, const N: usize> Lru<T, N> {
     // As `unit_at`, where the first one was not the right one: never, but that no type says so.
     #[cold]
     #[inline(never)]
-    fn unit_after_another(&self, rt: &impl Wait, shard: usize) -> MutexGuard<'_, Locked<T, N>>
+    fn unit_after_another(&self, rt: &impl Wait, shard: usize) -> MutexGuard<'_, LockedUnit<T, N>>
         requires { shard < N }
         ensures { (mutex_guard_value result).number ≡ shard }
     {
@@ -667,7 +667,7 @@ impl<T: Drop, const N: usize> Lru<T, N> {
         let mut unit = self.unit_at(rt, shard);
         let before = unit.totals();
         let mut all = self.readings();
-        let room = Room::beside_others(&all, before);
+        let room = ShardRoom::beside_others(&all, before);
         let evicted = unit.admit_and_evict(key, data, weight, room, visit)?;
         let after = unit.totals();
         let counters = &self.counters;

@@ -10,19 +10,19 @@ use lru_shard::unit::LruUnit;
 
 // How heavy and how long one shard may be.
 #[derive(Clone, Copy)]
-pub(crate) struct Room {
+pub(crate) struct ShardRoom {
     weight: usize,
     len: Option<usize>,
 }
 
-impl Room {
+impl ShardRoom {
     // What the others leave to a shard, by what all hold and what it holds itself: it is past it where all would be past a limit.
-    pub(crate) fn beside_others(all: &Readings, own: Totals) -> Room
+    pub(crate) fn beside_others(all: &Readings, own: Totals) -> ShardRoom
         ensures { (w l : ℕ) → 0 < w → 0 < l → is_past result.weight result.len w l ≡ is_past all.now.weight_limit all.now.watermark (all.now.weight - own.weight + w) (all.now.len - own.len + l) }
     {
         let others_weight = all.weight.saturating_sub(own.weight);
         let others_len = all.len.saturating_sub(own.len);
-        Room {
+        ShardRoom {
             weight: all.weight_limit.saturating_sub(others_weight),
             len: len_beside(all.watermark, others_len),
         }
@@ -43,7 +43,7 @@ fn len_beside(watermark: Option<usize>, others: usize) -> Option<usize>
 // were together.
 pub(crate) fn shed<T: Drop, F: FnMut((T, usize))>(
     unit: &mut LruUnit<T>,
-    room: Room,
+    room: ShardRoom,
     visit: &mut F,
 ) -> Totals
     requires { F.IsAlwaysCallable visit.old }

@@ -5,13 +5,13 @@ use Rattle.std.specs.FinMap.{get}
 use Rattle.lru_folder.specs.Meaning.{Meaning}
 use Rattle.lru_frames.specs.declared.row.Row.{Row}
 use Rattle.lru_frames.specs.Words.{word}
-use Rattle.lru_checkpoints.specs.declared.errors.CheckpointError.{CheckpointError}
-use Rattle.lru_checkpoints.specs.Checkpoints.{Shards, AreHandedOut}
-use Rattle.lru_checkpoints.specs.Loads.{IsFault, IsRefused, IsRefusedFrame}
-use Rattle.lru_manifests.specs.declared.names.PartName.{PartName}
-use Rattle.lru_manifests.specs.Names.{IsPart, part_path}
-use Rattle.lru_generations.specs.declared.checking.Told.{Told}
-use Rattle.lru_generations.specs.declared.loading.Loaded.{Loaded}
+use Rattle.lru_generations.specs.declared.errors.CheckpointError.{CheckpointError}
+use Rattle.lru_generations.specs.Checkpoints.{Shards, AreHandedOut}
+use Rattle.lru_generations.specs.Loads.{IsFault, IsRefused, IsRefusedFrame}
+use Rattle.lru_generations.specs.declared.names.PartName.{PartName}
+use Rattle.lru_generations.specs.Names.{IsPart, part_path}
+use Rattle.lru_generations.specs.declared.generation_checks.FoundGeneration.{FoundGeneration}
+use Rattle.lru_generations.specs.declared.newest_loading.Loaded.{Loaded}
 use Rattle.lru_generations.specs.declared.newest.Passed.{Passed}
 use Rattle.lru_generations.specs.Faults.{IsFailed, IsUnlisted}
 use Rattle.lru_generations.specs.Loaded.{IsLoaded, IsLoadedBelow, number_of}
@@ -20,7 +20,7 @@ use Rattle.lru_generations.specs.Saving.{IsForGood, IsOlder, IsUnremoved, IsUnsa
 use Rattle.lru_generations.specs.Told.{AreAll, IsTold}
 use Rattle.lru_operations.specs.declared.outcome.Outcome.{Outcome}
 use Rattle.lru_operations.specs.declared.outcome.Outcome.TheVariants as outcome
-use Rattle.lru_operations.specs.declared.requests.Misuse.TheVariants as misuse
+use Rattle.lru_operations.specs.declared.requests.TaskMisuse.TheVariants as misuse
 use Rattle.lru_operations.specs.declared.requests.WordsError.{WordsError}
 use Rattle.lru_operations.specs.declared.requests.WordsError.TheVariants as words
 use Rattle.lru_operations.specs.Before.{IsWord, CanShow}
@@ -148,7 +148,7 @@ module _ {F : Type 0} (meaning : Meaning F) (dir file_name : List ℕ) where
   -- each generation of which there is a file is told of, the highest first, and what is told of each is true
   abbrev pub ComesOfCheck : F → F → Outcome → Type 0
   ComesOfCheck old new (outcome.Checked told) = AreAll dir file_name (meaning.files old) (map (λ one. one.generation) told.items)
-      × ((one : Told) → Contains told.items one → IsTold dir file_name meaning old new one.generation one.shards)
+      × ((one : FoundGeneration) → Contains told.items one → IsTold dir file_name meaning old new one.generation one.shards)
   ComesOfCheck old new (outcome.Refused error) = IsUnread old new error
   ComesOfCheck old new outcome.Helped = ⊥
   ComesOfCheck old new (outcome.Misused misuse) = ⊥

@@ -5,12 +5,12 @@ use Rattle.std.specs.Str.{bytes_eq}
 use Rattle.std.specs.declared.io.ErrorKind.{ErrorKind}
 use Rattle.std.specs.declared.io.ErrorKind.TheVariants as kind
 use Rattle.lru_folder.specs.Names.{has_slash}
-use Rattle.lru_operations.specs.declared.requests.Misuse.{Misuse}
-use Rattle.lru_operations.specs.declared.requests.Misuse.TheVariants.{Words, Command, FileName, NoFolder, NoFile, NoText}
+use Rattle.lru_operations.specs.declared.requests.TaskMisuse.{TaskMisuse}
+use Rattle.lru_operations.specs.declared.requests.TaskMisuse.TheVariants.{Words, Command, FileName, NoFolder, NoFile, NoText}
 use Rattle.lru_operations.specs.declared.requests.WordsError.{WordsError}
 use Rattle.lru_operations.specs.declared.requests.WordsError.TheVariants as words
-use Rattle.lru_operations.specs.declared.requests.Request.{Request}
-use Rattle.lru_operations.specs.declared.requests.Request.TheVariants as request
+use Rattle.lru_operations.specs.declared.requests.Task.{Task}
+use Rattle.lru_operations.specs.declared.requests.Task.TheVariants as request
 
 pub data Asked : Type 0 where
   Help : Asked
@@ -18,11 +18,11 @@ pub data Asked : Type 0 where
   Show : (dir : List ℕ) → (file_name : List ℕ) → Asked
   ShowBefore : (dir : List ℕ) → (file_name : List ℕ) → Asked
   Check : (dir : List ℕ) → (file_name : List ℕ) → Asked
-  Misused : (misuse : Misuse) → Asked
+  Misused : (misuse : TaskMisuse) → Asked
   NoMemory : Asked
 
 -- a request with its texts as bytes
-abbrev pub asked : Request → Asked
+abbrev pub asked : Task → Asked
 asked request.Help = Help
 asked (request.Save dir file_name) = Save dir.now file_name.now
 asked (request.Show dir file_name) = Show dir.now file_name.now
@@ -31,16 +31,16 @@ asked (request.Check dir file_name) = Check dir.now file_name.now
 asked (request.Misused misuse) = Misused misuse
 
 -- what is wrong with the name of a folder and that of a file in it
-abbrev pub misuse_of_file : List ℕ → Option Misuse
+abbrev pub misuse_of_file : List ℕ → Option TaskMisuse
 misuse_of_file [] = Some NoFile
 misuse_of_file (byte ∷ rest) = if has_slash (byte ∷ rest) then Some FileName else None
 
-abbrev pub misuse_of : List ℕ → List ℕ → Option Misuse
+abbrev pub misuse_of : List ℕ → List ℕ → Option TaskMisuse
 misuse_of [] file_name = Some NoFolder
 misuse_of (byte ∷ rest) file_name = misuse_of_file file_name
 
 -- that is told before anything else that is wrong
-abbrev pub unless_misused : Option Misuse → Asked → Asked
+abbrev pub unless_misused : Option TaskMisuse → Asked → Asked
 unless_misused None other = other
 unless_misused (Some misuse) other = Misused misuse
 

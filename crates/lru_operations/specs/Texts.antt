@@ -3,16 +3,16 @@ use Rattle.std.specs.Prelude.{ℕ, Bool, true, false, List, [], ◌∷◌, ◌++
 use Rattle.std.specs.declared.alloc.Global.{Global}
 use Rattle.std.specs.List.{flat_map, list_any}
 use Rattle.lru_frames.specs.declared.row.Row.{Row}
-use Rattle.lru_checkpoints.specs.declared.errors.CheckpointFile.TheVariants as file
-use Rattle.lru_checkpoints.specs.declared.errors.CheckpointError.{CheckpointError}
-use Rattle.lru_checkpoints.specs.declared.errors.CheckpointError.TheVariants as error
-use Rattle.lru_checkpoints.specs.Texts.{error_text}
-use Rattle.lru_generations.specs.declared.checking.Told.{Told}
-use Rattle.lru_generations.specs.declared.loading.Checkpoint.{Checkpoint}
-use Rattle.lru_generations.specs.declared.loading.Loaded.{Loaded}
+use Rattle.lru_generations.specs.declared.errors.CheckpointFile.TheVariants as file
+use Rattle.lru_generations.specs.declared.errors.CheckpointError.{CheckpointError}
+use Rattle.lru_generations.specs.declared.errors.CheckpointError.TheVariants as error
+use Rattle.lru_generations.specs.Texts.{error_text}
+use Rattle.lru_generations.specs.declared.generation_checks.FoundGeneration.{FoundGeneration}
+use Rattle.lru_generations.specs.declared.newest_loading.Checkpoint.{Checkpoint}
+use Rattle.lru_generations.specs.declared.newest_loading.Loaded.{Loaded}
 use Rattle.lru_generations.specs.declared.newest.Passed.{Passed}
-use Rattle.lru_operations.specs.declared.requests.Misuse.{Misuse}
-use Rattle.lru_operations.specs.declared.requests.Misuse.TheVariants as misuse
+use Rattle.lru_operations.specs.declared.requests.TaskMisuse.{TaskMisuse}
+use Rattle.lru_operations.specs.declared.requests.TaskMisuse.TheVariants as misuse
 use Rattle.lru_operations.specs.declared.outcome.Verdict.{Verdict}
 use Rattle.lru_operations.specs.declared.outcome.Verdict.TheVariants.{Whole, Unfinished, Damaged}
 use Rattle.lru_operations.specs.declared.outcome.Outcome.{Outcome}
@@ -35,7 +35,7 @@ heading error.InUse = codes "failed: "
 abbrev pub refusal_text : CheckpointError → List ℕ
 refusal_text error = heading error ++ line (error_text error)
 
-abbrev pub misuse_text : Misuse → List ℕ
+abbrev pub misuse_text : TaskMisuse → List ℕ
 misuse_text misuse.Words = codes "error: these are not as many words as a command has\n"
 misuse_text misuse.Command = codes "error: no such command\n"
 misuse_text misuse.FileName = codes "error: the name of the file has a slash\n"
@@ -90,7 +90,7 @@ abbrev pub verdict_in : Result ℕ CheckpointError → Verdict
 verdict_in (Ok shards) = Whole
 verdict_in (Err error) = verdict_on error
 
-abbrev pub verdict_of : Told → Verdict
+abbrev pub verdict_of : FoundGeneration → Verdict
 verdict_of told = verdict_in told.shards
 
 abbrev pub verdict_text : ℕ → Verdict → List ℕ
@@ -98,14 +98,14 @@ verdict_text generation Whole = codes "generation " ++ (decimal generation ++ co
 verdict_text generation Unfinished = codes "generation " ++ (decimal generation ++ codes " unfinished\n")
 verdict_text generation (Damaged error) = damaged_text generation error
 
-abbrev pub told_text : Told → List ℕ
+abbrev pub told_text : FoundGeneration → List ℕ
 told_text told = verdict_text told.generation (verdict_of told)
 
 abbrev pub no_checkpoint_text : List ℕ
 no_checkpoint_text = codes "no checkpoint\n"
 
 -- a line for each generation, or that there is none
-abbrev pub checked_text : List Told → List ℕ
+abbrev pub checked_text : List FoundGeneration → List ℕ
 checked_text [] = no_checkpoint_text
 checked_text (one ∷ more) = flat_map told_text (one ∷ more)
 
@@ -161,7 +161,7 @@ is_whole Unfinished = false
 is_whole (Damaged error) = false
 
 -- none is damaged, and one is whole
-abbrev pub checked_status : List Told → ℕ
+abbrev pub checked_status : List FoundGeneration → ℕ
 checked_status told = if list_any (λ one. is_damaged (verdict_of one)) told then 1 else (if list_any (λ one. is_whole (verdict_of one)) told then 0 else 1)
 
 abbrev pub status_of : Outcome → ℕ

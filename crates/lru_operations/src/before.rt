@@ -3,9 +3,9 @@ ghost use Rattle.std.specs.Prelude.{◌≡◌, ◌↔◌, false, IfErr, IfOk};
 ghost use Rattle.lru_folder.specs.Names.{has_slash};
 ghost use Rattle.lru_operations.specs.Outcomes.{IsShownBefore, IsUnread};
 
-use lru_checkpoints::errors::CheckpointError;
 use lru_folder::folder::Folder;
-use lru_generations::loading::{Loaded, load, load_below};
+use lru_generations::errors::CheckpointError;
+use lru_generations::newest_loading::{Loaded, load, load_below};
 use std::alloc::Global;
 
 // Loads the newest checkpoint below the newest one, or none where there is none, and the generations between them that were

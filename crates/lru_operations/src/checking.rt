@@ -6,8 +6,8 @@ ghost use Rattle.lru_operations.specs.Outcomes.{ComesOfShow, ComesOfShowBefore, 
 use crate::before::load_before;
 use crate::outcome::Outcome;
 use lru_folder::folder::Folder;
-use lru_generations::checking::check_all;
-use lru_generations::loading::load;
+use lru_generations::generation_checks::check_all;
+use lru_generations::newest_loading::load;
 use std::alloc::Global;
 
 /// Loads the newest checkpoint, whole, or tells that there is none. All files are as they were.

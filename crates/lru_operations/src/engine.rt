@@ -8,12 +8,12 @@ ghost use Rattle.lru_operations.specs.Outcomes.{ComesOf, LeavesFiles, LeavesWhol
 
 use crate::checking::{check, show, show_before};
 use crate::outcome::Outcome;
-use crate::requests::{Request, request_from};
+use crate::requests::{Task, request_from};
 use crate::saving::save_input;
 use crate::texts::write_outcome;
+use lru_folder::synced_folder::SyncedFolder;
 use lru_lines::input::Input;
 use lru_lines::output::Output;
-use lru_synced_folder::synced_folder::SyncedFolder;
 use std::alloc::Global;
 use std::io;
 use std::io::{BufWriter, Write};
@@ -22,7 +22,7 @@ use std::io::{BufWriter, Write};
 fn outcome_of<F: SyncedFolder, R: Input>(
     alloc: Global,
     folder: &mut F,
-    request: Request<'_>,
+    request: Task<'_>,
     reader: &mut R,
 ) -> Outcome
     requires { IsPossible (asked request) }
@@ -32,12 +32,12 @@ fn outcome_of<F: SyncedFolder, R: Input>(
     ensures kept { F.meaning.keeps folder.old ↔ F.meaning.keeps folder.new }
 {
     match request {
-        Request::Help => Outcome::Helped,
-        Request::Misused(misuse) => Outcome::Misused(misuse),
-        Request::Save { dir, file_name } => save_input(alloc, folder, dir, file_name, reader),
-        Request::Show { dir, file_name } => show(alloc, folder, dir, file_name),
-        Request::ShowBefore { dir, file_name } => show_before(alloc, folder, dir, file_name),
-        Request::Check { dir, file_name } => check(alloc, folder, dir, file_name),
+        Task::Help => Outcome::Helped,
+        Task::Misused(misuse) => Outcome::Misused(misuse),
+        Task::Save { dir, file_name } => save_input(alloc, folder, dir, file_name, reader),
+        Task::Show { dir, file_name } => show(alloc, folder, dir, file_name),
+        Task::ShowBefore { dir, file_name } => show_before(alloc, folder, dir, file_name),
+        Task::Check { dir, file_name } => check(alloc, folder, dir, file_name),
     }
 }
 

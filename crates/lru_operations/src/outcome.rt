@@ -3,11 +3,11 @@ ghost use Rattle.std.specs.Prelude.{◌≡◌};
 ghost use Rattle.std.specs.List.{list_any};
 ghost use Rattle.lru_operations.specs.Texts.{checked_status, is_damaged, is_whole, shown_status, status_of, verdict_of, verdict_on};
 
-use crate::requests::Misuse;
-use lru_checkpoints::errors::{CheckpointError, CheckpointFile};
-use lru_generations::checking::Told;
-use lru_generations::loading::Loaded;
+use crate::requests::TaskMisuse;
+use lru_generations::errors::{CheckpointError, CheckpointFile};
+use lru_generations::generation_checks::FoundGeneration;
 use lru_generations::newest::Passed;
+use lru_generations::newest_loading::Loaded;
 
 /// Whether a generation is whole.
 #[derive(Clone, Copy, Debug, PartialEq, Eq)]
@@ -26,7 +26,7 @@ pub enum Outcome {
     /// Only what the program does is told.
     Helped,
     /// The words ask for nothing that it does.
-    Misused(Misuse),
+    Misused(TaskMisuse),
     /// So many rows were saved as this generation.
     Saved {
         /// Its number.
@@ -41,7 +41,7 @@ pub enum Outcome {
     /// This was loaded.
     Shown(Loaded<u64, u64>),
     /// This is told of each generation.
-    Checked(Vec<Told>),
+    Checked(Vec<FoundGeneration>),
     /// This line of the input is no row.
     BadLine(u64),
     /// The input was not read.
@@ -76,7 +76,7 @@ fn verdict_on(error: CheckpointError) -> Verdict
 }
 
 /// What is told of a generation.
-pub fn verdict_of(told: &Told) -> Verdict
+pub fn verdict_of(told: &FoundGeneration) -> Verdict
     ensures { result ≡ verdict_of told.now }
 {
     match told.shards {
@@ -85,7 +85,7 @@ pub fn verdict_of(told: &Told) -> Verdict
     }
 }
 
-fn is_damaged(told: &Told) -> bool
+fn is_damaged(told: &FoundGeneration) -> bool
     ensures { result ≡ is_damaged (verdict_of told.now) }
 {
     match verdict_of(told) {
@@ -95,7 +95,7 @@ fn is_damaged(told: &Told) -> bool
     }
 }
 
-fn is_whole(told: &Told) -> bool
+fn is_whole(told: &FoundGeneration) -> bool
     ensures { result ≡ is_whole (verdict_of told.now) }
 {
     match verdict_of(told) {
@@ -105,20 +105,20 @@ fn is_whole(told: &Told) -> bool
     }
 }
 
-fn has_damaged(told: &[Told]) -> bool
+fn has_damaged(told: &[FoundGeneration]) -> bool
     ensures { result ≡ list_any (λ one. is_damaged (verdict_of one)) told.now }
 {
     told.iter().any(|one| is_damaged(one))
 }
 
-fn has_whole(told: &[Told]) -> bool
+fn has_whole(told: &[FoundGeneration]) -> bool
     ensures { result ≡ list_any (λ one. is_whole (verdict_of one)) told.now }
 {
     told.iter().any(|one| is_whole(one))
 }
 
 // 0 where one is whole and none is damaged, and else 1.
-fn checked_status(told: &[Told]) -> u8
+fn checked_status(told: &[FoundGeneration]) -> u8
     ensures { result ≡ checked_status told.now }
 {
     if has_damaged(told) {

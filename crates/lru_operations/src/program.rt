@@ -8,9 +8,9 @@ ghost use Rattle.lru_operations.specs.Outcomes.{unread_words, LeavesFiles, Leave
 
 use crate::engine::{run_buffered, tell_buffered};
 use crate::outcome::Outcome;
-use crate::requests::{Misuse, WordsError};
+use crate::requests::{TaskMisuse, WordsError};
+use lru_folder::synced_folder::SyncedFolder;
 use lru_lines::input::Input;
-use lru_synced_folder::synced_folder::SyncedFolder;
 use std::alloc::{AllocError, Global};
 use std::env::{Args, Env};
 use std::io::{BufWriter, ErrorKind, Write};
@@ -76,7 +76,7 @@ fn unread(error: WordsError) -> Outcome
 {
     match error {
         WordsError::Memory => Outcome::Memory,
-        WordsError::NoText => Outcome::Misused(Misuse::NoText),
+        WordsError::NoText => Outcome::Misused(TaskMisuse::NoText),
     }
 }
 

@@ -5,7 +5,7 @@ ghost use Rattle.lru_operations.specs.Requests.{asked, misuse_of, request_before
 
 /// What is wrong with the words.
 #[derive(Clone, Copy, Debug, PartialEq, Eq)]
-pub enum Misuse {
+pub enum TaskMisuse {
     /// They are not as many as a command has.
     Words,
     /// The first is no command.
@@ -31,7 +31,7 @@ pub enum WordsError {
 
 /// What the words ask for.
 #[derive(Clone, Copy)]
-pub enum Request<'a> {
+pub enum Task<'a> {
     /// To tell what the program does.
     Help,
     /// To save the rows of the input as the next checkpoint.
@@ -43,21 +43,21 @@ pub enum Request<'a> {
     /// To tell of each generation whether it is whole.
     Check { dir: &'a str, file_name: &'a str },
     /// Nothing that the program does.
-    Misused(Misuse),
+    Misused(TaskMisuse),
 }
 
 /// What these words ask for: `--help`, or a command with a folder and the name of a file in it, which has no slash; behind
 /// `show` there may be `--before`.
-pub fn request_from(words: &[String]) -> Request<'_>
+pub fn request_from(words: &[String]) -> Task<'_>
     ensures read { asked result ≡ request_of (map string_bytes words.now) }
     ensures possible { IsPossible (asked result) }
 {
     match words {
         [word] => {
             if word.as_str() == "--help" {
-                Request::Help
+                Task::Help
             } else {
-                Request::Misused(Misuse::Words)
+                Task::Misused(TaskMisuse::Words)
             }
         }
         [command, dir, file_name] => of_three(command, dir, file_name),
@@ -65,53 +65,53 @@ pub fn request_from(words: &[String]) -> Request<'_>
             if command.as_str() == "show" && option.as_str() == "--before" {
                 before(dir, file_name)
             } else {
-                Request::Misused(Misuse::Words)
+                Task::Misused(TaskMisuse::Words)
             }
         }
-        _ => Request::Misused(Misuse::Words),
+        _ => Task::Misused(TaskMisuse::Words),
     }
 }
 
 // What is wrong with the name of a folder and that of a file in it, if something is.
-fn misuse_of(dir: &str, file_name: &str) -> Option<Misuse>
+fn misuse_of(dir: &str, file_name: &str) -> Option<TaskMisuse>
     ensures told { result ≡ misuse_of dir.now file_name.now }
     ensures possible { result ≡ None → has_slash file_name.now ≡ false }
 {
     if dir.is_empty() {
-        Some(Misuse::NoFolder)
+        Some(TaskMisuse::NoFolder)
     } else if file_name.is_empty() {
-        Some(Misuse::NoFile)
+        Some(TaskMisuse::NoFile)
     } else if file_name.as_bytes().contains(&b'/') {
-        Some(Misuse::FileName)
+        Some(TaskMisuse::FileName)
     } else {
         None
     }
 }
 
-fn of_three<'a>(command: &str, dir: &'a str, file_name: &'a str) -> Request<'a>
+fn of_three<'a>(command: &str, dir: &'a str, file_name: &'a str) -> Task<'a>
     ensures read { asked result ≡ request_of_three command.now dir.now file_name.now }
     ensures possible { IsPossible (asked result) }
 {
     if let Some(misuse) = misuse_of(dir, file_name) {
-        return Request::Misused(misuse);
+        return Task::Misused(misuse);
     }
     if command == "save" {
-        Request::Save { dir, file_name }
+        Task::Save { dir, file_name }
     } else if command == "show" {
-        Request::Show { dir, file_name }
+        Task::Show { dir, file_name }
     } else if command == "check" {
-        Request::Check { dir, file_name }
+        Task::Check { dir, file_name }
     } else {
-        Request::Misused(Misuse::Command)
+        Task::Misused(TaskMisuse::Command)
     }
 }
 
-fn before<'a>(dir: &'a str, file_name: &'a str) -> Request<'a>
+fn before<'a>(dir: &'a str, file_name: &'a str) -> Task<'a>
     ensures read { asked result ≡ request_before dir.now file_name.now }
     ensures possible { IsPossible (asked result) }
 {
     match misuse_of(dir, file_name) {
-        Some(misuse) => Request::Misused(misuse),
-        None => Request::ShowBefore { dir, file_name },
+        Some(misuse) => Task::Misused(misuse),
+        None => Task::ShowBefore { dir, file_name },
     }
 }

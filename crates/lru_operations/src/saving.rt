@@ -9,10 +9,10 @@ ghost use Rattle.lru_operations.specs.Outcomes.{rows_in, AreShardsOf, HandsOut, 
 
 use crate::input_rows::{InputRowsError, rows_from};
 use crate::outcome::Outcome;
+use lru_folder::synced_folder::SyncedFolder;
 use lru_frames::row::Row;
 use lru_generations::generations::save;
 use lru_lines::input::{Input, InputError};
-use lru_synced_folder::synced_folder::SyncedFolder;
 use std::alloc::{AllocError, Global};
 
 // How many shards the rows are divided into.

@@ -4,18 +4,18 @@ ghost use Rattle.std.specs.List.{flat_map};
 ghost use Rattle.std.specs.Io.KnownBytes.{Appends};
 ghost use Rattle.lru_folder.specs.TextsFault.{fault_text};
 ghost use Rattle.lru_frames.specs.Errors.{part_text};
-ghost use Rattle.lru_checkpoints.specs.Texts.{file_text, error_text};
+ghost use Rattle.lru_generations.specs.Texts.{file_text, error_text};
 ghost use Rattle.lru_operations.specs.Texts.{heading, line, refusal_text, misuse_text, row_line, generation_line, left_line, left_text, rows_text, saved_text, damaged_text, passed_line, passed_text, told_text, no_checkpoint_text, checked_text, shown_text, bad_line_text, outcome_text, help_text};
 
 use crate::outcome::{Outcome, Verdict, verdict_of};
-use crate::requests::Misuse;
-use lru_checkpoints::errors::{CheckpointError, CheckpointFile};
+use crate::requests::TaskMisuse;
 use lru_folder::fault::FolderFault;
 use lru_frames::errors::Part;
 use lru_frames::row::Row;
-use lru_generations::checking::Told;
-use lru_generations::loading::{Checkpoint, Loaded};
+use lru_generations::errors::{CheckpointError, CheckpointFile};
+use lru_generations::generation_checks::FoundGeneration;
 use lru_generations::newest::Passed;
+use lru_generations::newest_loading::{Checkpoint, Loaded};
 use lru_lines::output::Output;
 use lru_lines::pieces::{Piece, write_pieces};
 use std::io;
@@ -74,16 +74,16 @@ fn heading(error: &CheckpointError) -> &'static str
     }
 }
 
-fn misuse_text(misuse: Misuse) -> &'static str
+fn misuse_text(misuse: TaskMisuse) -> &'static str
     ensures { result.now ≡ misuse_text misuse }
 {
     match misuse {
-        Misuse::Words => "error: these are not as many words as a command has\n",
-        Misuse::Command => "error: no such command\n",
-        Misuse::FileName => "error: the name of the file has a slash\n",
-        Misuse::NoFolder => "error: the name of the folder is empty\n",
-        Misuse::NoFile => "error: the name of the file is empty\n",
-        Misuse::NoText => "error: a word is no text in UTF-8\n",
+        TaskMisuse::Words => "error: these are not as many words as a command has\n",
+        TaskMisuse::Command => "error: no such command\n",
+        TaskMisuse::FileName => "error: the name of the file has a slash\n",
+        TaskMisuse::NoFolder => "error: the name of the folder is empty\n",
+        TaskMisuse::NoFile => "error: the name of the file is empty\n",
+        TaskMisuse::NoText => "error: a word is no text in UTF-8\n",
     }
 }
 
@@ -199,7 +199,7 @@ fn write_passed<W: Output>(writer: &mut W, passed: &[Passed]) -> io::Result<()>
 }
 
 // The line of a generation.
-fn write_told<W: Output>(writer: &mut W, told: &Told) -> io::Result<()>
+fn write_told<W: Output>(writer: &mut W, told: &FoundGeneration) -> io::Result<()>
     ensures text { OnOk result (Appends (W.contents writer.old) (W.contents writer.new) (told_text told.now)) }
     ensures failed { OnErr result (W.has_failed writer.new) }
 {
@@ -226,7 +226,7 @@ fn write_no_checkpoint<W: Output>(writer: &mut W) -> io::Result<()>
     write_pieces(writer, &[Piece::Text("no checkpoint\n")])
 }
 
-fn write_each<W: Output>(writer: &mut W, told: &[Told]) -> io::Result<()>
+fn write_each<W: Output>(writer: &mut W, told: &[FoundGeneration]) -> io::Result<()>
     ensures text { OnOk result (Appends (W.contents writer.old) (W.contents writer.new) (flat_map told_text told.now)) }
     ensures failed { OnErr result (W.has_failed writer.new) }
 {
@@ -237,7 +237,7 @@ fn write_each<W: Output>(writer: &mut W, told: &[Told]) -> io::Result<()>
 }
 
 // A line for each generation, or that there is none.
-fn write_checked<W: Output>(writer: &mut W, told: &[Told]) -> io::Result<()>
+fn write_checked<W: Output>(writer: &mut W, told: &[FoundGeneration]) -> io::Result<()>
     ensures text { OnOk result (Appends (W.contents writer.old) (W.contents writer.new) (checked_text told.now)) }
     ensures failed { OnErr result (W.has_failed writer.new) }
 {

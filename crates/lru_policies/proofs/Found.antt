@@ -5,7 +5,7 @@ use Rattle.std.specs.List.{FoldsTo}
 use Rattle.std.proofs.lemmas.Fn.{FoldsTo-push}
 use Rattle.std.proofs.lemmas.List.{take_more}
 use mir.Val.{bool_byte}
-use Rattle.lru_traces.specs.declared.player.Request.{Request}
+use Rattle.lru_policies.specs.declared.player.Request.{Request}
 use Rattle.lru_policies.specs.Policies.{Counts}
 
 byte_is : (b : Bool) → bool_byte b ≡ (if b then 1 else 0)

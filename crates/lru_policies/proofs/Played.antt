@@ -2,9 +2,9 @@
 use Rattle.std.proofs.Common.{ℕ, ◌+◌, ◌%◌, ◌^◌, ◌≤◌, List, [], ◌∷◌, length, arith}
 use Rattle.std.specs.Prelude.{Bool, true, false, if◌then◌else◌}
 use Rattle.lru_shard.specs.Row.{is_held}
-use Rattle.lru_traces.specs.declared.player.Request.{Request}
-use Rattle.lru_traces.specs.declared.player.Tally.{Tally}
-use Rattle.lru_traces.specs.Traces.{Rows, kept_after, tally_after, played_on, played, no_tally}
+use Rattle.lru_policies.specs.declared.player.Request.{Request}
+use Rattle.lru_policies.specs.declared.player.Tally.{Tally}
+use Rattle.lru_policies.specs.Traces.{Rows, kept_after, tally_after, played_on, played, no_tally}
 
 remainder_le : (x : ℕ) → x % 2 ^ 64 ≤ x
 remainder_le x = omega arith

@@ -3,15 +3,15 @@ use Rattle.std.proofs.Common.{◌≡◌, ◌∙◌, sym, ap, subst, refl, ℕ, L
 use Rattle.std.specs.Prelude.{Option, Some, None, Ok, false, is_some, nat_eq}
 use Rattle.std.specs.List.{FoldsTo}
 use Rattle.lru_index.specs.declared.hashing.SeededHashes.{SeededHashes}
-use Rattle.lru_entries.specs.declared.entry.Entry.{Entry}
-use Rattle.lru_entries.specs.Entries.{IsShown}
-use Rattle.lru_cache.specs.Cache.{Puts, entry_of}
+use Rattle.lru_owned_cache.specs.declared.entry.Entry.{Entry}
+use Rattle.lru_owned_cache.specs.Entries.{IsShown}
+use Rattle.lru_owned_cache.specs.Cache.{Puts, entry_of}
 use Rattle.lru_segmented.specs.Segmented.{entries}
 use Rattle.lru_segmented.specs.Segmented.{Puts as PutsLower}
-use Rattle.lru_sketch.specs.Sketch.{Counted}
+use Rattle.lru_admission.specs.Sketch.{Counted}
 use Rattle.lru_admission.specs.Admission.{watched, PutsIfAsked}
-use Rattle.lru_traces.specs.declared.player.Request.{Request}
-use Rattle.lru_traces.specs.Traces.{load}
+use Rattle.lru_policies.specs.declared.player.Request.{Request}
+use Rattle.lru_policies.specs.Traces.{load}
 use Rattle.lru_policies.specs.Policies.{Plain, InSegments, Asking, Unseen, after_use}
 
 abbrev pub Object : Type 0

@@ -2,13 +2,13 @@
 use Rattle.std.specs.Prelude.{◌≡◌, ℕ, ◌+◌, ◌*◌, ◌/◌, ◌<◌, ◌⊎◌, min, List, Bool, true, false, None, Ok, IsSome, nat_eq, nat_lt, ◌^◌, if◌then◌else◌}
 use Rattle.std.specs.List.{FoldsTo}
 use Rattle.lru_index.specs.declared.hashing.SeededHashes.{SeededHashes}
-use Rattle.lru_cache.specs.Cache.{Cached, Puts, entry_of, used, with_entries}
+use Rattle.lru_owned_cache.specs.Cache.{Cached, Puts, entry_of, used, with_entries}
 use Rattle.lru_segmented.specs.Segmented.{Segmented, Uses, entries}
 use Rattle.lru_segmented.specs.Segmented.{Puts as PutsLower}
-use Rattle.lru_sketch.specs.Sketch.{counted}
+use Rattle.lru_admission.specs.Sketch.{counted}
 use Rattle.lru_admission.specs.Admission.{Watched, watched, TurnsAway, PutsIfAsked}
-use Rattle.lru_traces.specs.declared.player.Request.{Request}
-use Rattle.lru_traces.specs.Traces.{load}
+use Rattle.lru_policies.specs.declared.player.Request.{Request}
+use Rattle.lru_policies.specs.Traces.{load}
 
 module _ {C : Type 0} (Asks : C → Request → Bool → C → Type 0) where
   -- a cache that has found so many objects is asked for one more

@@ -2,15 +2,15 @@
 ghost use Rattle.std.specs.Prelude.{◌≡◌, ◌≤◌, Bool, false, length, IfOk};
 ghost use Rattle.std.specs.List.{FoldsTo};
 ghost use Rattle.lru_index.specs.Hashing.{key_hash};
-ghost use Rattle.lru_traces.specs.declared.player.Request.{Request};
+ghost use Rattle.lru_policies.specs.declared.player.Request.{Request};
 ghost use Rattle.lru_policies.specs.Policies.{Counts, AsksFirstCome, AsksSegments, AsksSketch};
 
+use crate::player::Request;
 use crate::policies::Refusal;
 use lru_admission::admission::{AskingCache, NotAdmitted};
-use lru_cache::cache::{Cache, Cause};
 use lru_index::hashing::{SeededHasher, SeededHashes};
+use lru_owned_cache::cache::{Cache, Cause};
 use lru_segmented::segmented::SegmentedCache;
-use lru_traces::player::Request;
 use std::hash::{BuildHasher, Hash, Hasher};
 
 /// A cache under a policy of its own.

@@ -3,16 +3,16 @@ ghost use Rattle.std.specs.Prelude.{◌≡◌, ◌≤◌, length, IfOk};
 ghost use Rattle.std.specs.List.{All};
 
 use crate::future::only_size;
+use crate::player::Request;
 use crate::policies::{MANY, POLICIES, Policy, Refusal, hits};
-use lru_traces::player::Request;
-use lru_traces::table::Percent;
+use crate::table::Percent;
 use std::alloc::Global;
 use std::fmt;
 use std::fmt::Display;
 
 /// How many requests found their object under a limit, by each of `POLICIES` in their order.
 #[derive(Clone, Copy, Debug, PartialEq, Eq)]
-pub struct Row {
+pub struct HitsRow {
     /// The limit.
     pub limit: usize,
     /// The hits.
@@ -24,11 +24,11 @@ pub struct Row {
 /// # Errors
 ///
 /// As for `hits`.
-pub fn row_of(alloc: Global, limit: usize, requests: &[Request]) -> Result<Row, Refusal>
+pub fn row_of(alloc: Global, limit: usize, requests: &[Request]) -> Result<HitsRow, Refusal>
     ensures limit { IfOk result (λ row. row.limit ≡ limit) }
     ensures hits { IfOk result (λ row. All (λ n. n ≤ length requests.now) row.hits) }
 {
-    Ok(Row {
+    Ok(HitsRow {
         limit,
         hits: [
             hits(alloc, POLICIES[0], limit, requests)?,
@@ -94,19 +94,19 @@ impl Display for Head {
 
 /// A line of a table: a limit, and the share of the requests that each policy found.
 #[derive(Clone, Copy)]
-pub struct Line<'a> {
-    row: &'a Row,
+pub struct TableLine<'a> {
+    row: &'a HitsRow,
     requests: usize,
 }
 
-impl<'a> Line<'a> {
+impl<'a> TableLine<'a> {
     /// That of a row, of so many requests.
-    pub fn new(row: &'a Row, requests: usize) -> Self {
-        Line { row, requests }
+    pub fn new(row: &'a HitsRow, requests: usize) -> Self {
+        TableLine { row, requests }
     }
 }
 
-impl Display for Line<'_> {
+impl Display for TableLine<'_> {
     fn fmt<W: fmt::Write>(&self, f: &mut fmt::Formatter<W>) -> fmt::Result {
         write!(f, "{}", self.row.limit)?;
         for part in self.row.hits {

@@ -1,8 +1,8 @@
 //! A plot of what each policy finds, as SVG.
 
-use crate::compared::{Name, Row, is_exact};
+use crate::compared::{HitsRow, Name, is_exact};
+use crate::player::Request;
 use crate::policies::{POLICIES, Policy};
-use lru_traces::player::Request;
 use std::fmt;
 use std::fmt::Display;
 
@@ -20,7 +20,7 @@ const HEIGHT: u64 = 300;
 #[derive(Clone, Copy)]
 pub struct Curves<'a> {
     name: &'a str,
-    rows: &'a [Row],
+    rows: &'a [HitsRow],
     requests: u64,
     is_exact: bool,
 }
@@ -56,7 +56,7 @@ fn write_plain<W: fmt::Write>(f: &mut fmt::Formatter<W>, text: &str) -> fmt::Res
 
 impl<'a> Curves<'a> {
     /// The curves of rows of one trace.
-    pub fn new(name: &'a str, requests: &[Request], rows: &'a [Row]) -> Self {
+    pub fn new(name: &'a str, requests: &[Request], rows: &'a [HitsRow]) -> Self {
         Curves {
             name,
             rows,

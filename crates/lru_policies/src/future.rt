@@ -2,8 +2,8 @@
 ghost use Rattle.std.specs.Prelude.{◌≡◌, ◌≤◌, max, length, vec_len, IfOk, IfSome};
 ghost use Rattle.std.specs.List.{All};
 
+use crate::player::Request;
 use lru_rows::rows::Rows;
-use lru_traces::player::Request;
 use std::alloc::{AllocError, Global};
 use std::collections::BTreeSet;
 

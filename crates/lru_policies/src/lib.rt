@@ -1,14 +1,27 @@
-//! Policies of caches, played over one trace beside the optimum that knows the future, and traces to play them over.
-//! It is what `trace_player compare` and `trace_player make` do. What an LRU finds is what `lru_traces` proves; what the others
-//! find is told by the calls of their caches, and compared with plain simulations (`lru_policies_tests`).
+//! Traces of requests, what caches under limits make of them, and policies played over one trace beside the optimum that knows the future.
+//!
+//! It is all that `trace_player` does. The tallies of an LRU are those of the definition, by one pass for all limits where all sizes are
+//! 1; what other policies find is told by the calls of their caches, and compared with plain simulations (`lru_policies_tests`). It stands
+//! on one shard (`lru_shard`) and on the caches.
 #![tactic(auto)]
 
 pub(crate) mod asked;
 pub mod compared;
 pub mod curves;
 pub mod future;
+mod help;
+pub mod limits;
 pub mod made;
+pub mod numbers;
+pub mod one_pass;
+pub mod plain_program;
+pub mod player;
+pub mod plot;
 pub mod policies;
 pub mod program;
+pub mod progress;
+pub mod requests;
 pub mod sampling;
+pub mod settings;
+pub mod table;
 pub mod words;

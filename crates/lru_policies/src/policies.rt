@@ -1,21 +1,21 @@
 //! Policies: what a cache keeps.
 ghost use Rattle.std.specs.Prelude.{◌≡◌, ◌≤◌, ℕ, length, IfOk};
 ghost use Rattle.lru_index.specs.Hashing.{key_hash, unseeded};
-ghost use Rattle.lru_cache.specs.Cache.{empty, hashes_from};
+ghost use Rattle.lru_owned_cache.specs.Cache.{empty, hashes_from};
 ghost use Rattle.lru_segmented.specs.Segmented.{empty as segments};
-ghost use Rattle.lru_sketch.specs.Sketch.{fresh};
+ghost use Rattle.lru_admission.specs.Sketch.{fresh};
 ghost use Rattle.lru_admission.specs.Admission.{watched};
-ghost use Rattle.lru_traces.specs.Traces.{played};
+ghost use Rattle.lru_policies.specs.Traces.{played};
 ghost use Rattle.lru_policies.specs.Policies.{Finds, AsksFirstCome, AsksSegments, AsksSketch, tenths_of};
 
 use crate::asked::hits_in;
 use crate::future::{hits_at_best, next_uses};
+use crate::player::{Request, play};
 use lru_admission::admission::AskingCache;
-use lru_cache::cache::Cache;
 use lru_index::hashing::{SeededHasher, SeededHashes};
+use lru_owned_cache::cache::Cache;
 use lru_segmented::segmented::SegmentedCache;
 use lru_shard::unit::Cause;
-use lru_traces::player::{Request, play};
 use std::alloc::{AllocError, Global};
 use std::fmt;
 use std::fmt::Display;

@@ -1,14 +1,14 @@
-//! The program `trace_player`: the words `compare`, `sample` and `make`, and all others as `lru_traces` has them.
+//! The program `trace_player`: the words `compare`, `sample` and `make`, and all others as `plain_program` has them.
 
-use crate::compared::{Head, Line, Row, is_exact, row_of};
+use crate::compared::{Head, HitsRow, TableLine, is_exact, row_of};
 use crate::curves::Curves;
 use crate::made::{Recipe, keys_of};
+use crate::plain_program;
+use crate::plain_program::{BadLine, read_into, read_trace};
+use crate::player::Request;
+use crate::progress::Progress;
 use crate::sampling::Sample;
 use crate::words::{Asked, Comparison, asked_of};
-use lru_traces::player::Request;
-use lru_traces::program;
-use lru_traces::program::{BadLine, read_into, read_trace};
-use lru_traces::progress::Progress;
 use std::io::{BufReader, BufWriter, Write};
 use std::process::ExitCode;
 use std::{env, fs, io};
@@ -57,10 +57,10 @@ fn words_of(rt: HostRuntime) -> io::Result<Vec<String>> {
 
 fn answer(rt: HostRuntime, words: &[String]) -> io::Result<ExitCode> {
     match asked_of(rt.alloc(), words)? {
-        Asked::Other => program::run(rt),
+        Asked::Other => plain_program::run(rt),
         Asked::Help => {
             // (it knows the same word)
-            let code = program::run(rt)?;
+            let code = plain_program::run(rt)?;
             tell_more(rt)?;
             Ok(code)
         }
@@ -162,7 +162,7 @@ fn tell_rows(
     name: &str,
     limits: &[usize],
     requests: &[Request],
-) -> io::Result<Option<Vec<Row>>> {
+) -> io::Result<Option<Vec<HitsRow>>> {
     println!(rt; "{name}: {} requests", requests.len())?;
     println!(rt; "{}", Head::new(is_exact(requests)))?;
     let mut rows = Vec::new(rt.alloc());
@@ -172,7 +172,7 @@ fn tell_rows(
         progress.clear(rt);
         match played {
             Ok(row) => {
-                println!(rt; "{}", Line::new(&row, requests.len()))?;
+                println!(rt; "{}", TableLine::new(&row, requests.len()))?;
                 rows.push(row)?;
             }
             Err(refusal) => {

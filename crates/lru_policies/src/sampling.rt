@@ -9,12 +9,12 @@ ghost use Rattle.lru_index.specs.Hashing.{key_hash};
 ghost use Rattle.lru_policies.specs.Policies.{is_chosen};
 
 use crate::asked::passed;
+use crate::plain_program::Takes;
+use crate::player::Request;
 use crate::policies::Refusal;
-use lru_cache::cache::Cache;
+use crate::table::Percent;
 use lru_index::hashing::{SeededHasher, SeededHashes, hash_of};
-use lru_traces::player::Request;
-use lru_traces::program::Takes;
-use lru_traces::table::Percent;
+use lru_owned_cache::cache::Cache;
 use std::alloc::{AllocError, Global};
 use std::collections::BTreeMap;
 use std::fmt;
@@ -36,17 +36,17 @@ pub fn is_sampled(hashes: &SeededHashes, rate: u64, key: u64) -> bool
 
 // A cache of the sample's objects, under its part of a limit.
 #[derive(Drop)]
-struct Part {
+struct CachePart {
     limit: usize,
     cache: Cache<u64, ()>,
     // of each key that was asked for
     misses: BTreeMap<u64, u64>,
 }
 
-impl Part {
+impl CachePart {
     fn new(alloc: Global, limit: usize, rate: u64) -> Result<Self, AllocError> {
         let part = (limit as u64 / rate.max(1)).max(1) as usize;
-        Ok(Part {
+        Ok(CachePart {
             limit,
             cache: Cache::new(alloc, part, usize::MAX)?,
             misses: BTreeMap::new(alloc),
@@ -99,7 +99,7 @@ pub struct Sample {
     pub requests: u64,
     /// How many of them were for keys of the sample.
     pub sampled: u64,
-    parts: Vec<Part>,
+    parts: Vec<CachePart>,
 }
 
 impl Sample {
@@ -115,7 +115,7 @@ impl Sample {
     {
         let mut parts = Vec::with_capacity(alloc, limits.len())?;
         for limit in limits {
-            parts.push(Part::new(alloc, *limit, rate)?)?;
+            parts.push(CachePart::new(alloc, *limit, rate)?)?;
         }
         Ok(Sample {
             rate,

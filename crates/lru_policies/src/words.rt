@@ -1,9 +1,9 @@
-//! What the words of the program ask for, beside what `lru_traces` knows.
+//! What the words of the program ask for, beside what `settings` knows.
 
+use crate::limits::{LimitFault, add_limit, limit_of};
 use crate::made::{Kind, Recipe};
+use crate::numbers::number_from;
 use crate::sampling::MOST_RATE;
-use lru_traces::limits::{LimitFault, add_limit, limit_of};
-use lru_traces::numbers::number_from;
 use std::alloc::{AllocError, Global};
 use std::fmt;
 use std::fmt::Display;
@@ -37,7 +37,7 @@ pub enum Asked {
         /// The limits, in the order in which they are given, each once.
         limits: Vec<usize>,
     },
-    /// What `lru_traces` knows.
+    /// What `settings` knows.
     Other,
     /// Nothing that the program does.
     Misused(Misuse),

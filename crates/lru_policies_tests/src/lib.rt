@@ -1,5 +1,5 @@
-//! Tests of `lru_policies`: a worked trace, each policy beside a plain simulation of it, the optimum beside every choice there
-//! is, samples, and what the program's words ask for.
+//! Tests of `lru_policies`: lines, shares and a worked trace, each policy beside a plain simulation of it, the optimum beside every choice
+//! there is, samples, and what the program's words ask for.
 //!
 //! What is expected is worked out by hand, or is what a plain simulation answers, and never what the program answered.
 #![tactic(auto)]
@@ -8,5 +8,7 @@
 mod plain;
 #[cfg(test)]
 mod policies_tests;
+#[cfg(test)]
+mod trace_rows;
 #[cfg(test)]
 mod words_tests;

@@ -1,8 +1,8 @@
 //! Plain simulations: lists of objects, of which those that go first stand first.
+use lru_admission::sketch::Sketch;
 use lru_index::hashing::{SeededHashes, hash_of};
+use lru_policies::player::Request;
 use lru_policies::policies::Policy;
-use lru_sketch::sketch::Sketch;
-use lru_traces::player::Request;
 use std::alloc::{AllocError, Global};
 
 /// What objects weigh together.

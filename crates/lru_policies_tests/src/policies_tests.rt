@@ -2,10 +2,10 @@
 use crate::plain::{most_of_all, plain_hits};
 use lru_policies::future::{hits_at_best, next_uses};
 use lru_policies::made::{Kind, Recipe, keys_of};
+use lru_policies::plain_program::Takes;
+use lru_policies::player::Request;
 use lru_policies::policies::{POLICIES, Policy, Refusal, hits};
 use lru_policies::sampling::Sample;
-use lru_traces::player::Request;
-use lru_traces::program::Takes;
 use std::alloc::{AllocError, Global};
 use std::test::Fail;
 

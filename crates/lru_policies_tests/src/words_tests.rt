@@ -1,8 +1,8 @@
 //! What the words of the program ask for, and the texts of tables.
-use lru_policies::compared::{Head, Line, is_exact, row_of};
+use lru_policies::compared::{Head, TableLine, is_exact, row_of};
+use lru_policies::player::Request;
 use lru_policies::sampling::Estimate;
 use lru_policies::words::{Asked, asked_of};
-use lru_traces::player::Request;
 use std::alloc::{AllocError, Global};
 use std::test::Fail;
 
@@ -92,7 +92,7 @@ fn table(alloc: Global) -> Result<String, AllocError> {
         error: 123,
     };
     match row_of(alloc, 3, &requests) {
-        Ok(row) => format!(in alloc; "{head}\n{}\n{estimate}", Line::new(&row, 3)),
+        Ok(row) => format!(in alloc; "{head}\n{}\n{estimate}", TableLine::new(&row, 3)),
         Err(refusal) => format!(in alloc; "{refusal:?}"),
     }
 }

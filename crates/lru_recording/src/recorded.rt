@@ -3,7 +3,7 @@ ghost use Rattle.std.specs.Prelude.{◌≡◌, ◌+◌, ◌-◌, ◌%◌, ◌<�
 ghost use Rattle.std.specs.Sync.Mutex.{mutex_guard_value};
 ghost use Rattle.lru_recording.specs.declared.entry.Reply.TheVariants.{Flag, Weight};
 ghost use Rattle.lru_recording.specs.Stamps.{GetsReceipt};
-ghost use Rattle.lru_hands.specs.Hands.{up};
+ghost use Rattle.lru_sharing.specs.Hands.{up};
 ghost use Rattle.lru_recording.specs.Ties.{hand};
 ghost use Rattle.lru_recording.specs.Tied.{AreTied};
 ghost use Rattle.lru_shard.specs.Limits.{cap_of};
@@ -15,7 +15,7 @@ ghost use Rattle.lru_recording.specs.Replies.{refused, weighed, paired, incremen
 ghost use Rattle.lru_shard.specs.Unit.{Updates};
 
 pub use crate::entry::{Call, Entry, Names, Receipt, Reply};
-use crate::gathered::{Gathered, Room};
+use crate::gathered::{Gathered, GatheringRoom};
 pub use crate::journal::Seat;
 use crate::journal::compare_all;
 use crate::recording::Recording;
@@ -36,7 +36,7 @@ use std::sync::{Mutex, MutexGuard, Wait};
 #[derive(Drop)]
 struct Rest<T, B: Registry, const N: usize> {
     token: Token,
-    room: Room<T, N>,
+    room: GatheringRoom<T, N>,
     brand: PhantomData<B>,
     ghost here: { token.table_id ≡ B.table },
     ghost empty: { token.me ≡ (hand [] [] [] [], []) },
@@ -46,7 +46,7 @@ struct Rest<T, B: Registry, const N: usize> {
 /// the key modulo N.
 ///
 /// It answers as an `Lru` does. Each call takes a seat, and leaves an entry in its shard's history and a receipt with
-/// the seat. Room for both comes first: where that is refused, nothing happened, and nothing is noted.
+/// the seat. GatheringRoom for both comes first: where that is refused, nothing happened, and nothing is noted.
 #[derive(Drop)]
 pub struct RecordedLru<T, B: Registry, const N: usize> {
     tie: Tie,
@@ -160,7 +160,7 @@ impl<T: Drop, B: Registry, const N: usize> RecordedLru<T, B, N> {
             watermark,
             rest: Mutex::new(Rest {
                 token: rest,
-                room: Room::new(alloc)?,
+                room: GatheringRoom::new(alloc)?,
                 brand: PhantomData,
             }),
             names: Names {

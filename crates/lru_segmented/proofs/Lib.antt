@@ -10,3 +10,8 @@ pub mod Receding
 pub mod Retained
 pub mod Drained
 pub mod Putting
+pub mod Answered
+pub mod Living
+pub mod UnitPutting
+pub mod AsRows
+pub mod UnitWalked

@@ -3,12 +3,12 @@ use Rattle.std.proofs.Common.{◌≡◌, ℕ, ◌+◌, ◌-◌, ◌<◌, ◌≤�
 use Rattle.std.specs.Prelude.{Option, Bool}
 use Rattle.std.proofs.lemmas.List.{length-append}
 use Rattle.lru_rows.specs.Rows.{most_rows}
-use Rattle.lru_entries.specs.declared.entry.Entry.{Entry}
-use Rattle.lru_entries.specs.Entries.{entry, weight_of}
-use Rattle.lru_cache.specs.declared.cache.Cause.{Cause}
-use Rattle.lru_cache.specs.declared.cache.Cause.TheVariants.{TooHeavy, Full, Memory}
-use Rattle.lru_cache.specs.declared.cache.Refused.{Refused}
-use Rattle.lru_cache.specs.Cache.{Fit, MayRefuse, entry_of, without}
+use Rattle.lru_owned_cache.specs.declared.entry.Entry.{Entry}
+use Rattle.lru_owned_cache.specs.Entries.{entry, weight_of}
+use Rattle.lru_owned_cache.specs.declared.cache.Cause.{Cause}
+use Rattle.lru_owned_cache.specs.declared.cache.Cause.TheVariants.{TooHeavy, Full, Memory}
+use Rattle.lru_owned_cache.specs.declared.cache.Refused.{Refused}
+use Rattle.lru_owned_cache.specs.Cache.{Fit, MayRefuse, entry_of, without}
 use Rattle.lru_segmented.specs.Segmented.{Segmented, entries, plain, removed, with_segments, with_more, IsSegmented, LetsGo, LacksPlace, Enters, Rejoins, Puts}
 use Rattle.lru_segmented.proofs.Lists.{none_some, absent_front, absent_back, absent_both, without_absent, without_absent_key, without_fewer, without-append, not_removed}
 

@@ -3,18 +3,18 @@ ghost use Rattle.std.specs.Prelude.{◌≡◌, ◌+◌, ◌-◌, ◌<◌, ◌≤
 ghost use Rattle.std.specs.Option.{option_map, option_copied};
 ghost use Rattle.lru_index.specs.Hashing.{key_hash, seeded, unseeded};
 ghost use Rattle.lru_rows.specs.Rows.{most_rows};
-ghost use Rattle.lru_entries.specs.Entries.{weight_of, entry};
-ghost use Rattle.lru_cache.specs.Cache.{hashes_from, entry_of, cause_of, parts_of, IsLast};
+ghost use Rattle.lru_owned_cache.specs.Entries.{weight_of, entry};
+ghost use Rattle.lru_owned_cache.specs.Cache.{hashes_from, entry_of, cause_of, parts_of, IsLast};
 ghost use Rattle.lru_segmented.specs.Segmented.{empty, entries, removed, demoted, LetsGo, Limits, PopsLast, PopsFirst, Drains, Uses, UpdatesEntry, Puts, UsesOrPuts, Enters, Rejoins, IsSegmented};
 ghost use Rattle.lru_segmented.specs.Retained.{Retains, RetainsLast};
 
 use crate::iter::SegmentedEntries;
 use crate::keeping::retain_last;
 use crate::seats::{Seats, fits, lower_down};
-use lru_cache::cache::{Cause, Entry, NotPut, Refused};
 use lru_index::alike::SameHashes;
 use lru_index::hashing::SeededHashes;
 use lru_index::keys::Query;
+use lru_owned_cache::cache::{Cause, Entry, NotPut, Refused};
 use lru_rows::rows::{NoPlace, Place};
 use std::alloc::{AllocError, Global};
 use std::hash::{BuildHasher, Hash};

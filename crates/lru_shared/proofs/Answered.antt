@@ -4,13 +4,13 @@ use Rattle.std.specs.Prelude.{Option, Bool, Result, is_some, IfOk, IfErr}
 use Rattle.std.specs.Option.{option_map, option_map_or}
 use Rattle.std.specs.Borrow.{Bor}
 use Rattle.std.proofs.lemmas.Bool.{false≢true}
-use Rattle.lru_entries.specs.declared.entry.Entry.{Entry}
-use Rattle.lru_cache.specs.declared.cache.Cause.{Cause}
-use Rattle.lru_cache.specs.declared.cache.Cause.TheVariants.{TooHeavy, Full, Memory as NoMemory}
-use Rattle.lru_cache.specs.declared.cache.Refused.{Refused}
+use Rattle.lru_owned_cache.specs.declared.entry.Entry.{Entry}
+use Rattle.lru_owned_cache.specs.declared.cache.Cause.{Cause}
+use Rattle.lru_owned_cache.specs.declared.cache.Cause.TheVariants.{TooHeavy, Full, Memory as NoMemory}
+use Rattle.lru_owned_cache.specs.declared.cache.Refused.{Refused}
 use Rattle.lru_shared.specs.declared.calls.NotGot.{NotGot}
 use Rattle.lru_shared.specs.declared.calls.NotGot.TheVariants.{Memory, Unmade, Refused as Unput}
-use Rattle.lru_cache.specs.Cache.{Cached, MayRefuse}
+use Rattle.lru_owned_cache.specs.Cache.{Cached, MayRefuse}
 use Rattle.lru_shared.specs.Shards.{MayDo}
 use Rattle.lru_shared.specs.Relations.{IsRelated, AreRelated}
 use Rattle.lru_shared.specs.Related.{MayGetRelated, MayPutRelated, MayLimitRelated, MayLimitTo, MayRetainRelated}

@@ -5,10 +5,10 @@ use Rattle.std.specs.Option.{option_map_or}
 use Rattle.std.specs.Borrow.{Bor, MutBor}
 use Rattle.std.specs.declared.alloc.AllocError.{AllocError}
 use Rattle.std.proofs.lemmas.List.Elements.{All-nil, All-cons, All-head, All-tail, All-filter}
-use Rattle.lru_entries.specs.declared.entry.Entry.{Entry}
-use Rattle.lru_entries.specs.Entries.{entry, kept_of}
-use Rattle.lru_cache.specs.declared.cache.Refused.{Refused}
-use Rattle.lru_cache.specs.Cache.{Cached, entry_of, without, UpdatesEntry, Puts}
+use Rattle.lru_owned_cache.specs.declared.entry.Entry.{Entry}
+use Rattle.lru_owned_cache.specs.Entries.{entry, kept_of}
+use Rattle.lru_owned_cache.specs.declared.cache.Refused.{Refused}
+use Rattle.lru_owned_cache.specs.Cache.{Cached, entry_of, without, UpdatesEntry, Puts}
 use Rattle.lru_shared.specs.Counting.{ShardOf, Takes, PopsShard, ClearsShardTo, DrainsShardTo, LimitsShardTo, PutsCounted}
 use Rattle.lru_shared.specs.Calls.{Gets, Lends, PutsMissing, RetainsShard}
 use Rattle.lru_shared.specs.Relations.{IsRelated, AreRelated}

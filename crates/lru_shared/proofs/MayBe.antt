@@ -4,8 +4,8 @@ use Rattle.std.specs.Prelude.{Option, Bool, Result, IfSome, IfOk}
 use Rattle.std.specs.Borrow.{Bor, MutBor}
 use Rattle.std.specs.declared.alloc.AllocError.{AllocError}
 use Rattle.std.proofs.lemmas.List.Elements.{All-head, All-tail}
-use Rattle.lru_entries.specs.declared.entry.Entry.{Entry}
-use Rattle.lru_cache.specs.Cache.{entry_of}
+use Rattle.lru_owned_cache.specs.declared.entry.Entry.{Entry}
+use Rattle.lru_owned_cache.specs.Cache.{entry_of}
 use Rattle.lru_shared.specs.Counting.{ShardOf, PopsShard, Takes}
 use Rattle.lru_shared.specs.Calls.{ShowsEntry, IsCloned, Gets, Lends}
 use Rattle.lru_shared.specs.Relations.{IsRelated, AreRelated, IsOf}

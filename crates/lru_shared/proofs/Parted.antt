@@ -4,10 +4,10 @@ use Rattle.std.specs.Prelude.{reverse}
 use Rattle.std.specs.List.{FoldsTo}
 use Rattle.std.proofs.lemmas.List.{length-append}
 use Rattle.std.proofs.lemmas.List.Sums.{sum_by-cons, sum_by-append}
-use Rattle.lru_entries.specs.declared.entry.Entry.{Entry}
-use Rattle.lru_entries.specs.Entries.{weight_of}
-use Rattle.lru_entries.proofs.Lists.{same_head, shown_before, shown_more}
-use Rattle.lru_cache.specs.Cache.{Cached, Fit, Leaves, PopsLast, PopsFirst, Limits, with_entries}
+use Rattle.lru_owned_cache.specs.declared.entry.Entry.{Entry}
+use Rattle.lru_owned_cache.specs.Entries.{weight_of}
+use Rattle.lru_owned_cache.proofs.Lists.{same_head, shown_before, shown_more}
+use Rattle.lru_owned_cache.specs.Cache.{Cached, Fit, Leaves, PopsLast, PopsFirst, Limits, with_entries}
 use Rattle.lru_shared.specs.Counting.{ShardOf, LetsGo, LimitsTo, LimitsShard, LimitsShardTo}
 
 module _ {K V : Type 0} where

@@ -2,10 +2,10 @@
 use Rattle.std.specs.Prelude.{◌≡◌, ℕ, Bool, List, [], length, reverse, Option, Some, None, Result, Ok, Err}
 use Rattle.std.specs.List.{FoldsTo}
 use Rattle.std.specs.Option.{option_map}
-use Rattle.lru_entries.specs.declared.entry.Entry.{Entry}
-use Rattle.lru_entries.specs.Entries.{weight_of}
-use Rattle.lru_cache.specs.declared.cache.Refused.{Refused}
-use Rattle.lru_cache.specs.Cache.{Cached, entry_of, without, with_entries, Clears, Drains, Leaves, Limits, PopsLast, Puts}
+use Rattle.lru_owned_cache.specs.declared.entry.Entry.{Entry}
+use Rattle.lru_owned_cache.specs.Entries.{weight_of}
+use Rattle.lru_owned_cache.specs.declared.cache.Refused.{Refused}
+use Rattle.lru_owned_cache.specs.Cache.{Cached, entry_of, without, with_entries, Clears, Drains, Leaves, Limits, PopsLast, Puts}
 use Rattle.lru_shared.specs.declared.counts.Counts.{Counts}
 use Rattle.lru_shared.specs.declared.counts.Counted.{Counted}
 use Rattle.lru_shared.specs.declared.counts.Size.{Size}

@@ -1,6 +1,6 @@
 -- An entry that is taken out of the first shard that has any.
 use Rattle.std.specs.Prelude.{◌≡◌, ℕ, ◌<◌, ◌≤◌, ◌⊎◌, List, [], Option, Some, None, IsSome}
-use Rattle.lru_entries.specs.declared.entry.Entry.{Entry}
+use Rattle.lru_owned_cache.specs.declared.entry.Entry.{Entry}
 use Rattle.lru_shared.specs.Shards.{Sees, Owns}
 use Rattle.lru_shared.specs.Counting.{ShardOf, PopsShard}
 

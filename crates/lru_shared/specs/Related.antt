@@ -2,10 +2,10 @@
 use Rattle.std.specs.Prelude.{◌≡◌, ℕ, Bool, true, List, reverse, Option, Result}
 use Rattle.std.specs.List.{FoldsTo}
 use Rattle.std.specs.Borrow.{Bor, MutBor}
-use Rattle.lru_entries.specs.declared.entry.Entry.{Entry}
-use Rattle.lru_entries.specs.Entries.{IsShown}
-use Rattle.lru_cache.specs.declared.cache.Refused.{Refused}
-use Rattle.lru_cache.specs.Cache.{Cached, Puts, Limits, Retains}
+use Rattle.lru_owned_cache.specs.declared.entry.Entry.{Entry}
+use Rattle.lru_owned_cache.specs.Entries.{IsShown}
+use Rattle.lru_owned_cache.specs.declared.cache.Refused.{Refused}
+use Rattle.lru_owned_cache.specs.Cache.{Cached, Puts, Limits, Retains}
 use Rattle.lru_shared.specs.Relations.{IsRelated, AreRelated, IsOf}
 use Rattle.lru_shared.specs.Counting.{LimitsTo}
 use Rattle.lru_shared.specs.Calls.{VisitsEach, VisitsEachTo}

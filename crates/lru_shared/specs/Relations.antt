@@ -1,6 +1,6 @@
 -- Entries whose values stand in a relation to their keys.
 use Rattle.std.specs.Prelude.{◌≡◌, Bool, true, List, All}
-use Rattle.lru_entries.specs.declared.entry.Entry.{Entry}
+use Rattle.lru_owned_cache.specs.declared.entry.Entry.{Entry}
 
 module _ {K V : Type 0} (holds : K → V → Type 0) where
   -- a value stands in the relation to this key

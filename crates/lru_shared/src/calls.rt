@@ -1,8 +1,8 @@
 //! The calls on keys and values that stand in shards, written once: of shards of one owner and of shards behind locks.
 ghost use Rattle.std.specs.Prelude.{◌≡◌, ℕ, ◌<◌, ◌⊎◌, Ok, Err, None, is_some, length, IfOk, IfErr};
 ghost use Rattle.lru_index.specs.Hashing.{key_hash};
-ghost use Rattle.lru_cache.specs.Cache.{entry_of};
-ghost use Rattle.lru_entries.specs.Entries.{weight_of};
+ghost use Rattle.lru_owned_cache.specs.Cache.{entry_of};
+ghost use Rattle.lru_owned_cache.specs.Entries.{weight_of};
 ghost use Rattle.lru_shared.specs.Shards.{home};
 ghost use Rattle.lru_shared.specs.Calls.{ShowsEntry, VisitsEachTo, Gets, Lends, PutsMissing, RetainsShard, GetsOrPuts, EndsMaking};
 ghost use Rattle.lru_shared.specs.Relations.{IsRelated};
@@ -14,10 +14,10 @@ use crate::kept::Kept;
 use crate::limits::Limits;
 use crate::one;
 use crate::shards::{Shards, give_up, home_of};
-use lru_cache::cache::{Cause, Entry, Refused};
 use lru_index::alike::SameHashes;
 use lru_index::hashing::hash_of;
 use lru_index::keys::Query;
+use lru_owned_cache::cache::{Cause, Entry, Refused};
 use std::alloc::AllocError;
 use std::hash::{BuildHasher, Hash};
 

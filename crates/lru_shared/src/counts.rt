@@ -4,7 +4,7 @@ ghost use Rattle.std.specs.Option.{option_map};
 ghost use Rattle.lru_shared.specs.Counts.{none_left, more_left, no_counts, both_counts, looked, refused, left_by, fewer, all_but, put_counted, total};
 
 use crate::shards::Shards;
-use lru_cache::cache::Entry;
+use lru_owned_cache::cache::Entry;
 
 /// Something that is called, and what its calls met.
 #[derive(Drop)]

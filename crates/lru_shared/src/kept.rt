@@ -8,9 +8,9 @@ ghost use Rattle.lru_shared.specs.Related.{KeepsRelation};
 
 use crate::limits::Limits;
 use crate::one::Shard;
-use lru_cache::cache::{Entry, Refused};
 use lru_index::alike::SameHashes;
 use lru_index::keys::Query;
+use lru_owned_cache::cache::{Entry, Refused};
 use std::alloc::AllocError;
 use std::hash::{BuildHasher, Hash};
 

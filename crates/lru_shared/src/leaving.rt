@@ -2,11 +2,11 @@
 //! on at the next cache.
 ghost use Rattle.std.specs.Prelude.{◌≡◌, ◌≤◌, ◌&&◌, nat_le, [], length, reverse};
 ghost use Rattle.std.specs.List.{FoldsTo};
-ghost use Rattle.lru_entries.specs.Entries.{weight_of};
-ghost use Rattle.lru_cache.specs.Cache.{with_entries};
+ghost use Rattle.lru_owned_cache.specs.Entries.{weight_of};
+ghost use Rattle.lru_owned_cache.specs.Cache.{with_entries};
 ghost use Rattle.lru_shared.specs.Counting.{LetsGo, LimitsTo};
 
-use lru_cache::cache::{Cache, Entry};
+use lru_owned_cache::cache::{Cache, Entry};
 use std::hash::{BuildHasher, Hash};
 
 // Whether the entries are within these limits.

@@ -5,7 +5,7 @@ ghost use Rattle.lru_shared.specs.Shards.{MaySee, MayDo};
 
 use crate::shards::Shards;
 use crossbeam_utils::CachePadded;
-use lru_short_locks::ShortMutex;
+use lru_sharing::ShortMutex;
 use std::alloc::{AllocError, Global};
 use std::sync::{Condvar, MutexGuard, Wait};
 

@@ -1,7 +1,7 @@
 //! What is done to one shard and counted, by a hash that was made to tell the shard.
 ghost use Rattle.std.specs.Prelude.{◌≡◌, is_some};
 ghost use Rattle.lru_index.specs.Hashing.{key_hash};
-ghost use Rattle.lru_cache.specs.Cache.{entry_of};
+ghost use Rattle.lru_owned_cache.specs.Cache.{entry_of};
 ghost use Rattle.lru_shared.specs.Calls.{ShowsEntry, VisitsEachTo};
 ghost use Rattle.lru_shared.specs.Counting.{size_of};
 
@@ -9,9 +9,9 @@ use crate::counts::{Counted, Size, Why, weight_in};
 use crate::kept::Kept;
 use crate::leaving::{clear, drain, set_limits};
 use crate::limits::Limits;
-use lru_cache::cache::{Cache, Entry, Refused};
 use lru_index::alike::SameHashes;
 use lru_index::keys::Query;
+use lru_owned_cache::cache::{Cache, Entry, Refused};
 use std::alloc::AllocError;
 use std::hash::{BuildHasher, Hash};
 

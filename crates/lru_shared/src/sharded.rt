@@ -1,8 +1,8 @@
 //! A cache of one owner in shards: what a shared cache is behind its locks.
 ghost use Rattle.std.specs.Prelude.{◌≡◌, ◌<◌, ◌≤◌, ◌/◌, is_some, length, replicate, IfOk};
 ghost use Rattle.lru_index.specs.Hashing.{key_hash, seeded, unseeded};
-ghost use Rattle.lru_cache.specs.Cache.{hashes_from, entry_of};
-ghost use Rattle.lru_entries.specs.Entries.{weight_of};
+ghost use Rattle.lru_owned_cache.specs.Cache.{hashes_from, entry_of};
+ghost use Rattle.lru_owned_cache.specs.Entries.{weight_of};
 ghost use Rattle.lru_shared.specs.Shards.{home, Sees, Owns, OwnsEach};
 ghost use Rattle.lru_shared.specs.Turns.{InTurn, EachInTurn, GoesOn};
 ghost use Rattle.lru_shared.specs.Calls.{ShowsEntry, VisitsEach, VisitsEachTo, Gets, Lends, RetainsShard, GetsOrPuts};
@@ -17,10 +17,10 @@ use crate::limits::Limits;
 use crate::one::Shard;
 use crate::shards::Owned;
 use crate::{calls, turns};
-use lru_cache::cache::{Cache, Entry, Refused};
 use lru_index::alike::SameHashes;
 use lru_index::hashing::SeededHashes;
 use lru_index::keys::Query;
+use lru_owned_cache::cache::{Cache, Entry, Refused};
 use std::alloc::{AllocError, Global};
 use std::fmt;
 use std::fmt::{Debug, Formatter};

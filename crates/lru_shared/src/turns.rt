@@ -9,7 +9,7 @@ use crate::calls::{clear, drain, retain, set_limits, visit_each};
 use crate::kept::Kept;
 use crate::limits::Limits;
 use crate::shards::Shards;
-use lru_cache::cache::Entry;
+use lru_owned_cache::cache::Entry;
 use std::hash::{BuildHasher, Hash};
 
 // Lets all entries of all shards go.

@@ -2,7 +2,7 @@
 use Rattle.std.proofs.Common.{ℕ, None, Ok, Err, inl, inr, sym, ap, subst}
 use Rattle.std.specs.Prelude.{◌⊎◌, Option, Bool, Result, IfErr}
 use Rattle.std.specs.Borrow.{MutBor}
-use Rattle.lru_cache.specs.declared.cache.Refused.{Refused}
+use Rattle.lru_owned_cache.specs.declared.cache.Refused.{Refused}
 use Rattle.lru_shared.specs.declared.calls.NotGot.{NotGot}
 use Rattle.lru_shared.specs.declared.calls.NotGot.TheVariants.{Memory, Unmade, Refused as Unput}
 use Rattle.lru_shared.specs.Shards.{MayDo, Acts, Begins}

@@ -1,7 +1,7 @@
 -- What the answers of a cache that threads share say by themselves, where nothing is known of the entries that others may change.
 use Rattle.std.specs.Prelude.{ℕ, Bool, Option, Result}
-use Rattle.lru_cache.specs.declared.cache.Refused.{Refused}
-use Rattle.lru_cache.specs.Cache.{Cached, Puts}
+use Rattle.lru_owned_cache.specs.declared.cache.Refused.{Refused}
+use Rattle.lru_owned_cache.specs.Cache.{Cached, Puts}
 use Rattle.lru_deadlines.specs.declared.deadlines.Until.{Until}
 use Rattle.lru_shared.specs.declared.calls.NotGot.{NotGot}
 use Rattle.lru_shared.specs.Shards.{MayDo}

@@ -1,7 +1,7 @@
 -- Caches whose entries end, of one owner, each a shard of one.
 use Rattle.std.specs.Prelude.{◌≡◌, ℕ, ◌<◌, List, length, replicate, refl}
 use Rattle.std.specs.Coded.{Coded, code_by, coded×, coded_ℕ, coded_list}
-use Rattle.lru_cache.specs.Cache.{cached_code}
+use Rattle.lru_owned_cache.specs.Cache.{cached_code}
 use Rattle.lru_deadlines.specs.Codes.{until_code}
 use Rattle.lru_shared.specs.CountCodes.{counted_code}
 use Rattle.lru_shared.specs.Sharded.{empty_shard}

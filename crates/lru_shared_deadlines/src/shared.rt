@@ -10,14 +10,14 @@ ghost use Rattle.lru_shared_deadlines.specs.Answers.{MayAct, MayChange, MayGetOr
 use crate::ages::Moment;
 pub use crate::ages::{Aged, Ages, Gone};
 use crate::calls;
-use crate::one::Shard;
+use crate::one::DeadlineShard;
 use crate::sharded::empty_shards;
 use crossbeam_utils::CachePadded;
-use lru_cache::cache::Refused;
 use lru_deadlines::deadlines::{DeadlineCache, Until};
 use lru_index::alike::SameHashes;
 use lru_index::hashing::SeededHashes;
 use lru_index::keys::Query;
+use lru_owned_cache::cache::Refused;
 use lru_shared::counts::{Counted, Counts, shard_stats};
 pub use lru_shared::limits::Limits;
 use lru_shared::locked::{Held, Locked, behind_locks};
@@ -31,11 +31,11 @@ use std::sync::atomic::{AtomicUsize, Ordering};
 
 /// A shard under its lock, which is held as long as this is there.
 #[derive(Drop)]
-pub struct LockedShard<'a, K: Hash, V, S: BuildHasher> {
+pub struct LockedDeadlineShard<'a, K: Hash, V, S: BuildHasher> {
     held: Held<'a, Counted<DeadlineCache<K, Aged<V>, S>>>,
 }
 
-impl<'a, K: Hash, V, S: BuildHasher> LockedShard<'a, K, V, S> {
+impl<'a, K: Hash, V, S: BuildHasher> LockedDeadlineShard<'a, K, V, S> {
     /// The entries of the shard, as they are while the lock is held, also those that are past.
     pub fn cache(&self) -> &DeadlineCache<K, Aged<V>, S> {
         &self.held.cache().cache
@@ -161,7 +161,7 @@ impl<K: Hash, V, const N: usize, S: BuildHasher> SharedDeadlineCache<K, V, N, S>
 
     // The shards behind their locks, for which a call waits.
     #[inline(always)]
-    fn locked<'a, W: Wait>(&'a self, rt: &'a W) -> Locked<'a, Shard<K, V, S>, W, N>
+    fn locked<'a, W: Wait>(&'a self, rt: &'a W) -> Locked<'a, DeadlineShard<K, V, S>, W, N>
         ensures some { 0 < N }
         ensures many { length result.shards.now ≡ N }
     {
@@ -213,10 +213,10 @@ impl<K: Hash, V, const N: usize, S: BuildHasher> SharedDeadlineCache<K, V, N, S>
 
     /// Takes the lock of a shard, and holds it as long as what it answers is there. Meanwhile a call that waits for the same
     /// shard has to come from another thread.
-    pub fn lock_shard(&self, rt: &impl Wait, shard: usize) -> LockedShard<'_, K, V, S>
+    pub fn lock_shard(&self, rt: &impl Wait, shard: usize) -> LockedDeadlineShard<'_, K, V, S>
         requires { shard < N }
     {
-        LockedShard {
+        LockedDeadlineShard {
             held: self.shards[shard].lock(rt),
         }
     }

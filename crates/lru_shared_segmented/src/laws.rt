@@ -4,7 +4,7 @@ ghost use Rattle.lru_index.specs.Hashing.{key_hash};
 ghost use Rattle.lru_shared.specs.Shards.{home};
 ghost use Rattle.lru_shared_segmented.specs.Walks.{EachShardIsWalked, NoScanEvicts, ScansTakeTheEnds, NoRequestEvicts};
 
-use lru_cache::cache::Entry;
+use lru_owned_cache::cache::Entry;
 use std::hash::{BuildHasher, Hash};
 
 /// No scan evicts a protected entry of any shard: after any list of looks, and of puts of keys that have no entry, each of

@@ -1,7 +1,7 @@
 //! A segmented cache that threads share.
 ghost use Rattle.std.specs.Prelude.{◌≡◌, ◌<◌, length, vec_len, is_some, IfErr};
-ghost use Rattle.lru_cache.specs.Cache.{entry_of};
-ghost use Rattle.lru_entries.specs.Entries.{weight_of};
+ghost use Rattle.lru_owned_cache.specs.Cache.{entry_of};
+ghost use Rattle.lru_owned_cache.specs.Entries.{weight_of};
 ghost use Rattle.lru_segmented.specs.Segmented.{entries};
 ghost use Rattle.lru_shared.specs.Answers.{HandsBack};
 ghost use Rattle.lru_shared.specs.Calls.{ShowsEntry, VisitsEach};
@@ -9,13 +9,13 @@ ghost use Rattle.lru_shared_segmented.specs.Calls.{Gets, Lends, Takes, PopsShard
 ghost use Rattle.lru_shared_segmented.specs.Answers.{MayBe, MayChange, MayGetOrPut};
 
 use crate::calls;
-use crate::one::Shard;
+use crate::one::SegmentedShard;
 use crate::sharded::empty_shards;
 use crossbeam_utils::CachePadded;
-use lru_cache::cache::{Entry, Refused};
 use lru_index::alike::SameHashes;
 use lru_index::hashing::SeededHashes;
 use lru_index::keys::Query;
+use lru_owned_cache::cache::{Entry, Refused};
 use lru_segmented::segmented::SegmentedCache;
 use lru_shared::counts::{Counted, Counts, shard_stats};
 pub use lru_shared::limits::Limits;
@@ -29,11 +29,11 @@ use std::sync::Wait;
 
 /// A shard under its lock, which is held as long as this is there.
 #[derive(Drop)]
-pub struct LockedShard<'a, K: Hash, V, S: BuildHasher> {
+pub struct LockedSegmentedShard<'a, K: Hash, V, S: BuildHasher> {
     held: Held<'a, Counted<SegmentedCache<K, V, S>>>,
 }
 
-impl<'a, K: Hash, V, S: BuildHasher> LockedShard<'a, K, V, S> {
+impl<'a, K: Hash, V, S: BuildHasher> LockedSegmentedShard<'a, K, V, S> {
     /// The entries of the shard, as they are while the lock is held.
     pub fn cache(&self) -> &SegmentedCache<K, V, S> {
         &self.held.cache().cache
@@ -147,7 +147,7 @@ impl<K: Hash, V, const N: usize, S: BuildHasher> SharedSegmentedCache<K, V, N, S
 
     // The shards behind their locks, for which a call waits.
     #[inline(always)]
-    fn locked<'a, W: Wait>(&'a self, rt: &'a W) -> Locked<'a, Shard<K, V, S>, W, N>
+    fn locked<'a, W: Wait>(&'a self, rt: &'a W) -> Locked<'a, SegmentedShard<K, V, S>, W, N>
         ensures some { 0 < N }
         ensures many { length result.shards.now ≡ N }
     {
@@ -228,10 +228,10 @@ impl<K: Hash, V, const N: usize, S: BuildHasher> SharedSegmentedCache<K, V, N, S
 
     /// Takes the lock of a shard, and holds it as long as what it answers is there. Meanwhile a call that waits for the same
     /// shard has to come from another thread.
-    pub fn lock_shard(&self, rt: &impl Wait, shard: usize) -> LockedShard<'_, K, V, S>
+    pub fn lock_shard(&self, rt: &impl Wait, shard: usize) -> LockedSegmentedShard<'_, K, V, S>
         requires { shard < N }
     {
-        LockedShard {
+        LockedSegmentedShard {
             held: self.shards[shard].lock(rt),
         }
     }

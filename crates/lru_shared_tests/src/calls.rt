@@ -1,5 +1,5 @@
 //! Each call, at two types of keys, and at values without a size.
-use lru_cache::cache::{Cause, Entry, Refused};
+use lru_owned_cache::cache::{Cause, Entry, Refused};
 use lru_shared::counts::{Counts, Left};
 use lru_shared::shared::SharedCache;
 use std::alloc::{AllocError, Global};

@@ -1,8 +1,8 @@
 //! Shards of one owner: each call, and that a shared cache does behind its locks what they do.
 ghost use Rattle.std.specs.Prelude.{◌<◌};
 
-use lru_cache::cache::Entry;
 use lru_index::hashing::SeededHashes;
+use lru_owned_cache::cache::Entry;
 use lru_shared::counts::Counts;
 use lru_shared::sharded::ShardedCache;
 use lru_shared::shared::{Limits, SharedCache};

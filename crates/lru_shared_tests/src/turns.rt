@@ -1,5 +1,5 @@
 //! The calls on all shards in turn, of one owner and behind locks: which entries are shown and which go, of shard 0 first.
-use lru_cache::cache::Entry;
+use lru_owned_cache::cache::Entry;
 use lru_shared::sharded::ShardedCache;
 use lru_shared::shared::{Limits, SharedCache};
 use std::alloc::{AllocError, Global};

@@ -24,33 +24,33 @@ const PIECE_LEN: usize = 8192;
 
 /// Why an open file was not read to its end.
 #[derive(Drop)]
-enum ReadError {
+enum FileReadError {
     Folder(FolderFault),
     Memory,
 }
 
-impl From<AllocError> for ReadError {
-    ghost use Rattle.lru_snapshot.specs.declared.loading.ReadError.TheVariants.{Memory};
+impl From<AllocError> for FileReadError {
+    ghost use Rattle.lru_snapshot.specs.declared.loading.FileReadError.TheVariants.{Memory};
 
     ghost from_gives = { λ _ error. error ≡ Memory };
 
     fn from(_: AllocError) -> Self {
-        ReadError::Memory
+        FileReadError::Memory
     }
 }
 
-impl From<FolderFault> for ReadError {
-    ghost use Rattle.lru_snapshot.specs.declared.loading.ReadError.TheVariants as variant;
+impl From<FolderFault> for FileReadError {
+    ghost use Rattle.lru_snapshot.specs.declared.loading.FileReadError.TheVariants as variant;
 
     ghost from_gives = { λ fault error. error ≡ variant.Folder fault };
 
     fn from(fault: FolderFault) -> Self {
-        ReadError::Folder(fault)
+        FileReadError::Folder(fault)
     }
 }
 
 /// The bytes of the file that was just opened, of which there are so many, read in pieces.
-fn read_opened<F: Folder>(alloc: Global, folder: &mut F, len: u64) -> Result<Vec<u8>, ReadError>
+fn read_opened<F: Folder>(alloc: Global, folder: &mut F, len: u64) -> Result<Vec<u8>, FileReadError>
     requires { IsReading (F.opened folder.old) }
     ensures whole { F.meaning.keeps folder.old → (left : List ℕ) → F.opened folder.old ≡ Reading left → len ≡ length left → IfOk result (λ bytes. bytes.items ≡ left) }
     ensures cause { F.meaning.keeps folder.old → IfErr result (IsReadFault (F.meaning.faults folder.old < F.meaning.faults folder.new)) }
@@ -105,8 +105,8 @@ fn read_shard<F: Folder, E>(
     };
     match read_opened(alloc, folder, len) {
         Ok(bytes) => Ok(Some(bytes)),
-        Err(ReadError::Memory) => Err(ShardLoadFailure::Memory { shard }),
-        Err(ReadError::Folder(source)) => {
+        Err(FileReadError::Memory) => Err(ShardLoadFailure::Memory { shard }),
+        Err(FileReadError::Folder(source)) => {
             let source = ShardFileError::Read { path, source };
             Err(ShardLoadFailure::Io { shard, source })
         }

@@ -19,20 +19,20 @@ use Rattle.lru_actors.specs.Messages.{State, consumed, evicted_of}
 use Rattle.lru_world.proofs.Counted.{answers_length}
 use Rattle.lru_actors.specs.Processing.{Processes, ProcessesAll}
 use Rattle.lru_actors.specs.Turns.{sent, turn, turns_of, rows_after, leaving, evictions}
-use Rattle.lru_world.specs.declared.bench.Asked.{Asked}
+use Rattle.lru_world.specs.declared.bench.AskedLetter.{AskedLetter}
 use Rattle.lru_actors.specs.declared.letter.Letter.{Letter}
 use Rattle.lru_world.specs.Batch.{answers, is_evict, asked_by, replied, weight_taken, rows_taken, pairs_evicted}
 
 module _ {K T : Type 0} where
   -- who is left to be answered gets the own answer
-  pub replied_more : (asked : List (Asked K T)) (xs : List (Option (Reply K × ℕ))) (x : Option (Reply K × ℕ)) (d : Asked K T) → length xs < length asked
+  pub replied_more : (asked : List (AskedLetter K T)) (xs : List (Option (Reply K × ℕ))) (x : Option (Reply K × ℕ)) (d : AskedLetter K T) → length xs < length asked
       → replied (set asked (length xs) (record (get_or asked (length xs) d) { reply = x })) xs ≡ replied asked (xs ++ x ∷ [])
   replied_more [] xs x d h = absurd (omega arith)
   replied_more (a ∷ later) [] x d h = refl
   replied_more (a ∷ later) (y ∷ xs) x d h = ap (λ l. record a { reply = y } ∷ l) (replied_more later xs x d (omega arith))
 
   -- the answer of the last effect that is left goes to its place
-  pub noted : (asked : List (Asked K T)) (total after : ℕ) (left : List (Effect K)) (e : Effect K) (i : ℕ) (a : Asked K T) → i ≡ length left → a ≡ get_or asked i a → length left < length asked
+  pub noted : (asked : List (AskedLetter K T)) (total after : ℕ) (left : List (Effect K)) (e : Effect K) (i : ℕ) (a : AskedLetter K T) → i ≡ length left → a ≡ get_or asked i a → length left < length asked
       → answers total (left ++ e ∷ []) ≡ answers after left ++ option_map (λ r. (r, total)) e.reply ∷ []
       → replied (set asked i (record a { reply = option_map (λ r. (r, total)) e.reply })) (answers after left) ≡ replied asked (answers total (left ++ e ∷ []))
   noted asked total after left e i a is_i is_a h split =
@@ -43,7 +43,7 @@ module _ {K T : Type 0} where
       ∙ replied_more asked (answers after left) (option_map (λ r. (r, total)) e.reply) a (omega (arith, n, h)) ∙ ap (replied asked) (sym split)
 
   -- one message more
-  pub sum_step : (f : Asked K T × Effect K → ℕ) (asked : List (Asked K T)) (es : List (Effect K)) (i : ℕ) (a : Asked K T) (e : Effect K) (old new : ℕ) → i < length es → length es ≡ length asked
+  pub sum_step : (f : AskedLetter K T × Effect K → ℕ) (asked : List (AskedLetter K T)) (es : List (Effect K)) (i : ℕ) (a : AskedLetter K T) (e : Effect K) (old new : ℕ) → i < length es → length es ≡ length asked
       → a ≡ get_or asked i a → e ≡ get_or es i e → old ≡ sum_by f (take i (zip asked es)) % 2 ^ 64 → new ≡ (old + f (a, e)) % 2 ^ 64 → new ≡ sum_by f (take (i + 1) (zip asked es)) % 2 ^ 64
   sum_step f asked es i a e old new within same is_a is_e before is =
       let s = sum_by f (take i (zip asked es)) in
@@ -51,13 +51,13 @@ module _ {K T : Type 0} where
       let one : f (get_or (zip asked es) i (a, e)) ≡ f (a, e) = ap f (get_or-zip asked es i (a, e) (omega arith) within) ∙ sym (λ j. f (is_a j, is_e j)) in
       is ∙ ap (λ n. (n + f (a, e)) % 2 ^ 64) before ∙ mod-add-mod s (2 ^ 64) (f (a, e)) ∙ ap (λ n. (s + n) % 2 ^ 64) (sym one) ∙ ap (λ n. n % 2 ^ 64) (sym (sum_by_more f (zip asked es) i (a, e) (omega arith)))
 
-  pub sum_end : (f : Asked K T × Effect K → ℕ) (asked : List (Asked K T)) (es : List (Effect K)) (i : ℕ) (n : ℕ) → length es ≤ i → n ≡ sum_by f (take i (zip asked es)) % 2 ^ 64 → n ≡ sum_by f (zip asked es) % 2 ^ 64
+  pub sum_end : (f : AskedLetter K T × Effect K → ℕ) (asked : List (AskedLetter K T)) (es : List (Effect K)) (i : ℕ) (n : ℕ) → length es ≤ i → n ≡ sum_by f (take i (zip asked es)) % 2 ^ 64 → n ≡ sum_by f (zip asked es) % 2 ^ 64
   sum_end f asked es i n past is =
       let long : length (zip asked es) ≡ min (length asked) (length es) = length-zip asked es in
       is ∙ ap (λ l. sum_by f l % 2 ^ 64) (take_all i (zip asked es) (omega arith))
 
-  abbrev pub flags : List (Asked K T) → List Bool
-  flags asked = map (λ (a : Asked K T). a.evicts) asked
+  abbrev pub flags : List (AskedLetter K T) → List Bool
+  flags asked = map (λ (a : AskedLetter K T). a.evicts) asked
 
   -- the flags of those who asked are those of the messages
   pub flags_asked : (letters : List (Letter K T)) → flags (map asked_by letters) ≡ map is_evict (map (λ (l : Letter K T). l.message) letters)
@@ -67,12 +67,12 @@ module _ {K T : Type 0} where
   pub asked_length : (letters : List (Letter K T)) → length (map asked_by letters) ≡ length letters
   asked_length letters = length-map letters asked_by
 
-  pub record AllTaken (rows : List (Row K)) (msgs : List (LruMsg K)) (es : List (Effect K)) (asked : List (Asked K T)) : Type 0 where
+  pub record AllTaken (rows : List (Row K)) (msgs : List (LruMsg K)) (es : List (Effect K)) (asked : List (AskedLetter K T)) : Type 0 where
     pub weight : sum_by weight_taken (zip asked es) ≡ sum_by (λ (p : K × ℕ). p.1) (pairs_evicted rows msgs es)
     pub len : sum_by rows_taken (zip asked es) ≡ length (pairs_evicted rows msgs es)
 
-  pub length-flags : (asked : List (Asked K T)) → length (flags asked) ≡ length asked
-  length-flags asked = length-map asked (λ (a : Asked K T). a.evicts)
+  pub length-flags : (asked : List (AskedLetter K T)) → length (flags asked) ≡ length asked
+  length-flags asked = length-map asked (λ (a : AskedLetter K T). a.evicts)
 
 module _ {K : Type 0} where
   -- what one message takes
@@ -161,7 +161,7 @@ module _ {K : Type 0} where
     as_many (m ∷ ms) [] old look d new look' d' p = absurd p
     as_many (m ∷ ms) (e ∷ es) old look d new look' d' p = ap suc (as_many ms es p.0 p.1.0 p.1.1.0 new look' d' p.1.1.1.1)
 
-    pub all_taken : {T : Type 0} (msgs : List (LruMsg K)) (es : List (Effect K)) (asked : List (Asked K T)) (old : State K) (look : ℕ → Option ℕ) (d : D) (new : State K) (look' : ℕ → Option ℕ) (d' : D)
+    pub all_taken : {T : Type 0} (msgs : List (LruMsg K)) (es : List (Effect K)) (asked : List (AskedLetter K T)) (old : State K) (look : ℕ → Option ℕ) (d : D) (new : State K) (look' : ℕ → Option ℕ) (d' : D)
         → ProcessesAll Puts IsSame queue IsClone MayRefuse old look d msgs es new look' d' → flags asked ≡ map is_evict msgs → AllTaken old.shard.rows msgs es asked
     all_taken [] [] [] old look d new look' d' p f = record { weight = refl; len = refl }
     all_taken [] [] (a ∷ later) old look d new look' d' p f = absurd (cc)

@@ -1,11 +1,11 @@
 -- What two tokens show together.
 use Rattle.std.proofs.Common.{◌≡◌, ℕ, List, [], ◌∷◌, ◌++◌, length, sym, refl, ap, ◌∙◌, subst, inl, ⊎_elim, arith, append-nil, append_assoc}
 use Rattle.std.proofs.lemmas.List.{length-append}
-use Rattle.lru_hands.specs.Hands.{Among}
-use Rattle.lru_hands.proofs.Hands.{among_left, among_right}
-use Rattle.lru_logs.specs.declared.hand.Front.{Front}
-use Rattle.lru_logs.specs.declared.hand.Log.{Log}
-use Rattle.lru_logs.specs.Logs.{Begins, accepted, front, front_of, hand, of_fronts, seen_of, Shows}
+use Rattle.lru_sharing.specs.Hands.{Among}
+use Rattle.lru_sharing.proofs.Hands.{among_left, among_right}
+use Rattle.lru_inbox.specs.declared.hand.Front.{Front}
+use Rattle.lru_inbox.specs.declared.hand.Log.{Log}
+use Rattle.lru_inbox.specs.Logs.{Begins, accepted, front, front_of, hand, of_fronts, seen_of, Shows}
 use Rattle.lru_inbox.proofs.Lists.{shorter_begins, seen_among}
 
 no_items : {A : Type 0} (xs : List A) → length xs ≡ 0 → xs ≡ []

@@ -5,16 +5,16 @@ use Rattle.std.specs.Option.{ForSome}
 use Rattle.std.proofs.Math.Logic.{∥∥₁_map}
 use Rattle.std.proofs.Math.Nat.{mod-eq_of_lt, add-mod_right}
 use Rattle.std.proofs.lemmas.List.{map-append, length-append, length-map}
-use Rattle.lru_hands.proofs.Hands.{some_same, none_some}
+use Rattle.lru_sharing.proofs.Hands.{some_same, none_some}
 use Rattle.lru_shard.specs.Row.{Row}
 use Rattle.lru_actors.specs.declared.message.LruMsg.{LruMsg}
 use Rattle.lru_actors.specs.declared.effect.Effect.{Effect}
 use Rattle.lru_actors.specs.declared.effect.Reply.{Reply}
 use Rattle.lru_actors.specs.Messages.{State}
 use Rattle.lru_actors.specs.declared.letter.Letter.{Letter}
-use Rattle.lru_logs.specs.declared.voice.Voice.{Voice}
-use Rattle.lru_logs.specs.declared.tie.Archive.{Ghosts}
-use Rattle.lru_logs.specs.Logs.{taken_by}
+use Rattle.lru_inbox.specs.declared.voice.Voice.{Voice}
+use Rattle.lru_inbox.specs.declared.tie.Archive.{Ghosts}
+use Rattle.lru_inbox.specs.Logs.{taken_by}
 use Rattle.lru_inbox.specs.Inboxes.{messages_of, taken_in}
 use Rattle.lru_inbox.specs.Replies.{IsLeft, IsReply, refused_in}
 use Rattle.lru_inbox.proofs.Steps.{by_turns, left_all, reply_at, turns_by}
@@ -24,7 +24,7 @@ use Rattle.lru_world.specs.Accounts.{IsKept}
 use Rattle.lru_world.proofs.Accounts.{kept_more}
 use Rattle.lru_actors.specs.Turns.{Turn, refusals}
 use Rattle.lru_actors.specs.World.{PutsPair, IsSameQueue, itself, AtAnyTime}
-use Rattle.lru_world.specs.declared.bench.Asked.{Asked}
+use Rattle.lru_world.specs.declared.bench.AskedLetter.{AskedLetter}
 use Rattle.lru_world.specs.Batch.{answers, fewer, replied, AddsSlips, StepsFrom}
 use Rattle.lru_world.proofs.Evicted.{as_many}
 use Rattle.lru_world.specs.Replying.{AreReplies, Gains, TookPast}
@@ -79,30 +79,30 @@ number_is before len most taken few room =
 
 module _ {K T : Type 0} (IsClone : K → K → Type 0) (cap : ℕ) where
   -- one reply is given, and the others are left
-  pub replies_fewer : (taken : List (LruMsg K)) (before : ℕ) (left : List (Asked K T)) (a : Asked K T) (all : List (Asked K T)) → all ≡ left ++ a ∷ [] → AreReplies IsClone cap taken before (map (λ (x : Asked K T). x.reply) all)
-      → AreReplies IsClone cap taken before (map (λ (x : Asked K T). x.reply) left)
+  pub replies_fewer : (taken : List (LruMsg K)) (before : ℕ) (left : List (AskedLetter K T)) (a : AskedLetter K T) (all : List (AskedLetter K T)) → all ≡ left ++ a ∷ [] → AreReplies IsClone cap taken before (map (λ (x : AskedLetter K T). x.reply) all)
+      → AreReplies IsClone cap taken before (map (λ (x : AskedLetter K T). x.reply) left)
   replies_fewer taken before left a all is h = λ i r n at.
-      h i r n (ap (λ l. slice_get (map (λ (x : Asked K T). x.reply) l) i) is ∙ ap (λ l. slice_get l i) (map-append (λ (x : Asked K T). x.reply) left (a ∷ [])) ∙ get_left (map (λ (x : Asked K T). x.reply) left) (a.reply ∷ []) i (Some (r, n)) at)
+      h i r n (ap (λ l. slice_get (map (λ (x : AskedLetter K T). x.reply) l) i) is ∙ ap (λ l. slice_get l i) (map-append (λ (x : AskedLetter K T). x.reply) left (a ∷ [])) ∙ get_left (map (λ (x : AskedLetter K T). x.reply) left) (a.reply ∷ []) i (Some (r, n)) at)
 
-  pub reply_last : (taken : List (LruMsg K)) (before count : ℕ) (left : List (Asked K T)) (a : Asked K T) (all : List (Asked K T)) → all ≡ left ++ a ∷ [] → count ≡ before + suc (length left)
-      → AreReplies IsClone cap taken before (map (λ (x : Asked K T). x.reply) all) → ForSome a.reply (λ told. ∥ IsReply IsClone cap (take count taken) told.1 told.0 ∥₁)
+  pub reply_last : (taken : List (LruMsg K)) (before count : ℕ) (left : List (AskedLetter K T)) (a : AskedLetter K T) (all : List (AskedLetter K T)) → all ≡ left ++ a ∷ [] → count ≡ before + suc (length left)
+      → AreReplies IsClone cap taken before (map (λ (x : AskedLetter K T). x.reply) all) → ForSome a.reply (λ told. ∥ IsReply IsClone cap (take count taken) told.1 told.0 ∥₁)
   reply_last taken before count left a all is counted h = λ told e.
       subst (λ n. ∥ IsReply IsClone cap (take n taken) told.1 told.0 ∥₁) (sym counted)
-      (h (length left) told.0 told.1 (ap (λ l. slice_get (map (λ (x : Asked K T). x.reply) l) (length left)) is ∙ ap (λ l. slice_get l (length left)) (map-append (λ (x : Asked K T). x.reply) left (a ∷ []))
-      ∙ (let n = length_map left in ap (slice_get (map (λ (x : Asked K T). x.reply) left ++ a.reply ∷ [])) (sym n)) ∙ get_last (map (λ (x : Asked K T). x.reply) left) a.reply ∙ ap (λ o. Some o) e))
+      (h (length left) told.0 told.1 (ap (λ l. slice_get (map (λ (x : AskedLetter K T). x.reply) l) (length left)) is ∙ ap (λ l. slice_get l (length left)) (map-append (λ (x : AskedLetter K T). x.reply) left (a ∷ []))
+      ∙ (let n = length_map left in ap (slice_get (map (λ (x : AskedLetter K T). x.reply) left ++ a.reply ∷ [])) (sym n)) ∙ get_last (map (λ (x : AskedLetter K T). x.reply) left) a.reply ∙ ap (λ o. Some o) e))
     where
-      length_map : (xs : List (Asked K T)) → length (map (λ (x : Asked K T). x.reply) xs) ≡ length xs
+      length_map : (xs : List (AskedLetter K T)) → length (map (λ (x : AskedLetter K T). x.reply) xs) ≡ length xs
       length_map [] = refl
       length_map (x ∷ xs) = let ih = length_map xs in omega (arith, ih)
 
   -- who asked has the answers
-  pub replied_replies : (asked : List (Asked K T)) (es : List (Option (Reply K × ℕ))) → length es ≡ length asked → map (λ (x : Asked K T). x.reply) (replied asked es) ≡ es
+  pub replied_replies : (asked : List (AskedLetter K T)) (es : List (Option (Reply K × ℕ))) → length es ≡ length asked → map (λ (x : AskedLetter K T). x.reply) (replied asked es) ≡ es
   replied_replies [] [] h = refl
   replied_replies [] (e ∷ es) h = absurd (omega (arith, h))
   replied_replies (a ∷ later) [] h = absurd (omega (arith, h))
   replied_replies (a ∷ later) (e ∷ es) h = ap (λ l. e ∷ l) (replied_replies later es (omega (arith, h)))
 
-  pub replied_length : (asked : List (Asked K T)) (es : List (Option (Reply K × ℕ))) → length es ≡ length asked → length (replied asked es) ≡ length asked
+  pub replied_length : (asked : List (AskedLetter K T)) (es : List (Option (Reply K × ℕ))) → length es ≡ length asked → length (replied asked es) ≡ length asked
   replied_length [] [] h = refl
   replied_length [] (e ∷ es) h = absurd (omega (arith, h))
   replied_length (a ∷ later) [] h = absurd (omega (arith, h))

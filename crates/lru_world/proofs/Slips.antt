@@ -4,9 +4,9 @@ use Rattle.std.specs.Prelude.{All, Option, option_to_list}
 use Rattle.std.proofs.lemmas.List.{map-append}
 use Rattle.std.proofs.lemmas.List.Elements.{All-head, All-tail}
 use Rattle.std.specs.Option.{ForSome}
-use Rattle.lru_hands.proofs.Hands.{none_some, some_same}
+use Rattle.lru_sharing.proofs.Hands.{none_some, some_same}
 use Rattle.lru_desks.specs.declared.seats.PutSeat.{PutSeat}
-use Rattle.lru_desks.specs.declared.tie.Registry.{Ghosts}
+use Rattle.lru_desks.specs.declared.tie.BoxRegistry.{Ghosts}
 use Rattle.lru_world.specs.Seats.{slips_at}
 use Rattle.lru_shard.specs.Row.{Row}
 use Rattle.lru_mailbox.specs.declared.slip.Slip.{Slip}

@@ -14,7 +14,7 @@ use Rattle.lru_actors.specs.declared.letter.Letter.{Letter}
 use Rattle.lru_world.specs.Accounts.{row_of_slip, rows_evicted}
 use Rattle.lru_actors.specs.Turns.{sent, turns_of, evictions}
 use Rattle.lru_actors.specs.World.{PutsPair, IsSameQueue, itself, AtAnyTime}
-use Rattle.lru_world.specs.declared.bench.Asked.{Asked}
+use Rattle.lru_world.specs.declared.bench.AskedLetter.{AskedLetter}
 use Rattle.lru_world.specs.declared.world.Change.{Change}
 
 -- so many fewer, modulo 2 ^ 64
@@ -91,18 +91,18 @@ module _ {K : Type 0} where
 
 module _ {K T : Type 0} where
   -- what is kept of a letter, before its message is processed
-  abbrev pub asked_by : Letter K T → Asked K T
+  abbrev pub asked_by : Letter K T → AskedLetter K T
   asked_by l = record { evicts = is_evict l.message; cell = l.cell; reply = None }
 
   -- those who asked, each with the own answer
-  abbrev pub replied : List (Asked K T) → List (Option (Reply K × ℕ)) → List (Asked K T)
+  abbrev pub replied : List (AskedLetter K T) → List (Option (Reply K × ℕ)) → List (AskedLetter K T)
   replied asked [] = asked
   replied [] (x ∷ xs) = []
   replied (a ∷ later) (x ∷ xs) = record a { reply = x } ∷ replied later xs
 
   -- the weight of the row that a message's eviction took, and how many rows it took
-  abbrev pub weight_taken : Asked K T × Effect K → ℕ
+  abbrev pub weight_taken : AskedLetter K T × Effect K → ℕ
   weight_taken p = if p.0.evicts then p.1.weight_before - p.1.weight_after else 0
 
-  abbrev pub rows_taken : Asked K T × Effect K → ℕ
+  abbrev pub rows_taken : AskedLetter K T × Effect K → ℕ
   rows_taken p = if p.0.evicts then p.1.len_before - p.1.len_after else 0

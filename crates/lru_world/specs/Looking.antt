@@ -1,8 +1,8 @@
 -- What one learns who looks at a weight.
 use Rattle.std.specs.Prelude.{◌≡◌, ℕ, List, [], ◌∷◌, ◌++◌, Option}
 use Rattle.lru_actors.specs.declared.message.LruMsg.{LruMsg}
-use Rattle.lru_logs.specs.declared.hand.Front.{Front}
-use Rattle.lru_logs.specs.Logs.{Begins, front, seen_of}
+use Rattle.lru_inbox.specs.declared.hand.Front.{Front}
+use Rattle.lru_inbox.specs.Logs.{Begins, front, seen_of}
 use Rattle.lru_inbox.specs.Replies.{IsWeight}
 
 -- it is the weight of the hash among the rows that a beginning of the shard's log leaves, so many messages of which were refused: of

@@ -1,8 +1,8 @@
 -- What is shared of a shard.
 use Rattle.std.specs.Prelude.{Bool, true, false}
 use Rattle.std.specs.declared.clone.Clone as clone
-use Rattle.lru_desks.specs.declared.tie.Registry as registry
-use Rattle.lru_logs.specs.declared.tie.Archive as archive
+use Rattle.lru_desks.specs.declared.tie.BoxRegistry as registry
+use Rattle.lru_inbox.specs.declared.tie.Archive as archive
 use Rattle.lru_world.specs.declared.world.Weights.{Weights}
 use Rattle.lru_world.specs.declared.world.Weights.TheVariants.{Alone, WithRows}
 use Rattle.lru_world.specs.declared.world.ShardPlace.{ShardPlace}

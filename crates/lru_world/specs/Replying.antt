@@ -3,9 +3,9 @@ use Rattle.std.specs.Prelude.{◌≡◌, ℕ, suc, ◌+◌, ◌≤◌, ◌<◌, 
 use Rattle.std.specs.Option.{ForSome}
 use Rattle.lru_actors.specs.declared.message.LruMsg.{LruMsg}
 use Rattle.lru_actors.specs.declared.effect.Reply.{Reply}
-use Rattle.lru_logs.specs.declared.tie.Archive as archive
-use Rattle.lru_logs.specs.declared.voice.Voice.{Voice}
-use Rattle.lru_logs.specs.Logs.{hand, blank_fronts}
+use Rattle.lru_inbox.specs.declared.tie.Archive as archive
+use Rattle.lru_inbox.specs.declared.voice.Voice.{Voice}
+use Rattle.lru_inbox.specs.Logs.{hand, blank_fronts}
 use Rattle.lru_inbox.specs.Replies.{IsReply}
 
 -- each reply tells of the rows after its own message, with how many messages were refused up to that, where the first of these

@@ -1,7 +1,7 @@
 -- The slips of a seat.
 use Rattle.std.specs.Prelude.{List, Option, option_map}
 use Rattle.lru_desks.specs.declared.seats.PutSeat.{PutSeat}
-use Rattle.lru_desks.specs.declared.tie.Registry.{Ghosts}
+use Rattle.lru_desks.specs.declared.tie.BoxRegistry.{Ghosts}
 use Rattle.lru_mailbox.specs.declared.slip.Slip.{Slip}
 
 -- of what was put with it, where there is one

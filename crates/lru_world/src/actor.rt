@@ -10,16 +10,16 @@ ghost use Rattle.lru_world.specs.Places.{is_logged};
 ghost use Rattle.lru_world.specs.Replying.{AreReplies, Gains, HasNothing, TookPast};
 
 use crate::LoggedShard;
-use crate::bench::{Asked, Bench, MOST, clear, evictions_in, note_replies};
+use crate::bench::{AskedLetter, Bench, MOST, clear, evictions_in, note_replies};
 use crate::callback::Gate;
 use crate::world::{ShardPlace, Weights, World};
 use lru_actors::effect::{Effect, Reply};
 use lru_actors::state::ShardState;
 use lru_actors::{Letter, ReplyCell};
-use lru_desks::{PutSeat, Registry};
+use lru_desks::{BoxRegistry, PutSeat};
+use lru_inbox::tie::Archive;
 use lru_inbox::{Taker, Told};
-use lru_logs::tie::Archive;
-use lru_short_locks::ShortMutex;
+use lru_sharing::ShortMutex;
 use std::alloc::{AllocError, Global};
 use std::marker::Brand;
 use std::sync::{Arc, MutexGuard, Wait};
@@ -27,7 +27,7 @@ use std::sync::{Arc, MutexGuard, Wait};
 /// What one actor owns: what it took, its rows where there is no log, and room for a batch. With a log its rows stand in the
 /// place of its shard, and are what the messages that it took leave.
 #[derive(Drop)]
-pub struct Actor<K: Clone + Drop, B: Registry + Archive = Brand> {
+pub struct Actor<K: Clone + Drop, B: BoxRegistry + Archive = Brand> {
     /// What it took from the mailbox of its shard.
     pub taker: Taker<K, B>,
     /// How many shards there are.
@@ -39,7 +39,7 @@ pub struct Actor<K: Clone + Drop, B: Registry + Archive = Brand> {
     ghost capped: { state.shard.cap ≡ cap_of shards },
 }
 
-impl<K: Clone + Drop, B: Registry + Archive> Actor<K, B> {
+impl<K: Clone + Drop, B: BoxRegistry + Archive> Actor<K, B> {
     /// The actor of one of so many shards, which is empty, with room for `capacity` rows. Their weights may sum up to what
     /// all shards together leave to each. Where evicted pairs go into a box it puts them with a seat.
     pub fn new(
@@ -171,7 +171,7 @@ impl<K: Clone + Drop, B: Registry + Archive> Actor<K, B> {
 
 // Lends the rows of this shard that so many messages leave, modulo 2^64, with a seat where evicted pairs go into a box. No type
 // says which lock has which rows, so the numbers are looked at; the first ones are the right ones.
-fn rows_after<'a, K: Clone + Drop, B: Registry + Archive, R: Wait>(
+fn rows_after<'a, K: Clone + Drop, B: BoxRegistry + Archive, R: Wait>(
     rt: &R,
     rows: &'a ShortMutex<LoggedShard<K, B>>,
     shard: usize,
@@ -207,7 +207,7 @@ fn reply_where_asked<K: Clone + Drop, B: Archive, R: Wait>(
     before: u64,
     refused: u64,
     effects: &mut Vec<Effect<K>>,
-    asked: &mut Vec<Asked<K, Told<K, B>>>,
+    asked: &mut Vec<AskedLetter<K, Told<K, B>>>,
 )
     requires each { vec_len effects.old ≡ vec_len asked.old }
     requires taken { ForSome (taken_in taker.old.voice) (λ taken. TookPast before (vec_len asked.old) taken) }
@@ -225,7 +225,7 @@ fn reply_all<K: Clone + Drop, B: Archive, R: Wait>(
     rt: &R,
     taker: &mut Taker<K, B>,
     before: u64,
-    asked: &mut Vec<Asked<K, Told<K, B>>>,
+    asked: &mut Vec<AskedLetter<K, Told<K, B>>>,
 )
     requires taken { ForSome (taken_in taker.old.voice) (λ taken. TookPast before (vec_len asked.old) taken) }
     requires replies { ForSome (taken_in taker.old.voice) (λ taken. AreReplies K.is_clone (cap_of B.shards) taken before (map (λ a. a.reply) asked.old.items)) }
@@ -242,13 +242,13 @@ fn answer<K: Clone + Drop, B: Archive, R: Wait>(
     rt: &R,
     taker: &mut Taker<K, B>,
     count: u64,
-    asked: Asked<K, Told<K, B>>,
+    asked: AskedLetter<K, Told<K, B>>,
 )
     requires count { ForSome (taken_in taker.old.voice) (λ taken. count ≤ length taken) }
     requires tells { ForSome (taken_in taker.old.voice) (λ taken. ForSome asked.reply (λ told. ∥ IsReply K.is_clone (cap_of B.shards) (take count taken) told.1 told.0 ∥₁)) }
     ensures taker { (taker.new.shard ≡ taker.old.shard) × (taken_in taker.new.voice ≡ taken_in taker.old.voice) }
 {
-    let Asked { cell, reply, .. } = asked;
+    let AskedLetter { cell, reply, .. } = asked;
     match (cell, reply) {
         (Some(cell), Some((reply, refused))) => cell.give(rt, taker.tell(count, refused, reply)),
         (Some(cell), None) => cell.leave(rt),

@@ -19,11 +19,11 @@ use lru_actors::message::LruMsg;
 use lru_actors::process::process_batch;
 use lru_actors::state::ShardState;
 use lru_actors::{Letter, ReplyCell};
-use lru_desks::{DeskPutter, PutSeat, Registry};
+use lru_desks::{BoxRegistry, DeskPutter, PutSeat};
 use lru_inbox::Taker;
-use lru_logs::tie::Archive;
+use lru_inbox::tie::Archive;
 use lru_mailbox::{Dispatch, MailState};
-use lru_short_locks::ShortLock;
+use lru_sharing::ShortLock;
 use std::alloc::{AllocError, Global};
 use std::collections::HashMap;
 use std::sync::{Arc, Wait};
@@ -34,7 +34,7 @@ pub(crate) const MOST: usize = 16;
 
 // What is kept of a letter while its message is processed.
 #[derive(Drop)]
-pub(crate) struct Asked<K: Drop, T: Drop> {
+pub(crate) struct AskedLetter<K: Drop, T: Drop> {
     pub(crate) evicts: bool,
     pub(crate) cell: Option<Arc<ReplyCell<T>, Global>>,
     // what it is answered, once it was processed, and how many messages were refused up to it, modulo 2^64
@@ -44,7 +44,7 @@ pub(crate) struct Asked<K: Drop, T: Drop> {
 /// The batch of messages that is under way, with what each one did.
 #[derive(Drop)]
 pub(crate) struct Bench<K: Drop, T: Drop> {
-    pub(crate) asked: Vec<Asked<K, T>>,
+    pub(crate) asked: Vec<AskedLetter<K, T>>,
     pub(crate) batch: Vec<LruMsg<K>>,
     pub(crate) effects: Vec<Effect<K>>,
     alloc: Global,
@@ -75,7 +75,7 @@ impl<K: Clone + Drop, T: Drop> Bench<K, T> {
     }
 
     // Processes the batch with rows that are the actor's own, under the lock of the map where it may change a weight.
-    pub(crate) fn process<B: Registry + Archive, R: Wait>(
+    pub(crate) fn process<B: BoxRegistry + Archive, R: Wait>(
         &mut self,
         rt: &R,
         state: &mut ShardState<K>,
@@ -106,7 +106,7 @@ impl<K: Clone + Drop, T: Drop> Bench<K, T> {
 
     // Processes the batch with the rows of a shard with a log, which are what all that was taken before leaves: then they are what
     // all that was taken leaves. Its seat gets the slips of what is evicted, where that goes into a box.
-    pub(crate) fn process_logged<B: Registry + Archive, R: Wait>(
+    pub(crate) fn process_logged<B: BoxRegistry + Archive, R: Wait>(
         &mut self,
         rt: &R,
         rows: &mut LoggedShard<K, B>,
@@ -147,7 +147,7 @@ impl<K: Clone + Drop, T: Drop> Bench<K, T> {
     }
 
     // Processes the batch with the map of weights, under the lock of the evicted pairs where it evicts.
-    pub(crate) fn process_with<B: Registry + Archive, R: Wait>(
+    pub(crate) fn process_with<B: BoxRegistry + Archive, R: Wait>(
         &mut self,
         rt: &R,
         state: &mut ShardState<K>,
@@ -298,7 +298,7 @@ pub(crate) fn clear<T: Drop, R: Wait>(rt: &R, items: &mut Vec<T>)
 fn take_apart<K: Drop, T: Drop>(
     letters: &mut Vec<Letter<K, T>>,
     batch: &mut Vec<LruMsg<K>>,
-    asked: &mut Vec<Asked<K, T>>,
+    asked: &mut Vec<AskedLetter<K, T>>,
 )
     requires batch { batch.old.items ≡ [] }
     requires asked { asked.old.items ≡ [] }
@@ -312,7 +312,7 @@ fn take_apart<K: Drop, T: Drop>(
     letters.reverse();
     while let Some(letter) = letters.pop() {
         let Letter { message, cell } = letter;
-        asked.push_reserved(Asked {
+        asked.push_reserved(AskedLetter {
             evicts: is_evict(&message),
             cell,
             reply: None,
@@ -358,7 +358,7 @@ fn all_stay_inside<K>(batch: &Vec<LruMsg<K>>) -> bool
 }
 
 // The weight of the row that a message's eviction took, and how many rows it took.
-fn taken_by<K: Drop, T: Drop>(asked: &Asked<K, T>, effect: &Effect<K>) -> (usize, usize)
+fn taken_by<K: Drop, T: Drop>(asked: &AskedLetter<K, T>, effect: &Effect<K>) -> (usize, usize)
     ensures { result ≡ (weight_taken (asked.now, effect.now), rows_taken (asked.now, effect.now)) }
 {
     if !asked.evicts {
@@ -373,7 +373,7 @@ fn taken_by<K: Drop, T: Drop>(asked: &Asked<K, T>, effect: &Effect<K>) -> (usize
 // The weight of the rows that evictions took, and how many they are, modulo 2^64.
 fn evicted_in<K: Drop, T: Drop>(
     effects: &Vec<Effect<K>>,
-    asked: &Vec<Asked<K, T>>,
+    asked: &Vec<AskedLetter<K, T>>,
 ) -> (usize, usize)
     requires { vec_len effects.now ≡ vec_len asked.now }
     ensures weight { result.0 ≡ sum_by weight_taken (zip asked.now.items effects.now.items) % 2 ^ 64 }
@@ -390,7 +390,7 @@ fn evicted_in<K: Drop, T: Drop>(
 }
 
 // How many evictions were asked for.
-pub(crate) fn evictions_in<K: Drop, T: Drop>(asked: &Vec<Asked<K, T>>) -> usize
+pub(crate) fn evictions_in<K: Drop, T: Drop>(asked: &Vec<AskedLetter<K, T>>) -> usize
     ensures { result ≡ count_by (λ a. a.evicts) asked.now.items }
 {
     let mut count = 0;
@@ -427,7 +427,7 @@ fn weight_put<K: Drop>(effect: &Effect<K>) -> usize
 // effects. So many were refused up to the last one, modulo 2^64.
 pub(crate) fn note_replies<K: Drop, T: Drop>(
     effects: &mut Vec<Effect<K>>,
-    asked: &mut Vec<Asked<K, T>>,
+    asked: &mut Vec<AskedLetter<K, T>>,
     refused: u64,
 )
     requires { vec_len effects.old ≤ vec_len asked.old }
@@ -463,7 +463,7 @@ fn refused_before(refused: u64, was_refused: bool) -> u64
 }
 
 // The seat of an actor whose evicted pairs go into a box. It has one; were it not so, this would wait for it.
-fn held_seat<B: Registry, R: Wait>(rt: &R, seat: &mut Option<PutSeat<B>>) -> PutSeat<B>
+fn held_seat<B: BoxRegistry, R: Wait>(rt: &R, seat: &mut Option<PutSeat<B>>) -> PutSeat<B>
     ensures { seat.old ≡ Some result }
 {
     for _ in rt.forever() {

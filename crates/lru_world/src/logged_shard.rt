@@ -3,7 +3,7 @@ ghost use Rattle.std.specs.Prelude.{◌≡◌, ◌≤◌, ◌<◌, [], ◌∷◌
 ghost use Rattle.std.specs.Option.{ForSome};
 ghost use Rattle.std.specs.HashMap as hash_map;
 ghost use Rattle.lru_shard.specs.Limits.{cap_of};
-ghost use Rattle.lru_logs.specs.Logs.{front, of_fronts};
+ghost use Rattle.lru_inbox.specs.Logs.{front, of_fronts};
 ghost use Rattle.lru_inbox.specs.Inboxes.{shown, taken_in};
 ghost use Rattle.lru_world.specs.Accounts.{IsKept};
 ghost use Rattle.lru_world.specs.Seats.{slips_at};
@@ -12,15 +12,15 @@ ghost use Rattle.lru_world.specs.Looking.{LearnsWeight};
 use lru_actors::message::LruMsg;
 use lru_actors::state::ShardState;
 use lru_desks::seats::PutSeat;
-use lru_desks::tie::Registry;
+use lru_desks::tie::BoxRegistry;
+use lru_inbox::tie::{Archive, LogToken};
 use lru_inbox::{Caller, Taker};
-use lru_logs::tie::{Archive, Token};
 use std::alloc::{AllocError, Global};
 use std::collections::HashMap;
 
 /// A shard whose log is kept: it is what a beginning of the log leaves.
 #[derive(Drop)]
-pub struct LoggedShard<K: Clone + Drop, B: Registry + Archive> {
+pub struct LoggedShard<K: Clone + Drop, B: BoxRegistry + Archive> {
     /// The number of the shard.
     pub shard: usize,
     /// Its rows, and how many messages it refused.
@@ -30,7 +30,7 @@ pub struct LoggedShard<K: Clone + Drop, B: Registry + Archive> {
     /// How many messages were processed, modulo 2^64.
     pub count: u64,
     /// Speaks for those messages.
-    pub seen: Token<LruMsg<K>>,
+    pub seen: LogToken<LruMsg<K>>,
     /// The seat that has the slips of the rows that were evicted, where they go into a box.
     pub seat: Option<PutSeat<B>>,
     pub ghost here: { seen.table_id ≡ B.log },
@@ -39,7 +39,7 @@ pub struct LoggedShard<K: Clone + Drop, B: Registry + Archive> {
     pub ghost kept: { ∥ IsKept (cap_of B.shards) (shown seen.me.0) state (hash_map.get nat_eq weights) (slips_at seat) ∥₁ },
 }
 
-impl<K: Clone + Drop, B: Registry + Archive> LoggedShard<K, B> {
+impl<K: Clone + Drop, B: BoxRegistry + Archive> LoggedShard<K, B> {
     /// An empty one among so many, with room for so many rows: no message was processed. The token speaks for an empty beginning
     /// of its log, and the seat has no slip.
     pub fn new(
@@ -47,7 +47,7 @@ impl<K: Clone + Drop, B: Registry + Archive> LoggedShard<K, B> {
         shard: usize,
         shards: usize,
         capacity: usize,
-        seen: Token<LruMsg<K>>,
+        seen: LogToken<LruMsg<K>>,
         seat: Option<PutSeat<B>>,
     ) -> Result<Self, AllocError>
         requires some { 0 < shards }

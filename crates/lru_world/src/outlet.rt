@@ -2,7 +2,7 @@
 ghost use Rattle.std.specs.Prelude.{◌≡◌};
 ghost use Rattle.lru_world.specs.Outlets.{is_ledger, taken_by_pair, taken_by_slip, pair_in};
 
-use lru_desks::{LedgerBox, Registry, TakeSeat};
+use lru_desks::{BoxRegistry, LedgerBox, TakeSeat};
 use lru_mailbox::{Mailbox, Slip};
 use std::alloc::{AllocError, Global};
 use std::marker::Brand;
@@ -10,7 +10,7 @@ use std::sync::{Arc, Wait};
 
 /// Where evicted pairs wait: a mailbox, or a box that counts every pair.
 #[derive(Drop)]
-pub enum Outlet<K: Drop, B: Registry = Brand> {
+pub enum Outlet<K: Drop, B: BoxRegistry = Brand> {
     /// A mailbox of pairs.
     Mailbox(Mailbox<(K, usize)>),
     /// A box of pairs with their slips.
@@ -19,7 +19,7 @@ pub enum Outlet<K: Drop, B: Registry = Brand> {
 
 /// What a taker is answered.
 #[derive(Debug, Drop)]
-pub enum Taken<K> {
+pub enum TakenPair<K> {
     /// A key and its weight.
     Pair(K, usize),
     /// All is closed and empty.
@@ -28,47 +28,47 @@ pub enum Taken<K> {
     NoMemory,
 }
 
-impl<K: Drop> Taken<K> {
+impl<K: Drop> TakenPair<K> {
     /// The pair that was taken, if one was.
     pub fn into_pair(self) -> Option<(K, usize)>
         ensures { result ≡ pair_in self }
     {
         match self {
-            Taken::Pair(key, weight) => Some((key, weight)),
+            TakenPair::Pair(key, weight) => Some((key, weight)),
             _ => None,
         }
     }
 }
 
 // What a taker of a mailbox is answered.
-fn taken_of_pair<K>(pair: Option<(K, usize)>) -> Taken<K>
+fn taken_of_pair<K>(pair: Option<(K, usize)>) -> TakenPair<K>
     ensures { result ≡ taken_by_pair pair }
 {
     match pair {
-        Some((key, weight)) => Taken::Pair(key, weight),
-        None => Taken::Nothing,
+        Some((key, weight)) => TakenPair::Pair(key, weight),
+        None => TakenPair::Nothing,
     }
 }
 
 // What a taker of a box is answered: the weight is that of the slip.
-fn taken_of_slip<K>(taken: Result<Option<(Slip, K)>, AllocError>) -> Taken<K>
+fn taken_of_slip<K>(taken: Result<Option<(Slip, K)>, AllocError>) -> TakenPair<K>
     ensures { result ≡ taken_by_slip taken }
 {
     match taken {
-        Ok(Some((slip, key))) => Taken::Pair(key, slip.weight),
-        Ok(None) => Taken::Nothing,
-        Err(_) => Taken::NoMemory,
+        Ok(Some((slip, key))) => TakenPair::Pair(key, slip.weight),
+        Ok(None) => TakenPair::Nothing,
+        Err(_) => TakenPair::NoMemory,
     }
 }
 
-impl<K: Drop, B: Registry> Outlet<K, B> {
+impl<K: Drop, B: BoxRegistry> Outlet<K, B> {
     /// Takes the first pair. It waits while there is none and one may come. Of a box it takes with a seat.
-    pub fn take(&self, rt: &impl Wait, seat: &mut Option<TakeSeat<B>>) -> Taken<K> {
+    pub fn take(&self, rt: &impl Wait, seat: &mut Option<TakeSeat<B>>) -> TakenPair<K> {
         match self {
             Outlet::Mailbox(mailbox) => taken_of_pair(mailbox.pop(rt)),
             Outlet::Ledger(ledger) => {
                 let Some(seat) = seat else {
-                    return Taken::Nothing;
+                    return TakenPair::Nothing;
                 };
                 taken_of_slip(ledger.take(rt, seat))
             }

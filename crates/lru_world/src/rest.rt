@@ -4,16 +4,16 @@ use std::sync::{Condvar, Mutex, Wait};
 
 /// Tells those who wait for rest when to look again. Where nobody waits it costs one look at a counter.
 #[derive(Drop)]
-pub(crate) struct Rest {
+pub(crate) struct RestWatch {
     waiters: AtomicUsize,
     // how often there was something new to see, modulo 2^64
     changes: Mutex<u64>,
     changed: Condvar,
 }
 
-impl Rest {
+impl RestWatch {
     pub(crate) fn new() -> Self {
-        Rest {
+        RestWatch {
             waiters: AtomicUsize::new(0),
             changes: Mutex::new(0),
             changed: Condvar::new(),

@@ -2,7 +2,7 @@
 ghost use Rattle.std.specs.Prelude.{◌≡◌, [], ◌∷◌, Some, IsSome};
 ghost use Rattle.std.specs.Option.{ForSome};
 ghost use Rattle.lru_shard.specs.Limits.{cap_of};
-ghost use Rattle.lru_logs.specs.Logs.{Begins, accepted, hand, log_of, seen_of};
+ghost use Rattle.lru_inbox.specs.Logs.{Begins, accepted, hand, log_of, seen_of};
 ghost use Rattle.lru_inbox.specs.Inboxes.{log_in};
 ghost use Rattle.lru_world.specs.Accounts.{IsAccount};
 
@@ -10,10 +10,10 @@ use crate::logged_shard::LoggedShard;
 use lru_actors::message::LruMsg;
 use lru_actors::state::ShardState;
 use lru_desks::seats::PutSeat;
-use lru_desks::tie::Registry;
+use lru_desks::tie::BoxRegistry;
+use lru_inbox::tie::Archive;
+use lru_inbox::voice::Voice;
 use lru_inbox::{Caller, Inbox};
-use lru_logs::tie::Archive;
-use lru_logs::voice::Voice;
 
 /// What a shard with a log came to, once nothing is put or taken any more.
 #[derive(Drop)]
@@ -39,7 +39,7 @@ impl<K: Clone + Drop, B: Archive> ShardEnd<K, B> {
     }
 }
 
-impl<K: Clone + Drop, B: Registry + Archive> LoggedShard<K, B> {
+impl<K: Clone + Drop, B: BoxRegistry + Archive> LoggedShard<K, B> {
     /// What the shard of this number came to, with the seat that has the slips of what it evicted, by its mailbox: the account of
     /// its rows by all messages that were taken. `None` where the mailbox or the rows are those of another shard, where there is no
     /// seat or no log, or where messages that were taken are not processed.

@@ -3,11 +3,11 @@ ghost use Rattle.std.specs.Prelude.{◌≡◌, ◌<◌, vec_len};
 ghost use Rattle.lru_shard.specs.Victims.{longer_of};
 
 use crate::callback::AsyncEvictionCallback;
-use crate::outlet::Taken;
+use crate::outlet::TakenPair;
 use crate::world::World;
 use lru_actors::process::choose_victim;
-use lru_desks::{Registry, TakeSeat};
-use lru_logs::tie::Archive;
+use lru_desks::{BoxRegistry, TakeSeat};
+use lru_inbox::tie::Archive;
 use rand::RngExt;
 use rand_core::Rng;
 use std::sync::Wait;
@@ -16,7 +16,7 @@ use std::thread;
 
 /// What an eviction worker does: it waits for the trigger, and then asks for evictions while a limit is passed. It ends
 /// once the trigger is stopped.
-pub fn evict<K: Clone + Drop, G: Rng + Drop, R: Wait, B: Registry + Archive>(
+pub fn evict<K: Clone + Drop, G: Rng + Drop, R: Wait, B: BoxRegistry + Archive>(
     rt: &R,
     world: &World<K, B>,
     mut rng: G,
@@ -35,7 +35,7 @@ pub fn evict<K: Clone + Drop, G: Rng + Drop, R: Wait, B: Registry + Archive>(
 }
 
 // Asks for evictions while a limit is passed and no stop is raised, but for none that those under way may make needless.
-fn evict_while_over<K: Clone + Drop, G: Rng, R: Wait, B: Registry + Archive>(
+fn evict_while_over<K: Clone + Drop, G: Rng, R: Wait, B: BoxRegistry + Archive>(
     rt: &R,
     world: &World<K, B>,
     rng: &mut G,
@@ -55,7 +55,7 @@ fn evict_while_over<K: Clone + Drop, G: Rng, R: Wait, B: Registry + Archive>(
 
 // Asks the longer one of two drawn shards for an eviction, with leave to ask for one. It may refuse; then the leave is given
 // back, and the next look asks again.
-fn ask_one<K: Clone + Drop, G: Rng, R: Wait, B: Registry + Archive>(
+fn ask_one<K: Clone + Drop, G: Rng, R: Wait, B: BoxRegistry + Archive>(
     rt: &R,
     world: &World<K, B>,
     rng: &mut G,
@@ -85,7 +85,7 @@ struct Drawn {
 }
 
 // Looks at a shard.
-fn look_at<K: Clone + Drop, B: Registry + Archive>(world: &World<K, B>, shard: usize) -> Drawn
+fn look_at<K: Clone + Drop, B: BoxRegistry + Archive>(world: &World<K, B>, shard: usize) -> Drawn
     requires { shard < vec_len world.now.shards }
     ensures { result.shard ≡ shard }
 {
@@ -104,7 +104,7 @@ fn longer(a: Drawn, b: Drawn) -> usize
 
 /// What a callback worker does: it takes pairs one at a time and calls the callback with each, until all is closed and
 /// empty. It gives its seat back.
-pub fn call_back<K: Clone + Drop, C: AsyncEvictionCallback<K>, R: Wait, B: Registry + Archive>(
+pub fn call_back<K: Clone + Drop, C: AsyncEvictionCallback<K>, R: Wait, B: BoxRegistry + Archive>(
     rt: &R,
     world: &World<K, B>,
     callback: &C,
@@ -115,9 +115,9 @@ pub fn call_back<K: Clone + Drop, C: AsyncEvictionCallback<K>, R: Wait, B: Regis
     let mut seat = seat;
     for _ in rt.forever() {
         match world.outlet.take(rt, &mut seat) {
-            Taken::Pair(key, weight) => callback.call(key, weight),
-            Taken::Nothing => break,
-            Taken::NoMemory => thread::yield_now(),
+            TakenPair::Pair(key, weight) => callback.call(key, weight),
+            TakenPair::Nothing => break,
+            TakenPair::NoMemory => thread::yield_now(),
         }
     }
     seat

@@ -2,7 +2,7 @@
 ghost use Rattle.std.specs.Prelude.{◌≡◌, ◌+◌, ◌-◌, ◌<◌, [], All, vec_len, IfOk, OnOk, IsSome, is_some};
 ghost use Rattle.std.specs.Option.{ForSome};
 ghost use Rattle.std.specs.Sync.Mutex.{mutex_guard_value};
-ghost use Rattle.lru_logs.specs.Logs.{log, hand, of_log, blank_logs, blank_fronts};
+ghost use Rattle.lru_inbox.specs.Logs.{log, hand, of_log, blank_logs, blank_fronts};
 ghost use Rattle.lru_inbox.specs.Inboxes.{taken_in};
 ghost use Rattle.lru_world.specs.Looking.{LearnsWeight};
 ghost use Rattle.lru_world.specs.Seats.{slips_at};
@@ -11,19 +11,19 @@ ghost use Rattle.lru_world.specs.Replying.{HasNothing, AreTakers};
 ghost use Rattle.lru_world.specs.Places.{is_logged};
 
 use crate::LoggedShard;
-use crate::asking::{Held, next_asked};
+use crate::asking::{HeldTotals, next_asked};
 use crate::outlet::Outlet;
-use crate::rest::Rest;
+use crate::rest::RestWatch;
 use crate::trigger::Trigger;
 use lru_actors::Letter;
 use lru_actors::message::LruMsg;
-use lru_desks::{PutSeat, Registry};
+use lru_desks::{BoxRegistry, PutSeat};
+use lru_inbox::tie::Archive;
+use lru_inbox::voice::Voice;
 use lru_inbox::{Caller, Inbox, SharedInbox, Taker};
-use lru_logs::tie::Archive;
-use lru_logs::voice::Voice;
 use lru_shard::counters::shift;
 use lru_shard::eviction::is_past;
-use lru_short_locks::{ShortLock, ShortMutex};
+use lru_sharing::{ShortLock, ShortMutex};
 use std::alloc::{AllocError, Global};
 use std::collections::HashMap;
 use std::marker::Brand;
@@ -32,7 +32,7 @@ use std::sync::{MutexGuard, Wait};
 
 /// What all shards together are held to.
 #[derive(Clone, Copy, Debug, PartialEq, Eq)]
-pub struct Limits {
+pub struct OrderLimits {
     /// The most that all rows may weigh.
     pub weight_limit: usize,
     /// The most rows that there may be, if that is limited.
@@ -41,7 +41,7 @@ pub struct Limits {
 
 /// The weights of a shard's rows, for those who look.
 #[derive(Drop)]
-pub enum Weights<K: Clone + Drop, B: Registry + Archive> {
+pub enum Weights<K: Clone + Drop, B: BoxRegistry + Archive> {
     /// The weight of each row, by hash. The rows are its actor's own.
     Alone(ShortLock<HashMap<u64, usize>>),
     /// With the rows, where there is a log.
@@ -50,7 +50,7 @@ pub enum Weights<K: Clone + Drop, B: Registry + Archive> {
 
 /// What is shared of one shard.
 #[derive(Drop)]
-pub struct ShardPlace<K: Clone + Drop, B: Registry + Archive> {
+pub struct ShardPlace<K: Clone + Drop, B: BoxRegistry + Archive> {
     /// The messages that its actor is to take.
     pub mailbox: SharedInbox<K, B>,
     /// The weights of its rows.
@@ -63,7 +63,7 @@ pub struct ShardPlace<K: Clone + Drop, B: Registry + Archive> {
     served: AtomicU64,
 }
 
-impl<K: Clone + Drop, B: Registry + Archive> ShardPlace<K, B> {
+impl<K: Clone + Drop, B: BoxRegistry + Archive> ShardPlace<K, B> {
     /// The place of an empty shard of this number without a log, with room for so many weights.
     pub fn plain(alloc: Global, shard: usize, capacity: usize) -> Result<Self, AllocError> {
         let map = HashMap::with_capacity(alloc, capacity)?;
@@ -207,7 +207,7 @@ pub struct Change {
 
 /// What actors, workers and callers share.
 #[derive(Drop)]
-pub struct World<K: Clone + Drop, B: Registry + Archive = Brand> {
+pub struct World<K: Clone + Drop, B: BoxRegistry + Archive = Brand> {
     /// The shards.
     pub shards: Vec<ShardPlace<K, B>>,
     /// Where evicted pairs wait.
@@ -215,7 +215,7 @@ pub struct World<K: Clone + Drop, B: Registry + Archive = Brand> {
     /// What eviction workers wait for.
     pub trigger: Trigger,
     /// What all shards together are held to.
-    pub limits: Limits,
+    pub limits: OrderLimits,
     weight: AtomicUsize,
     len: AtomicUsize,
     evicted_weight: AtomicUsize,
@@ -225,7 +225,7 @@ pub struct World<K: Clone + Drop, B: Registry + Archive = Brand> {
     // how many evictions were asked for, and how many of those are done, modulo 2^64
     asked: AtomicUsize,
     done: AtomicUsize,
-    rest: Rest,
+    rest: RestWatch,
     stop: AtomicBool,
 }
 
@@ -236,7 +236,7 @@ fn add(counter: &AtomicUsize, amount: usize) {
     }
 }
 
-impl<K: Clone + Drop, B: Registry + Archive> World<K, B> {
+impl<K: Clone + Drop, B: BoxRegistry + Archive> World<K, B> {
     /// So many empty shards, each with room for `capacity` rows. Where there are logs, `logs` speaks for all of them and for those
     /// who take, and then for those alone; and each shard gets a seat, in order, as long as there are any: it lies beside the rows,
     /// has the slips of what the shard evicts, and `LoggedShard::end` gives it back. A seat that no shard gets is let go.
@@ -246,7 +246,7 @@ impl<K: Clone + Drop, B: Registry + Archive> World<K, B> {
         seats: Vec<PutSeat<B>>,
         count: usize,
         capacity: usize,
-        limits: Limits,
+        limits: OrderLimits,
         outlet: Outlet<K, B>,
     ) -> Result<Self, AllocError>
         requires some { 0 < count }
@@ -269,7 +269,7 @@ impl<K: Clone + Drop, B: Registry + Archive> World<K, B> {
             heaviest: AtomicUsize::new(0),
             asked: AtomicUsize::new(0),
             done: AtomicUsize::new(0),
-            rest: Rest::new(),
+            rest: RestWatch::new(),
             stop: AtomicBool::new(false),
         })
     }
@@ -330,8 +330,8 @@ impl<K: Clone + Drop, B: Registry + Archive> World<K, B> {
     }
 
     // What all shards hold. The heaviest row is read last: each row that the weight counts was told before.
-    fn held(&self) -> Held {
-        Held {
+    fn held(&self) -> HeldTotals {
+        HeldTotals {
             weight: self.weight(),
             len: self.len(),
             heaviest: self.heaviest.load(Ordering::SeqCst),
@@ -449,7 +449,7 @@ pub fn next_taker<K: Drop, B: Archive>(
 }
 
 // The places of so many shards: with logs, where there is what speaks for them.
-fn empty_places<K: Clone + Drop, B: Registry + Archive>(
+fn empty_places<K: Clone + Drop, B: BoxRegistry + Archive>(
     alloc: Global,
     logs: &mut Option<Voice<LruMsg<K>, B>>,
     seats: Vec<PutSeat<B>>,
@@ -470,7 +470,7 @@ fn empty_places<K: Clone + Drop, B: Registry + Archive>(
 }
 
 // The places of so many shards without logs.
-fn plain_places<K: Clone + Drop, B: Registry + Archive>(
+fn plain_places<K: Clone + Drop, B: BoxRegistry + Archive>(
     alloc: Global,
     count: usize,
     capacity: usize,
@@ -485,7 +485,7 @@ fn plain_places<K: Clone + Drop, B: Registry + Archive>(
 }
 
 // The places of so many shards with their logs. What spoke for all logs and those who take then speaks for those alone.
-fn logged_places<K: Clone + Drop, B: Registry + Archive>(
+fn logged_places<K: Clone + Drop, B: BoxRegistry + Archive>(
     alloc: Global,
     rest: &mut Voice<LruMsg<K>, B>,
     seats: Vec<PutSeat<B>>,

@@ -22,6 +22,6 @@ pub use Rattle.lru_recording.specs.Histories
 pub use Rattle.lru_recording.specs.Gathered
 pub use Rattle.lru_recording.specs.Replies
 pub use Rattle.lru_recording.specs.Probes
-pub use Rattle.lru_tiers.specs.Tiers
-pub use Rattle.lru_tiers.specs.TierCalls
-pub use Rattle.lru_tiers.specs.TierRuns
+pub use Rattle.lru_cores.specs.Tiers
+pub use Rattle.lru_cores.specs.TierCalls
+pub use Rattle.lru_cores.specs.TierRuns

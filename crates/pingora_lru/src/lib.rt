@@ -8,12 +8,11 @@
 //! crate beneath; these are the names for users.
 #![tactic(auto)]
 
-pub use lru_cores::{calls, inclusion};
+pub use lru_cores::{calls, inclusion, tiered};
 pub use lru_list::linked_list;
 pub use lru_locks::lru;
 pub use lru_locks::lru::Lru;
 pub use lru_shard::{totals, unit};
-pub use lru_tiers::tiered;
 
 /// Batches of admissions to an [`Lru`].
 pub mod batch {

@@ -3,8 +3,8 @@ use Rattle.std.specs.Prelude.{Option}
 use Rattle.lru_folder.specs.Files.{Files}
 use Rattle.lru_folder.specs.Meaning.{Meaning}
 use Rattle.lru_frames.specs.Words.{word}
-use Rattle.lru_checkpoints.specs.Loads.{rows_of}
-use Rattle.lru_generations.specs.declared.loading.Checkpoint.{Checkpoint}
+use Rattle.lru_generations.specs.Loads.{rows_of}
+use Rattle.lru_generations.specs.declared.newest_loading.Checkpoint.{Checkpoint}
 use Rattle.lru_generations.specs.Loaded.{IsLoaded, IsLoadedBelow}
 use Rattle.lru_generations.specs.Newest.{AreGenerationsBelow}
 use Rattle.lru_generations.proofs.KeptFrames.{on_err}

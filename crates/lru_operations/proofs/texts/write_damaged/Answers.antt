@@ -1,7 +1,7 @@
 use Rattle.std.proofs.Common.{◌++◌, [], codes}
 use Rattle.std.specs.Prelude.{decimal}
 use Rattle.lru_lines.proofs.WriteLaws.{on_ok_then}
-use Rattle.lru_checkpoints.specs.Texts.{error_text}
+use Rattle.lru_generations.specs.Texts.{error_text}
 use Rattle.lru_operations.specs.Texts.{line}
 use Rattle.lru_operations.proofs.Told.{told_as, three_before}
 use Rattle.lru_operations.proofs.texts.write_damaged.Goals as goal

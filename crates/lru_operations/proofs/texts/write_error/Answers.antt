@@ -1,5 +1,5 @@
 use Rattle.std.proofs.Common.{codes, sym, ap, ◌∙◌, append_assoc}
-use Rattle.lru_checkpoints.specs.Texts.{file_text, error_text}
+use Rattle.lru_generations.specs.Texts.{file_text, error_text}
 use Rattle.lru_operations.proofs.Told.{told_as}
 use Rattle.lru_operations.proofs.texts.write_error.Goals as goal
 

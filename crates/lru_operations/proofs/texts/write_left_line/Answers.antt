@@ -1,6 +1,6 @@
 use Rattle.std.proofs.Common.{◌++◌, [], codes, append_assoc}
 use Rattle.lru_lines.proofs.WriteLaws.{on_ok_then}
-use Rattle.lru_checkpoints.specs.Texts.{error_text}
+use Rattle.lru_generations.specs.Texts.{error_text}
 use Rattle.lru_operations.specs.Texts.{line}
 use Rattle.lru_operations.proofs.Told.{told_as}
 use Rattle.lru_operations.proofs.texts.write_left_line.Goals as goal

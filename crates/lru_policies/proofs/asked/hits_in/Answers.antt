@@ -1,5 +1,5 @@
 use Rattle.std.proofs.Common.{arith}
-use Rattle.lru_traces.specs.declared.player.Request.{Request}
+use Rattle.lru_policies.specs.declared.player.Request.{Request}
 use Rattle.lru_policies.proofs.Found.{byte_le, finds_more}
 use Rattle.lru_policies.proofs.asked.hits_in.Goals as goal
 

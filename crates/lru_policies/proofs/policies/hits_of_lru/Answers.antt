@@ -1,5 +1,5 @@
 use Rattle.std.proofs.Common.{arith, ap}
-use Rattle.lru_traces.specs.declared.player.Tally.{Tally}
+use Rattle.lru_policies.specs.declared.player.Tally.{Tally}
 use Rattle.lru_policies.proofs.Played.{hits_within}
 use Rattle.lru_policies.proofs.policies.hits_of_lru.Goals as goal
 

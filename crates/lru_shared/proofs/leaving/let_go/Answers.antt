@@ -1,6 +1,6 @@
 use Rattle.std.proofs.Common.{of_calls, sym}
-use Rattle.lru_entries.proofs.Shrunk.{both_le, not_both}
-use Rattle.lru_entries.specs.Entries.{weight_of}
+use Rattle.lru_owned_cache.proofs.Shrunk.{both_le, not_both}
+use Rattle.lru_owned_cache.specs.Entries.{weight_of}
 use Rattle.std.specs.Prelude.{length}
 use Rattle.lru_shared.proofs.Parted.{none_gone, one_gone, all_gone, not_none, fewer}
 use Rattle.lru_shared.proofs.leaving.let_go.Goals as goal

@@ -1,7 +1,7 @@
 use Rattle.std.proofs.Common.{rules, ◌≡◌, ◌/◌, sym, ap, subst, ◌∙◌}
 use Rattle.std.specs.Prelude.{All}
 use Rattle.std.proofs.lemmas.List.Elements.{All-push}
-use Rattle.lru_cache.specs.Cache.{empty}
+use Rattle.lru_owned_cache.specs.Cache.{empty}
 use Rattle.lru_shared.specs.Sharded.{empty_shard}
 use Rattle.lru_shared.proofs.shared.empty_shards.Goals as goal
 

@@ -1,7 +1,7 @@
 use Rattle.std.proofs.Common.{◌≡◌, ◌<◌, [], drop, take, ap, ◌∙◌, arith, rules}
 use Rattle.std.specs.Vec.Iter.{into_iter_items}
-use Rattle.lru_logs.specs.Logs.{hand}
-use Rattle.lru_logs.proofs.Dealing.{logs_rest}
+use Rattle.lru_inbox.specs.Logs.{hand}
+use Rattle.lru_inbox.proofs.Dealing.{logs_rest}
 use Rattle.lru_world.proofs.Slips.{first_of, rest_of, slips_of_first}
 use Rattle.lru_world.proofs.world.logged_places.Goals as goal
 

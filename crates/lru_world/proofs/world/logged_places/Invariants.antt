@@ -1,7 +1,7 @@
 use Rattle.std.proofs.Common.{◌≡◌, ◌-◌, [], vec_len}
 use Rattle.std.specs.Prelude.{All}
 use Rattle.std.specs.Vec.Iter.{into_iter_items}
-use Rattle.lru_logs.specs.Logs.{hand, blank_logs, blank_fronts}
+use Rattle.lru_inbox.specs.Logs.{hand, blank_logs, blank_fronts}
 use Rattle.lru_world.proofs.world.logged_places.Given as goal
 
 abbrev pub invariant-loop-shard : goal.invariant-loop-shard

@@ -1,8 +1,8 @@
 use Rattle.std.proofs.Common.{◌≡◌, ◌+◌, ◌-◌, [], take, drop, sym, ap, ◌∙◌, subst}
 use Rattle.std.specs.Prelude.{is_some}
-use Rattle.lru_hands.proofs.Hands.{some_same}
-use Rattle.lru_logs.specs.Logs.{hand, of_taker, taken_by, blank_fronts}
-use Rattle.lru_logs.proofs.Dealing.{fronts_rest}
+use Rattle.lru_sharing.proofs.Hands.{some_same}
+use Rattle.lru_inbox.specs.Logs.{hand, of_taker, taken_by, blank_fronts}
+use Rattle.lru_inbox.proofs.Dealing.{fronts_rest}
 use Rattle.lru_inbox.specs.Inboxes.{taken_in}
 use Rattle.lru_world.proofs.world.next_taker.Goals as goal
 

@@ -1,8 +1,8 @@
 use Rattle.std.proofs.Common.{◌≡◌, length, rules, arith, sym, ap, ◌∙◌}
 use Rattle.lru_mailbox.specs.Ledger.{Seats}
 use Rattle.lru_mailbox.proofs.TieLaws.{settled_as}
-use Rattle.lru_hands.specs.Hands.{up}
-use Rattle.lru_hands.proofs.Hands.{as_many}
+use Rattle.lru_sharing.specs.Hands.{up}
+use Rattle.lru_sharing.proofs.Hands.{as_many}
 use Rattle.lru_desks.proofs.Desks.{tied_told}
 use Rattle.lru_desks.proofs.desk.Desk.settle.Goals as goal
 

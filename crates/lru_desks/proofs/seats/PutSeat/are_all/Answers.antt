@@ -1,6 +1,6 @@
 use Rattle.std.proofs.Common.{◌≡◌, sym, subst, refl, true≢false, arith, rules}
 use Rattle.std.proofs.lemmas.Option.{slice_get_read}
-use Rattle.lru_hands.proofs.Hands.{in_order, as_many, own_number}
+use Rattle.lru_sharing.proofs.Hands.{in_order, as_many, own_number}
 use Rattle.lru_desks.proofs.seats.PutSeat.are_all.Goals as goal
 
 pub returns-then-seats-count : goal.returns-then-seats-count

@@ -4,7 +4,7 @@ use Rattle.lru_index.specs.Hashing.{key_hash}
 use Rattle.lru_index.specs.declared.hashing.SeededHashes.{SeededHashes}
 use Rattle.lru_index.specs.contracts.hashing.SeededHashesBuildHasher.TheImpl as builder
 use Rattle.lru_index.specs.contracts.hashing.SeededHasherHasher.TheImpl as hasher
-use Rattle.lru_cache.specs.Cache.{entry_of}
+use Rattle.lru_owned_cache.specs.Cache.{entry_of}
 use Rattle.lru_policies.proofs.Unseen.{none_of, is_used, put_asking}
 use Rattle.lru_policies.proofs.asked.AskingCacheU64UnitAsked.ask.Goals as goal
 

@@ -1,5 +1,5 @@
 use Rattle.std.proofs.Common.{inl, nat_eq}
-use Rattle.lru_cache.specs.Cache.{entry_of}
+use Rattle.lru_owned_cache.specs.Cache.{entry_of}
 use Rattle.lru_policies.proofs.Unseen.{none_of, put_first_come}
 use Rattle.lru_policies.proofs.asked.CacheU64UnitAsked.ask.Goals as goal
 

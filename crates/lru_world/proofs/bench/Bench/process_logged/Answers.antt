@@ -1,14 +1,14 @@
 use Rattle.std.proofs.Common.{[], ◌∷◌, ◌<◌, ◌^◌, arith, length, nat_eq, sym, ap, ◌∙◌, subst}
 use Rattle.std.specs.HashMap as hash
 use Rattle.lru_shard.specs.Limits.{cap_of}
-use Rattle.lru_logs.specs.Logs.{front, of_fronts, taken_by}
+use Rattle.lru_inbox.specs.Logs.{front, of_fronts, taken_by}
 use Rattle.lru_inbox.specs.Inboxes.{shown, taken_in}
 use Rattle.lru_inbox.proofs.Kept.{shown_is}
 use Rattle.std.specs.Prelude.{Option, is_some}
 use Rattle.std.proofs.Common.{Some, None, refl, ◌≡◌}
 use Rattle.std.proofs.Math.Logic.{∥∥₁_map}
 use Rattle.lru_desks.specs.declared.seats.PutSeat.{PutSeat}
-use Rattle.lru_desks.specs.declared.tie.Registry.{Ghosts}
+use Rattle.lru_desks.specs.declared.tie.BoxRegistry.{Ghosts}
 use Rattle.lru_world.specs.Accounts.{IsKept}
 use Rattle.lru_world.specs.Seats.{slips_at}
 use Rattle.lru_world.specs.Outlets.{is_ledger}

@@ -1,5 +1,5 @@
 use Rattle.std.proofs.Common.{map, sym, ap, ◌∙◌}
-use Rattle.lru_hands.proofs.Hands.{some_same}
+use Rattle.lru_sharing.proofs.Hands.{some_same}
 use Rattle.lru_world.specs.Accounts.{row_of_slip}
 use Rattle.lru_world.specs.Seats.{slips_at}
 use Rattle.lru_world.proofs.Accounts.{slips_all}

@@ -1,9 +1,9 @@
 use Rattle.std.specs.HashMap as hash_map
 use Rattle.std.proofs.Common.{[], ◌∷◌, ◌++◌, nat_eq, map, sym, ap, ◌∙◌, subst}
 use Rattle.std.proofs.Math.Logic.{∥∥₁_map}
-use Rattle.lru_hands.proofs.Hands.{some_same}
+use Rattle.lru_sharing.proofs.Hands.{some_same}
 use Rattle.lru_shard.specs.Limits.{cap_of}
-use Rattle.lru_logs.specs.Logs.{hand, log_of, front_of}
+use Rattle.lru_inbox.specs.Logs.{hand, log_of, front_of}
 use Rattle.lru_inbox.specs.Inboxes.{shown}
 use Rattle.lru_world.specs.Accounts.{IsKept, IsAccount}
 use Rattle.lru_world.specs.Seats.{slips_at}

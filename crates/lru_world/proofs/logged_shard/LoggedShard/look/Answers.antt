@@ -1,6 +1,6 @@
 use Rattle.std.proofs.Common.{[], ◌∷◌, ◌++◌, ◌<◌, ◌^◌, length, arith, sym, ap, ◌∙◌, subst}
 use Rattle.std.proofs.Math.Logic.{∥∥₁_map}
-use Rattle.lru_logs.specs.Logs.{of_fronts, joined, Shows}
+use Rattle.lru_inbox.specs.Logs.{of_fronts, joined, Shows}
 use Rattle.lru_inbox.specs.Inboxes.{shown}
 use Rattle.lru_inbox.proofs.Counting.{refusals_fit}
 use Rattle.lru_actors.specs.Messages.{State}

@@ -1,6 +1,6 @@
 use Rattle.std.proofs.Common.{◌≡◌, length, take, sym, ap, ◌∙◌, subst}
-use Rattle.lru_hands.proofs.Hands.{some_same}
-use Rattle.lru_logs.specs.Logs.{taken_by}
+use Rattle.lru_sharing.proofs.Hands.{some_same}
+use Rattle.lru_inbox.specs.Logs.{taken_by}
 use Rattle.lru_inbox.specs.Inboxes.{shown, taken_in}
 use Rattle.lru_inbox.proofs.Kept.{shown_is, length_take}
 use Rattle.lru_world.proofs.Meeting.{same_seen}

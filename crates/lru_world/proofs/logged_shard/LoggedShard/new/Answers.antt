@@ -2,7 +2,7 @@ use Rattle.std.proofs.Common.{[], ◌∷◌, nat_eq, length, sym, ap, ◌∙◌,
 use Rattle.std.specs.HashMap as hash_map
 use Rattle.std.specs.Map.{lookup}
 use Rattle.lru_shard.specs.Limits.{cap_of}
-use Rattle.lru_logs.specs.Logs.{front, of_fronts}
+use Rattle.lru_inbox.specs.Logs.{front, of_fronts}
 use Rattle.lru_inbox.specs.Inboxes.{shown}
 use Rattle.lru_world.specs.Accounts.{IsKept}
 use Rattle.lru_world.specs.Seats.{slips_at}

@@ -1,5 +1,5 @@
 use Rattle.std.proofs.Common.{[], ◌∷◌, ◌++◌, map, refl, sym, ap, ◌∙◌, subst}
-use Rattle.lru_logs.specs.Logs.{Begins, Shows, accepted, front_of, hand, joined, log_of, seen_of}
+use Rattle.lru_inbox.specs.Logs.{Begins, Shows, accepted, front_of, hand, joined, log_of, seen_of}
 use Rattle.lru_world.proofs.Meeting.{seen_begins_with}
 use Rattle.lru_world.proofs.shard_end.ShardEnd.recognize.Goals as goal
 
