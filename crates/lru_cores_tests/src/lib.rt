@@ -21,15 +21,15 @@ mod hashers;
 #[cfg(test)]
 mod left;
 #[cfg(test)]
+mod locked_closures;
+#[cfg(test)]
+mod locked_draws;
+#[cfg(test)]
+mod locked_rows;
+#[cfg(test)]
+mod locked_steps;
+#[cfg(test)]
 mod looks;
-#[cfg(test)]
-mod lru_closures;
-#[cfg(test)]
-mod lru_draws;
-#[cfg(test)]
-mod lru_rows;
-#[cfg(test)]
-mod lru_steps;
 #[cfg(test)]
 mod recorded_calls;
 #[cfg(test)]

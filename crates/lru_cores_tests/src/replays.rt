@@ -1,7 +1,7 @@
 //! Drawn calls on an `Lru` and on a core answer the same, and leave the same, by one thread and by two.
 ghost use Rattle.lru_cores.specs.Calls.{IsAllowed};
 
-use crate::lru_steps::answer_of;
+use crate::locked_steps::answer_of;
 use crate::shown::{tell_core_state, tell_state, text_of};
 use lru_cores::calls;
 use lru_cores::calls::Call;

@@ -49,15 +49,10 @@ pub fn is_exact(requests: &[Request]) -> bool {
 /// What a policy is called in a table.
 #[derive(Clone, Copy)]
 pub struct Name {
-    policy: Policy,
-    is_exact: bool,
-}
-
-impl Name {
-    /// That of a policy, where the optimum is exact or a bound.
-    pub fn new(policy: Policy, is_exact: bool) -> Self {
-        Name { policy, is_exact }
-    }
+    /// The policy.
+    pub policy: Policy,
+    /// Whether the optimum is told exactly, or is a bound.
+    pub is_exact: bool,
 }
 
 impl Display for Name {
@@ -72,21 +67,16 @@ impl Display for Name {
 /// The line above a table.
 #[derive(Clone, Copy)]
 pub struct Head {
-    is_exact: bool,
-}
-
-impl Head {
-    /// That of a table whose optimum is exact or a bound.
-    pub fn new(is_exact: bool) -> Self {
-        Head { is_exact }
-    }
+    /// Whether the optimum is told exactly, or is a bound.
+    pub is_exact: bool,
 }
 
 impl Display for Head {
     fn fmt<W: fmt::Write>(&self, f: &mut fmt::Formatter<W>) -> fmt::Result {
         f.write_str("limit")?;
+        let is_exact = self.is_exact;
         for policy in POLICIES {
-            write!(f, " {}%", Name::new(policy, self.is_exact))?;
+            write!(f, " {}%", Name { policy, is_exact })?;
         }
         Ok(())
     }
@@ -95,15 +85,10 @@ impl Display for Head {
 /// A line of a table: a limit, and the share of the requests that each policy found.
 #[derive(Clone, Copy)]
 pub struct TableLine<'a> {
-    row: &'a HitsRow,
-    requests: usize,
-}
-
-impl<'a> TableLine<'a> {
-    /// That of a row, of so many requests.
-    pub fn new(row: &'a HitsRow, requests: usize) -> Self {
-        TableLine { row, requests }
-    }
+    /// The row.
+    pub row: &'a HitsRow,
+    /// How many requests were played.
+    pub requests: usize,
 }
 
 impl Display for TableLine<'_> {

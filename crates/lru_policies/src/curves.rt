@@ -56,7 +56,7 @@ fn write_plain<W: fmt::Write>(f: &mut fmt::Formatter<W>, text: &str) -> fmt::Res
 
 impl<'a> Curves<'a> {
     /// The curves of rows of one trace.
-    pub fn new(name: &'a str, requests: &[Request], rows: &'a [HitsRow]) -> Self {
+    pub(crate) fn new(name: &'a str, requests: &[Request], rows: &'a [HitsRow]) -> Self {
         Curves {
             name,
             rows,
@@ -92,6 +92,8 @@ impl<'a> Curves<'a> {
         f.write_str("\"/>\n")?;
         let (column, line) = (place as u64 % 3, (place as u64 / 3).min(1));
         let (left, level) = (LEFT + 180 * column, 36 + 14 * line);
+        let is_exact = self.is_exact;
+        let name = Name { policy, is_exact };
         write!(
             f,
             "<line x1=\"{left}\" x2=\"{}\" y1=\"{level}\" y2=\"{level}\" {}/>\n<text x=\"{}\" y=\"{}\">{}</text>\n",
@@ -99,7 +101,7 @@ impl<'a> Curves<'a> {
             line_of(policy),
             left + 36,
             level + 4,
-            Name::new(policy, self.is_exact)
+            name
         )
     }
 

@@ -47,7 +47,7 @@ impl Takes for Vec<Request> {
 
 /// Hands over the requests of an input up to its first bad line, which is answered. The first line tells the format, as
 /// `read_line` has it.
-pub fn read_into<R: BufRead, T: Takes>(
+pub(crate) fn read_into<R: BufRead, T: Takes>(
     rt: HostRuntime,
     progress: Progress,
     input: &mut R,

@@ -164,7 +164,8 @@ fn tell_rows(
     requests: &[Request],
 ) -> io::Result<Option<Vec<HitsRow>>> {
     println!(rt; "{name}: {} requests", requests.len())?;
-    println!(rt; "{}", Head::new(is_exact(requests)))?;
+    let is_exact = is_exact(requests);
+    println!(rt; "{}", Head { is_exact })?;
     let mut rows = Vec::new(rt.alloc());
     for limit in limits {
         progress.show(rt, "limit", *limit);
@@ -172,7 +173,11 @@ fn tell_rows(
         progress.clear(rt);
         match played {
             Ok(row) => {
-                println!(rt; "{}", TableLine::new(&row, requests.len()))?;
+                let line = TableLine {
+                    row: &row,
+                    requests: requests.len(),
+                };
+                println!(rt; "{line}")?;
                 rows.push(row)?;
             }
             Err(refusal) => {

@@ -18,21 +18,21 @@ impl Progress {
     }
 
     /// Writes the line anew. What can't be written is left out.
-    pub fn show(self, rt: HostRuntime, what: &str, count: usize) {
+    pub(crate) fn show(self, rt: HostRuntime, what: &str, count: usize) {
         if self.is_shown {
             let _ = eprint!(rt; "\r{what} {count}\x1b[K");
         }
     }
 
     /// Writes the line anew: which one of how many is under way, the first being 1.
-    pub fn show_place(self, rt: HostRuntime, what: &str, place: usize, count: usize) {
+    pub(crate) fn show_place(self, rt: HostRuntime, what: &str, place: usize, count: usize) {
         if self.is_shown {
             let _ = eprint!(rt; "\r{what} {place} of {count}\x1b[K");
         }
     }
 
     /// Wipes the line.
-    pub fn clear(self, rt: HostRuntime) {
+    pub(crate) fn clear(self, rt: HostRuntime) {
         if self.is_shown {
             let _ = eprint!(rt; "\r\x1b[K");
         }

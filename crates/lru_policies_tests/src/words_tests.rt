@@ -84,7 +84,9 @@ fn table(alloc: Global) -> Result<String, AllocError> {
     for (key, size) in [(1u64, 2usize), (2, 1), (1, 2)] {
         requests.push(Request { key, size })?;
     }
-    let head = Head::new(is_exact(&requests));
+    let head = Head {
+        is_exact: is_exact(&requests),
+    };
     let estimate = Estimate {
         limit: 9,
         requests: 1000,
@@ -92,7 +94,13 @@ fn table(alloc: Global) -> Result<String, AllocError> {
         error: 123,
     };
     match row_of(alloc, 3, &requests) {
-        Ok(row) => format!(in alloc; "{head}\n{}\n{estimate}", TableLine::new(&row, 3)),
+        Ok(row) => {
+            let line = TableLine {
+                row: &row,
+                requests: 3,
+            };
+            format!(in alloc; "{head}\n{line}\n{estimate}")
+        }
         Err(refusal) => format!(in alloc; "{refusal:?}"),
     }
 }

@@ -181,7 +181,7 @@ fn empty_slots<T: Drop, const N: usize>(
 
 impl<T: Drop, const N: usize> GatheringRoom<T, N> {
     /// GatheringRoom for N shards.
-    pub fn new(alloc: Global) -> Result<Self, AllocError> {
+    pub(crate) fn new(alloc: Global) -> Result<Self, AllocError> {
         Ok(GatheringRoom {
             slots: empty_slots(alloc)?,
             all: Gathered::with_room(alloc)?,

@@ -109,7 +109,7 @@ impl<'a, C> Held<'a, C> {
 
 impl<C> Shard<C> {
     /// A shard of a cache, for which nothing is being made.
-    pub fn new(alloc: Global, cache: C) -> Self {
+    pub(crate) fn new(alloc: Global, cache: C) -> Self {
         let making = Making::none(alloc);
         Shard {
             shelf: ShortMutex::new(Shelf { cache, making }),

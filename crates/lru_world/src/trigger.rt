@@ -31,7 +31,7 @@ pub struct Trigger {
 
 impl Trigger {
     /// A trigger that was never raised.
-    pub fn new() -> Self {
+    pub(crate) fn new() -> Self {
         Trigger {
             raised: Mutex::new(Raised {
                 count: 0,
@@ -52,18 +52,18 @@ impl Trigger {
     }
 
     /// Stops the trigger, and wakes who waits for it.
-    pub fn stop(&self, rt: &impl Wait) {
+    pub(crate) fn stop(&self, rt: &impl Wait) {
         self.raised.lock(rt).stopped = true;
         self.changed.notify_all();
     }
 
     /// A worker has nothing more to do for this count. It waits for another one next.
-    pub fn rests(&self, rt: &impl Wait, seen: u64) {
+    pub(crate) fn rests(&self, rt: &impl Wait, seen: u64) {
         rest(&mut *self.raised.lock(rt), seen);
     }
 
     /// The count, while so many workers have nothing to do until it is another one, or once the trigger is stopped.
-    pub fn count_at_rest(&self, rt: &impl Wait, workers: usize) -> Option<u64> {
+    pub(crate) fn count_at_rest(&self, rt: &impl Wait, workers: usize) -> Option<u64> {
         let raised = self.raised.lock(rt);
         if raised.stopped || raised.resting >= workers {
             Some(raised.count)
@@ -73,7 +73,7 @@ impl Trigger {
     }
 
     /// Waits until the count is another one than this, and answers it; `None` once the trigger is stopped.
-    pub fn wait(&self, rt: &impl Wait, seen: u64) -> Option<u64> {
+    pub(crate) fn wait(&self, rt: &impl Wait, seen: u64) -> Option<u64> {
         let raised = self.changed.wait_while(rt, self.raised.lock(rt), |raised| {
             raised.count == seen && !raised.stopped
         });

@@ -65,7 +65,7 @@ pub struct ShardPlace<K: Clone + Drop, B: BoxRegistry + Archive> {
 
 impl<K: Clone + Drop, B: BoxRegistry + Archive> ShardPlace<K, B> {
     /// The place of an empty shard of this number without a log, with room for so many weights.
-    pub fn plain(alloc: Global, shard: usize, capacity: usize) -> Result<Self, AllocError> {
+    pub(crate) fn plain(alloc: Global, shard: usize, capacity: usize) -> Result<Self, AllocError> {
         let map = HashMap::with_capacity(alloc, capacity)?;
         let mailbox = SharedInbox::new(alloc, shard, None);
         Ok(ShardPlace::new(mailbox, Weights::Alone(ShortLock::new(map))))
@@ -343,7 +343,7 @@ impl<K: Clone + Drop, B: BoxRegistry + Archive> World<K, B> {
     ///
     /// Those that are done are read before the weight, which so counts them; and between two looks of two workers the number of
     /// those asked for moves, so that only one of the two gets leave by what it saw.
-    pub fn may_ask(&self) -> bool {
+    pub(crate) fn may_ask(&self) -> bool {
         let asked = self.asked.load(Ordering::SeqCst);
         let pending = asked.wrapping_sub(self.done.load(Ordering::SeqCst));
         let Some(next) = next_asked(&self.limits, &self.held(), asked, pending) else {
@@ -355,12 +355,12 @@ impl<K: Clone + Drop, B: BoxRegistry + Archive> World<K, B> {
     }
 
     /// So many evictions that were asked for are done: what they took is counted, or they took nothing.
-    pub fn evictions_done(&self, count: usize) {
+    pub(crate) fn evictions_done(&self, count: usize) {
         add(&self.done, count);
     }
 
     /// So many messages of a shard are done with: they are counted and answered, and the workers are told.
-    pub fn served(&self, rt: &impl Wait, shard: usize, count: usize)
+    pub(crate) fn served(&self, rt: &impl Wait, shard: usize, count: usize)
         requires { shard < vec_len self.now.shards }
     {
         self.shards[shard]
@@ -370,7 +370,7 @@ impl<K: Clone + Drop, B: BoxRegistry + Archive> World<K, B> {
     }
 
     /// An eviction worker has asked for all that was wanted when the trigger had this count.
-    pub fn rests(&self, rt: &impl Wait, seen: u64) {
+    pub(crate) fn rests(&self, rt: &impl Wait, seen: u64) {
         self.trigger.rests(rt, seen);
         self.rest.look_again(rt);
     }
@@ -412,7 +412,7 @@ impl<K: Clone + Drop, B: BoxRegistry + Archive> World<K, B> {
     }
 
     /// Whether the stop was raised.
-    pub fn is_stopped(&self) -> bool {
+    pub(crate) fn is_stopped(&self) -> bool {
         self.stop.load(Ordering::SeqCst)
     }
 

@@ -1,5 +1,5 @@
 //! Calls of an `Lru` with closures: what they are handed, what comes of it, and which are not called.
-use crate::lru_steps::shown;
+use crate::locked_steps::shown;
 use lru_locks::lru::Lru;
 use lru_shard::unit::{Cause, Refused};
 use std::alloc::{AllocError, Global};

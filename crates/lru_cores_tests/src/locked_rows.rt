@@ -2,7 +2,7 @@
 ghost use Rattle.std.specs.Prelude.{◌<◌};
 
 use crate::asked::Step;
-use crate::lru_steps::tell_faults;
+use crate::locked_steps::tell_faults;
 use crate::tables::{
     ANSWERS_EACH_CALL, ANSWERS_WHERE_NOTHING_IS, COUNTS_A_ROW_OF_WEIGHT_0_ONCE,
     COUNTS_UP_TO_THE_WIDTH, EVICTS_THE_OLDEST, INCREMENTS, PROMOTES, SETS_WEIGHTS, WEIGHS_A_HALF,
