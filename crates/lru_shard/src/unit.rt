@@ -5,7 +5,8 @@ ghost use Rattle.lru_shard.specs.Shard.{number_of, refusal, size_of, and_row};
 ghost use Rattle.lru_shard.specs.Unit.{raised, started};
 
 use lru_index::hashing::SeededHashes;
-use lru_list::linked_list::{LinkedListIter, MOST_ITEMS};
+use lru_list::iter::LinkedListIter;
+use lru_list::linked_list::MOST_ITEMS;
 use lru_rows::iter::RowsIter;
 use lru_rows::rows::Rows;
 use std::alloc::{AllocError, Global};

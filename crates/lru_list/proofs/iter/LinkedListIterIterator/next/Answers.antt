@@ -5,7 +5,7 @@ use Rattle.lru_list.specs.declared.linked_list.Node.{Node}
 use Rattle.lru_list.specs.Representation.Nodes.{items, rest_of, IsSpan}
 use Rattle.lru_list.proofs.LinkedStates.{length-items}
 use Rattle.lru_list.proofs.LinkedSpans.{first_within, first_step, first_item}
-use Rattle.lru_list.proofs.linked_list.LinkedListIterIterator.next.Goals as goal
+use Rattle.lru_list.proofs.iter.LinkedListIterIterator.next.Goals as goal
 
 pub offset_bounds-nodes-self-inside : goal.offset_bounds-nodes-self-inside
 offset_bounds-nodes-self-inside g c =

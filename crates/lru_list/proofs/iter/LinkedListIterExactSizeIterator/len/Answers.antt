@@ -1,6 +1,6 @@
 use Rattle.std.proofs.Common.{sym}
 use Rattle.lru_list.proofs.LinkedSpans.{length-rest}
-use Rattle.lru_list.proofs.linked_list.LinkedListIterExactSizeIterator.len.Goals as goal
+use Rattle.lru_list.proofs.iter.LinkedListIterExactSizeIterator.len.Goals as goal
 
 pub returns-clause-value : goal.returns-clause-value
 returns-clause-value g c =

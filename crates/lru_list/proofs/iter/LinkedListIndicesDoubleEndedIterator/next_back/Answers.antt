@@ -3,7 +3,7 @@ use Rattle.std.proofs.lemmas.List.{get_or-map, length_push}
 use Rattle.lru_list.specs.declared.linked_list.Node.{Node}
 use Rattle.lru_list.specs.Representation.Nodes.{places_of, IsSpan}
 use Rattle.lru_list.proofs.LinkedSpans.{last_within, last_step, last_place}
-use Rattle.lru_list.proofs.linked_list.LinkedListIndicesDoubleEndedIterator.next_back.Goals as goal
+use Rattle.lru_list.proofs.iter.LinkedListIndicesDoubleEndedIterator.next_back.Goals as goal
 
 pub offset_bounds-nodes-place : goal.offset_bounds-nodes-place
 offset_bounds-nodes-place g c =

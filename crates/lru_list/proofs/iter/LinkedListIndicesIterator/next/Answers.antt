@@ -3,7 +3,7 @@ use Rattle.std.proofs.lemmas.List.{get_or-map}
 use Rattle.lru_list.specs.declared.linked_list.Node.{Node}
 use Rattle.lru_list.specs.Representation.Nodes.{places_of, IsSpan}
 use Rattle.lru_list.proofs.LinkedSpans.{first_within, first_step}
-use Rattle.lru_list.proofs.linked_list.LinkedListIndicesIterator.next.Goals as goal
+use Rattle.lru_list.proofs.iter.LinkedListIndicesIterator.next.Goals as goal
 
 pub offset_bounds-nodes-index : goal.offset_bounds-nodes-index
 offset_bounds-nodes-index g c =

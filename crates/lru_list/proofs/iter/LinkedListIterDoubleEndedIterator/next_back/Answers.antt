@@ -5,7 +5,7 @@ use Rattle.lru_list.specs.declared.linked_list.Node.{Node}
 use Rattle.lru_list.specs.Representation.Nodes.{items, rest_of, IsSpan}
 use Rattle.lru_list.proofs.LinkedStates.{length-items}
 use Rattle.lru_list.proofs.LinkedSpans.{last_within, last_step, last_item}
-use Rattle.lru_list.proofs.linked_list.LinkedListIterDoubleEndedIterator.next_back.Goals as goal
+use Rattle.lru_list.proofs.iter.LinkedListIterDoubleEndedIterator.next_back.Goals as goal
 
 pub offset_bounds-nodes-self-inside : goal.offset_bounds-nodes-self-inside
 offset_bounds-nodes-self-inside g c =

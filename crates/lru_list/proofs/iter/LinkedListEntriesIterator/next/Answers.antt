@@ -5,7 +5,7 @@ use Rattle.lru_list.specs.declared.linked_list.Node.{Node}
 use Rattle.lru_list.specs.Representation.Nodes.{items, pairs_of, IsSpan}
 use Rattle.lru_list.proofs.LinkedStates.{length-items}
 use Rattle.lru_list.proofs.LinkedSpans.{first_within, first_step, first_pair}
-use Rattle.lru_list.proofs.linked_list.LinkedListEntriesIterator.next.Goals as goal
+use Rattle.lru_list.proofs.iter.LinkedListEntriesIterator.next.Goals as goal
 
 pub offset_bounds-nodes-index : goal.offset_bounds-nodes-index
 offset_bounds-nodes-index g c =

@@ -5,7 +5,7 @@ use Rattle.lru_list.specs.declared.linked_list.Node.{Node}
 use Rattle.lru_list.specs.Representation.Nodes.{items, pairs_of, IsSpan}
 use Rattle.lru_list.proofs.LinkedStates.{length-items}
 use Rattle.lru_list.proofs.LinkedSpans.{last_within, last_step, last_pair}
-use Rattle.lru_list.proofs.linked_list.LinkedListEntriesDoubleEndedIterator.next_back.Goals as goal
+use Rattle.lru_list.proofs.iter.LinkedListEntriesDoubleEndedIterator.next_back.Goals as goal
 
 pub offset_bounds-nodes-place : goal.offset_bounds-nodes-place
 offset_bounds-nodes-place g c =

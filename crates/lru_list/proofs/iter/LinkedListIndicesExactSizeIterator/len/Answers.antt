@@ -1,7 +1,7 @@
 use Rattle.std.proofs.Common.{sym}
 use Rattle.lru_list.specs.Representation.Nodes.{nexts}
 use Rattle.lru_list.proofs.Chains.{length-path}
-use Rattle.lru_list.proofs.linked_list.LinkedListIndicesExactSizeIterator.len.Goals as goal
+use Rattle.lru_list.proofs.iter.LinkedListIndicesExactSizeIterator.len.Goals as goal
 
 pub returns-clause-value : goal.returns-clause-value
 returns-clause-value g c =
