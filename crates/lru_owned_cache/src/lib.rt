@@ -8,4 +8,5 @@ pub mod cache;
 pub mod draining;
 pub mod entry;
 pub mod keeping;
+pub mod puts;
 pub mod shrinking;
