@@ -7,6 +7,7 @@
 #![tactic(auto)]
 
 pub mod calls;
+pub mod evictions;
 pub mod inclusion;
 pub mod lru_core;
 pub mod tiered;
