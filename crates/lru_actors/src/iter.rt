@@ -1,6 +1,6 @@
 //! The rows of an actor's shard, one after the other.
 
-use lru_list::iter::LinkedListIter;
+use lru_list::linked_list::LinkedListIter;
 use lru_shard::unit::LruUnitIter;
 use std::marker::Model;
 

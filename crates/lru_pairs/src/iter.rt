@@ -5,7 +5,7 @@ ghost use Rattle.std.specs.Iterator.SizeHint.{IsWithinCount};
 ghost use Rattle.std.specs.Map.Iter.{TakesFirst, TakesLast, deref};
 ghost use Rattle.lru_rows.specs.Rows.{shown_entry};
 
-use lru_list::iter::{LinkedListEntries, LinkedListIter};
+use lru_list::linked_list::{LinkedListEntries, LinkedListIter};
 use std::iter::FusedIterator;
 use std::marker::Model;
 

@@ -6,7 +6,7 @@ ghost use Rattle.std.specs.Map.Iter.{TakesFirst, TakesLast};
 ghost use Rattle.lru_rows.specs.Rows.{shown, shown_entry};
 ghost use Rattle.lru_rows.specs.Representation.Columns.{value_at};
 
-use lru_list::iter::{LinkedListEntries, LinkedListIndices};
+use lru_list::linked_list::{LinkedListEntries, LinkedListIndices};
 use std::iter::FusedIterator;
 use std::marker::Model;
 
