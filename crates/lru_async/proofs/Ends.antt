@@ -4,8 +4,8 @@ use Rattle.std.specs.declared.clone.Clone as clone
 use Rattle.lru_mailbox.specs.declared.slip.Slip.{Slip}
 use Rattle.lru_inbox.specs.declared.tie.Archive as archive
 use Rattle.lru_inbox.specs.Logs.{log_of}
-use Rattle.lru_world.specs.declared.shard_end.ShardEnd.{ShardEnd}
-use Rattle.lru_world.specs.Accounts.{IsAccount}
+use Rattle.lru_workers.specs.declared.shard_end.ShardEnd.{ShardEnd}
+use Rattle.lru_workers.specs.Accounts.{IsAccount}
 use Rattle.lru_async.specs.Accounts.{Accounts}
 
 module _ {K B : Type 0} {C : clone.Ghosts K} {A : archive.Ghosts B} (cap : ℕ) where

@@ -6,7 +6,7 @@ use native.Mathlib.Decide.{ℕ_discrete}
 use Rattle.std.proofs.Common.{Some, None}
 use Rattle.std.specs.Prelude.{Option, IfOk}
 use Rattle.std.specs.Option.{ForSome}
-use Rattle.lru_sharing.proofs.Hands.{some_same}
+use Rattle.lru_short_locks.proofs.Hands.{some_same}
 use Rattle.lru_actors.specs.declared.effect.Reply.{Reply}
 use Rattle.lru_actors.specs.declared.effect.Reply.TheVariants as reply
 use Rattle.lru_actors.specs.declared.message.LruMsg.{LruMsg}

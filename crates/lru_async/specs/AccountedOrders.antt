@@ -1,7 +1,7 @@
 -- An order whose history is accounted for.
 use Rattle.std.specs.Prelude.{ℕ}
 use Rattle.std.specs.declared.clone.Clone as clone
-use Rattle.lru_desks.specs.declared.tie.BoxRegistry as registry
+use Rattle.lru_boxes.specs.declared.tie.BoxRegistry as registry
 use Rattle.lru_inbox.specs.declared.tie.Archive as archive
 use Rattle.lru_async.specs.declared.async_lru.AsyncLru.{AsyncLru}
 use Rattle.lru_async.specs.LoggedOrders.{logged_order}

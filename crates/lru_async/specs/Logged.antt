@@ -8,7 +8,7 @@ use Rattle.lru_inbox.specs.declared.hand.Front.{Front}
 use Rattle.lru_inbox.specs.Logs.{Begins, seen_of}
 use Rattle.lru_inbox.specs.declared.caller.Caller.{Caller}
 use Rattle.lru_inbox.specs.Replies.{IsReply}
-use Rattle.lru_world.specs.Looking.{LearnsWeight}
+use Rattle.lru_workers.specs.Looking.{LearnsWeight}
 use Rattle.lru_async.specs.declared.async_lru.ShardData.{ShardData}
 
 module _ {K B : Type 0} {A : archive.Ghosts B} where

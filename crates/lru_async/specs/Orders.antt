@@ -3,10 +3,10 @@ use Rattle.std.specs.Prelude.{◌≡◌, ℕ, None, vec_len}
 use Rattle.std.specs.Arc.{arc_value}
 use Rattle.std.specs.declared.alloc.Global.{Global}
 use Rattle.std.specs.declared.clone.Clone as clone
-use Rattle.lru_desks.specs.declared.tie.BoxRegistry as registry
+use Rattle.lru_boxes.specs.declared.tie.BoxRegistry as registry
 use Rattle.lru_inbox.specs.declared.tie.Archive as archive
-use Rattle.lru_world.specs.declared.world.OrderLimits.{OrderLimits}
-use Rattle.lru_world.specs.declared.world.World.{World}
+use Rattle.lru_workers.specs.declared.world.OrderLimits.{OrderLimits}
+use Rattle.lru_workers.specs.declared.world.World.{World}
 use Rattle.lru_async.specs.declared.async_lru.AsyncLru.{AsyncLru}
 use Rattle.lru_async.specs.declared.ledger_lru.LedgerLru.{LedgerLru}
 use Rattle.lru_async.specs.declared.builder.BuilderSettings.{BuilderSettings}

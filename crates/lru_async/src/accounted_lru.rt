@@ -9,10 +9,10 @@ use crate::async_lru::AsyncLru;
 use crate::ending::end_all;
 use crate::logged_lru::LoggedLru;
 use crate::seats_back::{all_puts, all_takes, sole};
-use lru_desks::{BoxRegistry, LedgerBox, PutSeat, TakeSeat};
+use lru_boxes::{BoxRegistry, LedgerBox, PutSeat, TakeSeat};
 use lru_inbox::tie::Archive;
 use lru_mailbox::Settled;
-use lru_world::ShardEnd;
+use lru_workers::ShardEnd;
 use std::alloc::{AllocError, Global};
 use std::sync::{Arc, Wait};
 

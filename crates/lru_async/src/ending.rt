@@ -3,13 +3,13 @@ ghost use Rattle.std.specs.Prelude.{◌≡◌, ◌≤◌, [], map, vec_len, vec_
 ghost use Rattle.std.specs.Option.{ForSome};
 ghost use Rattle.lru_shard.specs.Limits.{cap_of};
 ghost use Rattle.lru_inbox.specs.Logs.{log_of};
-ghost use Rattle.lru_world.specs.Accounts.{IsAccount};
+ghost use Rattle.lru_workers.specs.Accounts.{IsAccount};
 ghost use Rattle.lru_async.specs.Accounts.{Accounts};
 
-use lru_desks::{BoxRegistry, PutSeat};
+use lru_boxes::{BoxRegistry, PutSeat};
 use lru_inbox::tie::Archive;
-use lru_world::ShardEnd;
-use lru_world::world::ShardPlace;
+use lru_workers::ShardEnd;
+use lru_workers::world::ShardPlace;
 use std::sync::Wait;
 use std::thread;
 

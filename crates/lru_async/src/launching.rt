@@ -3,7 +3,7 @@ ghost use Rattle.std.specs.Prelude.{◌≡◌, ◌+◌, ◌%◌, ◌^◌, ◌<�
 ghost use Rattle.std.specs.Option.{ForSome};
 ghost use Rattle.lru_inbox.specs.Logs.{hand, blank_logs, blank_fronts};
 ghost use Rattle.lru_inbox.specs.Inboxes.{taken_in};
-ghost use Rattle.lru_world.specs.Replying.{AreTakers, HasNothing};
+ghost use Rattle.lru_workers.specs.Replying.{AreTakers, HasNothing};
 ghost use Rattle.std.specs.Arc.{arc_value};
 ghost use Rattle.lru_async.specs.Orders.{limits_of, limits_told, HasWorkers};
 
@@ -14,14 +14,14 @@ use crate::receiver::EvictionReceiver;
 use crate::refusals::BuildError;
 use crate::threads::{Placed, start_actor, start_callback_worker, start_eviction_worker};
 use lru_actors::message::LruMsg;
-use lru_desks::{BoxRegistry, PutSeat, TakeSeat};
+use lru_boxes::{BoxRegistry, PutSeat, TakeSeat};
 use lru_inbox::Taker;
 use lru_inbox::tie::Archive;
 use lru_inbox::voice::Voice;
-use lru_world::actor::Actor;
-use lru_world::callback::{AsyncEvictionCallback, Gate};
-use lru_world::outlet::Outlet;
-use lru_world::world::{OrderLimits, World, next_taker};
+use lru_workers::actor::Actor;
+use lru_workers::callback::{AsyncEvictionCallback, Gate};
+use lru_workers::outlet::Outlet;
+use lru_workers::world::{OrderLimits, World, next_taker};
 use std::alloc::{AllocError, Global};
 use std::hash::Hash;
 use std::sync::{Arc, Wait};

@@ -5,7 +5,7 @@ ghost use Rattle.lru_mailbox.specs.Slips.{lists_of, IsSettled};
 
 use crate::async_lru::AsyncLru;
 use crate::seats_back::{all_puts, all_takes, sole};
-use lru_desks::{BoxRegistry, LedgerBox, PutSeat, TakeSeat};
+use lru_boxes::{BoxRegistry, LedgerBox, PutSeat, TakeSeat};
 use lru_inbox::tie::Archive;
 use lru_mailbox::Settled;
 use std::alloc::Global;

@@ -2,7 +2,7 @@
 //! that call back for each evicted pair.
 //!
 //! What a call sends, where, and what an answer or a refusal tells, is written over a `Line` as functions over values, whose clauses
-//! say it of any line; the threads run the loops of `lru_world`. What threads do together is only tested.
+//! say it of any line; the threads run the loops of `lru_workers`. What threads do together is only tested.
 #![tactic(auto)]
 
 mod accounted_lru;

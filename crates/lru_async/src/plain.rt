@@ -9,7 +9,7 @@ use crate::refusals::SendRefused;
 use crate::sends::{Addressed, Heard, heard_in, refusal_of};
 use lru_actors::Letter;
 use lru_actors::message::LruMsg;
-use lru_desks::BoxRegistry;
+use lru_boxes::BoxRegistry;
 use lru_inbox::tie::Archive;
 use std::sync::Wait;
 

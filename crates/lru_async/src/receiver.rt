@@ -1,7 +1,7 @@
 //! A receiver of evicted pairs.
-use lru_desks::BoxRegistry;
+use lru_boxes::BoxRegistry;
 use lru_inbox::tie::Archive;
-use lru_world::world::World;
+use lru_workers::world::World;
 use std::alloc::Global;
 use std::marker::Brand;
 use std::sync::{Arc, Wait};

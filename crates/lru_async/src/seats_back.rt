@@ -1,9 +1,9 @@
 //! Seats that ended threads gave back, and what nobody else holds any more.
 ghost use Rattle.std.specs.Prelude.{◌≡◌, map};
 ghost use Rattle.std.specs.Arc.{arc_value};
-ghost use Rattle.lru_sharing.specs.Hands.{up};
+ghost use Rattle.lru_short_locks.specs.Hands.{up};
 
-use lru_desks::{BoxRegistry, PutSeat, TakeSeat};
+use lru_boxes::{BoxRegistry, PutSeat, TakeSeat};
 use std::alloc::Global;
 use std::sync::{Arc, Wait};
 use std::thread;

@@ -6,12 +6,12 @@ ghost use Rattle.std.specs.Arc.{arc_value};
 
 use crate::refusals::BuildError;
 use lru_actors::ReplyCell;
-use lru_desks::{BoxRegistry, PutSeat, TakeSeat};
+use lru_boxes::{BoxRegistry, PutSeat, TakeSeat};
 use lru_inbox::tie::Archive;
-use lru_world::actor::Actor;
-use lru_world::callback::{AsyncEvictionCallback, Gate};
-use lru_world::workers::{call_back, evict};
-use lru_world::world::World;
+use lru_workers::actor::Actor;
+use lru_workers::callback::{AsyncEvictionCallback, Gate};
+use lru_workers::workers::{call_back, evict};
+use lru_workers::world::World;
 use rand::rngs::StdRng;
 use rand_core::SeedableRng;
 use std::alloc::Global;

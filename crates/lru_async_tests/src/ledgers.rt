@@ -1,7 +1,7 @@
 //! A box by its worked row, by its seats, and by threads.
 ghost use Rattle.std.specs.Prelude.{◌≡◌};
 
-use lru_desks::{Blanks, BoxRegistry, LedgerBox, PutSeat, TakeSeat};
+use lru_boxes::{Blanks, BoxRegistry, LedgerBox, PutSeat, TakeSeat};
 use lru_mailbox::{Settled, Slip};
 use std::alloc::{AllocError, Global};
 use std::marker::Brand;

@@ -1,4 +1,4 @@
-//! Tests of the actors, from their mailboxes up (`lru_mailbox`, `lru_actors`, `lru_inbox`, `lru_desks`, `lru_async`): worked
+//! Tests of the actors, from their mailboxes up (`lru_mailbox`, `lru_actors`, `lru_inbox`, `lru_boxes`, `lru_async`): worked
 //! rows by one owner, each call by its effect, and what only running threads show.
 //!
 //! What is expected is worked out by hand, or is what a plain simulation answers, and never what the program answered.

@@ -3,7 +3,7 @@ ghost use Rattle.std.specs.Prelude.{◌≡◌};
 
 use crate::callbacks::{Counting, Holding, LOOKS, Meeting, Quiet, gated_order, is_raised};
 use lru_async::async_lru::{AsyncLru, Closed};
-use lru_desks::{Blanks, BoxRegistry};
+use lru_boxes::{Blanks, BoxRegistry};
 use lru_inbox::tie::Archive;
 use lru_mailbox::Settled;
 use std::alloc::Global;

@@ -2,10 +2,10 @@
 ghost use Rattle.std.specs.Prelude.{◌≡◌};
 
 use lru_async::async_lru::AsyncLru;
-use lru_desks::{Blanks, BoxRegistry};
+use lru_boxes::{Blanks, BoxRegistry};
 use lru_inbox::tie::Archive;
 use lru_mailbox::{Settled, Slip};
-use lru_world::callback::AsyncEvictionCallback;
+use lru_workers::callback::AsyncEvictionCallback;
 use rand::RngExt;
 use rand::rngs::StdRng;
 use rand_core::SeedableRng;

@@ -1,8 +1,8 @@
 //! A limit that stays: whatever the threads do, no row is evicted that the limit would not want gone.
 use lru_async::async_lru::{AsyncLru, Closed};
-use lru_world::asking::{HeldTotals, may_ask};
-use lru_world::callback::AsyncEvictionCallback;
-use lru_world::world::OrderLimits;
+use lru_workers::asking::{HeldTotals, may_ask};
+use lru_workers::callback::AsyncEvictionCallback;
+use lru_workers::world::OrderLimits;
 use rand::RngExt;
 use rand::rngs::StdRng;
 use rand_core::SeedableRng;

@@ -11,9 +11,9 @@ pub use Rattle.lru_admission.specs.Sketch
 pub use Rattle.lru_segmented.specs.Segmented
 pub use Rattle.lru_segmented.specs.SegmentedDeadlines
 pub use Rattle.lru_segmented.specs.Scans
-pub use Rattle.lru_shared.specs.Shards
-pub use Rattle.lru_shared.specs.Relations
-pub use Rattle.lru_shared.specs.Counts
-pub use Rattle.lru_shared.specs.Turns
-pub use Rattle.lru_shared.specs.Sharded
+pub use Rattle.lru_shared_cache.specs.Shards
+pub use Rattle.lru_shared_cache.specs.Relations
+pub use Rattle.lru_shared_cache.specs.Counts
+pub use Rattle.lru_shared_cache.specs.Turns
+pub use Rattle.lru_shared_cache.specs.Sharded
 pub use Rattle.lru_shared_deadlines.specs.Ages

@@ -3,7 +3,7 @@
 //!
 //! What each call answers, what it leaves and what goes is exact, and no cache is over its limits after a call. It adds nothing of
 //! its own: caches of one owner (`lru_owned_cache`, `lru_deadlines`, `lru_segmented`, `lru_admission`) and those for threads
-//! (`lru_shared`, `lru_shared_deadlines`, `lru_shared_segmented`) keep their layers.
+//! (`lru_shared_cache`, `lru_shared_deadlines`, `lru_shared_segmented`) keep their layers.
 #![tactic(auto)]
 
 pub use lru_admission::{admission, sketch};
@@ -11,7 +11,7 @@ pub use lru_deadlines::deadlines;
 pub use lru_index::{alike, hashing, keys};
 pub use lru_owned_cache::{cache, entry};
 pub use lru_segmented::{segmented, segmented_deadlines};
-pub use lru_shared::{counts, limits, relations, sharded, shared};
+pub use lru_shared_cache::{counts, limits, relations, sharded, shared};
 
 /// Caches for threads whose entries end, and their shards of one owner.
 pub mod shared_deadlines {

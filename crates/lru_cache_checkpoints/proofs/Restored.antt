@@ -8,7 +8,7 @@ use Rattle.lru_frames.specs.declared.row.Row.{Row}
 use Rattle.lru_owned_cache.specs.declared.entry.Entry.{Entry}
 use Rattle.lru_owned_cache.specs.declared.cache.Refused.{Refused}
 use Rattle.lru_owned_cache.specs.Cache.{Cached, parts_of}
-use Rattle.lru_shared.specs.Related.{MayPutRelated}
+use Rattle.lru_shared_cache.specs.Related.{MayPutRelated}
 use Rattle.lru_cache_checkpoints.specs.Captures.{MayCopy, PutsEntries, PutsOrLeaves, MayPutOrLeave, MayPutEntries}
 
 module _ {K V S : Type 0} (eq : K → K → Bool) (old mid : Cached K V S) (row : Row K V) (rows : List (Row K V)) (left : ℕ) (answer : Result ℕ (Refused K V)) (new : Cached K V S) where

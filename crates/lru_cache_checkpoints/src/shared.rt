@@ -22,7 +22,7 @@ use lru_generations::errors::CheckpointError;
 use lru_generations::generations::{Saved, save, save_after};
 use lru_generations::known::Known;
 use lru_generations::newest_loading::{Loaded, load};
-use lru_shared::shared::SharedCache;
+use lru_shared_cache::shared::SharedCache;
 use std::alloc::Global;
 use std::hash::Hash;
 use std::sync::Wait;

@@ -11,7 +11,7 @@ use lru_frames::source::Source;
 use lru_frames::stored::Stored;
 use lru_index::alike::SameHashes;
 use lru_owned_cache::cache::{Cause, Refused};
-use lru_shared::shared::{Anything, Relation, SharedCache};
+use lru_shared_cache::shared::{Anything, Relation, SharedCache};
 use std::alloc::{AllocError, Global};
 use std::hash::{BuildHasher, Hash};
 use std::sync::Wait;

@@ -11,7 +11,7 @@ use lru_frames::stored::Stored;
 use lru_generations::errors::CheckpointError;
 use lru_generations::generations::save;
 use lru_generations::newest_loading::{Loaded, load};
-use lru_locks::lru::Lru;
+use lru_shared_order::lru::Lru;
 use lru_memory_folder::memory_folder::MemoryFolder;
 use lru_order_checkpoints::shared_captures::LruSource;
 use std::alloc::{AllocError, Global};

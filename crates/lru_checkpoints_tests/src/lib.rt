@@ -1,5 +1,5 @@
 //! Tests of checkpoints (`lru_frames`, `lru_generations`), of the folder of the system under them (`lru_host_folder`), and of the program
-//! for operators (`lru_operations`).
+//! for operators (`checkpoint_tool_inside`).
 //!
 //! What is expected is worked out by hand, or is what a plain simulation answers, and never what the program answered.
 #![tactic(auto)]

@@ -2,8 +2,8 @@
 use crate::admissions::{Tally, rest_of};
 use crate::shown::{rows_of, tell_core_state, tell_state};
 use lru_cores::lru_core::LruCore;
-use lru_locks::lru::Lru;
-use lru_locks::{Admission, Fate};
+use lru_shared_order::lru::Lru;
+use lru_shared_order::{Admission, Fate};
 use rand::rngs::StdRng;
 use rand_core::{Rng, SeedableRng};
 use std::alloc::{AllocError, Global};

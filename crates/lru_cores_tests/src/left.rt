@@ -1,5 +1,5 @@
 //! What an `Lru` leaves after the calls of two threads: the counters are the sums over its shards.
-use lru_locks::lru::Lru;
+use lru_shared_order::lru::Lru;
 use lru_shard::totals::{Totals, Units};
 use lru_shard::unit::LruUnit;
 use rand::rngs::StdRng;

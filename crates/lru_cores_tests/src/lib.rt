@@ -1,4 +1,4 @@
-//! Tests of the orders (`lru_shard`, `lru_cores`, `lru_locks`, `lru_recording`): worked rows as lists of calls, two cores side by side,
+//! Tests of the orders (`lru_shard`, `lru_cores`, `lru_shared_order`, `lru_recording`): worked rows as lists of calls, two cores side by side,
 //! calls with closures, the spread of the draws, two threads and four, and a plain checker of recorded histories.
 //!
 //! What is expected is worked out by hand, or is what a plain simulation answers, and never what the program answered.

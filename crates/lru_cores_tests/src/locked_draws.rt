@@ -1,6 +1,6 @@
 //! Evictions of several shards of an `Lru` with one caller: how many rows leave, and how the draws spread them.
 use lru_cores::lru_core::LruCore;
-use lru_locks::lru::Lru;
+use lru_shared_order::lru::Lru;
 use rand::rngs::StdRng;
 use rand_core::SeedableRng;
 use std::alloc::{AllocError, Global};

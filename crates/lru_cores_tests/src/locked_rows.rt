@@ -8,7 +8,7 @@ use crate::tables::{
     COUNTS_UP_TO_THE_WIDTH, EVICTS_THE_OLDEST, INCREMENTS, PROMOTES, SETS_WEIGHTS, WEIGHS_A_HALF,
     WEIGHS_A_THIRD, WEIGHS_NEW_ROWS,
 };
-use lru_locks::lru::Lru;
+use lru_shared_order::lru::Lru;
 use rand::rngs::StdRng;
 use rand_core::{Rng, SeedableRng};
 use std::alloc::{AllocError, Global};

@@ -6,7 +6,7 @@ use crate::shown::{tell_core_state, tell_state, text_of};
 use lru_cores::calls;
 use lru_cores::calls::Call;
 use lru_cores::lru_core::LruCore;
-use lru_locks::lru::Lru;
+use lru_shared_order::lru::Lru;
 use rand::rngs::StdRng;
 use rand_core::{Rng, SeedableRng};
 use std::alloc::{AllocError, Global};

@@ -2,7 +2,7 @@
 ghost use Rattle.std.specs.Prelude.{◌<◌};
 
 use lru_cores::lru_core::LruCore;
-use lru_locks::lru::Lru;
+use lru_shared_order::lru::Lru;
 use std::alloc::{AllocError, Global};
 use std::fmt::Debug;
 use std::sync::Wait;

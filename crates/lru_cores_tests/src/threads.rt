@@ -1,6 +1,6 @@
 //! Two threads at two shards work at once.
 use crate::shown::rows_of;
-use lru_locks::lru::Lru;
+use lru_shared_order::lru::Lru;
 use std::alloc::{AllocError, Global};
 use std::sync::Wait;
 use std::sync::atomic::{AtomicBool, Ordering};

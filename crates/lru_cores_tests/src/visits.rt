@@ -1,5 +1,5 @@
 //! What an admission that evicts holds while it hands a pair on: the lock of the key's shard, where the pair is of that shard.
-use lru_locks::lru::Lru;
+use lru_shared_order::lru::Lru;
 use std::alloc::{AllocError, Global};
 use std::sync::Wait;
 use std::sync::atomic::{AtomicBool, Ordering};

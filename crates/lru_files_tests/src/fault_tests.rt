@@ -3,8 +3,8 @@ ghost use Rattle.std.specs.Prelude.{⊤};
 
 use crate::run_tests::words;
 use log::sink::Discard;
-use lru_engine::arguments;
-use lru_engine::engine::run;
+use lru_tool_inside::arguments;
+use lru_tool_inside::engine::run;
 use lru_lines::input::{Input, InputError, read_to_end};
 use pingora_lru_files::persistence::MemoryFolder;
 use std::alloc::{AllocError, Global};

@@ -3,7 +3,7 @@ use crate::run_tests::words;
 use crate::unlisted::Unlisted;
 use log::sink;
 use log::sink::Discard;
-use lru_engine::engine::run;
+use lru_tool_inside::engine::run;
 use lru_test_folders::told::are_lines;
 use pingora_lru_files::persistence::{Folder, MemoryFolder};
 use rand::rngs::StdRng;

@@ -1,5 +1,5 @@
 //! Tests of the folders (which are synced, how files are listed), of shards saved to files and loaded, of the texts of errors, of the
-//! snapshots of cores, and of the program over them (`lru_engine`).
+//! snapshots of cores, and of the program over them (`lru_tool_inside`).
 //!
 //! What is expected is worked out by hand, or is what a plain simulation answers, and never what the program answered.
 #![tactic(auto)]

@@ -1,6 +1,6 @@
 //! The program's answers, status and text, to inputs that its stored run does not have.
 use log::sink::Discard;
-use lru_engine::engine::run;
+use lru_tool_inside::engine::run;
 use pingora_lru_files::persistence::MemoryFolder;
 use std::alloc::{AllocError, Global};
 use std::test::Fail;

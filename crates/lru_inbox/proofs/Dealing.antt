@@ -1,6 +1,6 @@
 -- Logs and those who take, dealt one by one.
 use Rattle.std.proofs.Common.{◌≡◌, ℕ, ◌+◌, ◌-◌, ◌<◌, [], ◌∷◌, map, ap}
-use Rattle.lru_sharing.proofs.Hands.{up_rest}
+use Rattle.lru_short_locks.proofs.Hands.{up_rest}
 use Rattle.lru_inbox.specs.Logs.{log, front, blank_logs, blank_fronts}
 
 pub logs_rest : {E : Type 0} (i n : ℕ) → i < n → blank_logs {E = E} i (n - i) ≡ log i [] [] ∷ blank_logs (i + 1) (n - (i + 1))

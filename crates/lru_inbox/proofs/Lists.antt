@@ -2,7 +2,7 @@
 use Rattle.std.proofs.Common.{◌≡◌, ◌⊎◌, ℕ, suc, ◌≤◌, Bool, cond, List, [], ◌∷◌, ◌++◌, length, sym, refl, ap, ◌∙◌, subst, inl, inr, ⊎_elim, arith}
 use Rattle.std.proofs.lemmas.Bool.{eq-eqb, ne_eqb}
 use native.Mathlib.Decide.{ℕ_discrete}
-use Rattle.lru_sharing.specs.Hands.{Among}
+use Rattle.lru_short_locks.specs.Hands.{Among}
 use Rattle.lru_inbox.specs.declared.hand.Log.{Log}
 use Rattle.lru_inbox.specs.declared.hand.Front.{Front}
 use Rattle.lru_inbox.specs.Logs.{Begins, front, hand, seen_of, Shows, accepted}

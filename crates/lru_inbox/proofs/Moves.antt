@@ -5,8 +5,8 @@ use native.Mathlib.Decide.{ℕ_discrete}
 use lib.ListN.{get_elem?}
 use Rattle.atomic_table.specs.Table.{State, Me, keeps, step, Allows, Splits, Joins}
 use Rattle.atomic_table.proofs.Lists.{at_set, set_else, set_again}
-use Rattle.lru_sharing.specs.Hands.{total, Among, Held}
-use Rattle.lru_sharing.proofs.Hands.{among_left, among_right, among_either, at_most, two_within, total_append, counts_one, counts_none, set_at, held_at, held_find, held_to, held_from, held_snoc_from, split_to, split_from, join_to, join_from, total_split, total_join, total_same, take_drop, dropped, taken, one_of}
+use Rattle.lru_short_locks.specs.Hands.{total, Among, Held}
+use Rattle.lru_short_locks.proofs.Hands.{among_left, among_right, among_either, at_most, two_within, total_append, counts_one, counts_none, set_at, held_at, held_find, held_to, held_from, held_snoc_from, split_to, split_from, join_to, join_from, total_split, total_join, total_same, take_drop, dropped, taken, one_of}
 use Rattle.lru_inbox.specs.declared.hand.Log.{Log}
 use Rattle.lru_inbox.specs.declared.hand.Front.{Front}
 use Rattle.lru_inbox.specs.declared.hand.LogHand.{LogHand}

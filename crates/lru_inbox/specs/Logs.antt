@@ -1,7 +1,7 @@
 -- The logs of shards: what each one's mailbox accepted, in order, and what is known of them.
 use Rattle.std.specs.Prelude.{◌≡◌, ℕ, ◌≤◌, ◌==◌, if◌then◌else◌, List, [], ◌∷◌, ◌++◌, map, take, drop}
 use Rattle.atomic_table.specs.Table.{Me, Step}
-use Rattle.lru_sharing.specs.Hands.{total, up, Among, Held}
+use Rattle.lru_short_locks.specs.Hands.{total, up, Among, Held}
 use Rattle.lru_inbox.specs.declared.hand.Log.{Log}
 use Rattle.lru_inbox.specs.declared.hand.Front.{Front}
 use Rattle.lru_inbox.specs.declared.hand.LogHand.{LogHand}

@@ -3,7 +3,7 @@
 //!
 //! Its calls are exact. A log only grows, and exists in proofs alone: tokens of one table, which take no bytes, know it. `exact_law`: where
 //! no message was refused, an answer is that of the rows which the messages leave. It stands on mailboxes (`lru_mailbox`), on the law of
-//! the actors (`lru_actors`), and on the words for hands of a table (`lru_sharing`).
+//! the actors (`lru_actors`), and on the words for hands of a table (`lru_short_locks`).
 #![tactic(auto)]
 
 mod caller;

@@ -19,7 +19,7 @@ pub trait Archive {
 }
 
 impl Archive for Brand {
-    ghost use Rattle.lru_sharing.specs.Hands.{no_table};
+    ghost use Rattle.lru_short_locks.specs.Hands.{no_table};
 
     ghost log = { no_table };
 

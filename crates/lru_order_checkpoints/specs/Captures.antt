@@ -6,7 +6,7 @@ use Rattle.lru_frames.specs.Copies.{AreEach}
 use Rattle.lru_shard.specs.declared.unit.Refused.{Refused}
 use Rattle.lru_shard.specs.Row as order
 use Rattle.lru_shard.specs.Shards.{AreAtHome}
-use Rattle.lru_locks.specs.LruCalls.{MayInsertTail}
+use Rattle.lru_shared_order.specs.LruCalls.{MayInsertTail}
 use Rattle.lru_cores.specs.Core.{Core, list_at}
 use Rattle.lru_cores.specs.CoreCalls.{CoreInsertsTail}
 

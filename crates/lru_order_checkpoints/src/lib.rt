@@ -2,7 +2,7 @@
 //! data are pairs of a key, which is the row's, and a value.
 //!
 //! A save lasts once it answers Ok, and a load answers the newest checkpoint that is whole. A copy has the rows of a shard in their order,
-//! with keys, weights and clones of data. It stands on the orders (`lru_locks`, `lru_cores`) and on generations (`lru_generations`).
+//! with keys, weights and clones of data. It stands on the orders (`lru_shared_order`, `lru_cores`) and on generations (`lru_generations`).
 #![tactic(auto)]
 
 pub mod core_captures;

@@ -23,7 +23,7 @@ use lru_generations::errors::CheckpointError;
 use lru_generations::generations::{Saved, save, save_after};
 use lru_generations::known::Known;
 use lru_generations::newest_loading::{Loaded, load};
-use lru_locks::lru::Lru;
+use lru_shared_order::lru::Lru;
 use std::alloc::Global;
 use std::sync::Wait;
 

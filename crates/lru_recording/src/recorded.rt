@@ -3,7 +3,7 @@ ghost use Rattle.std.specs.Prelude.{◌≡◌, ◌+◌, ◌-◌, ◌%◌, ◌<�
 ghost use Rattle.std.specs.Sync.Mutex.{mutex_guard_value};
 ghost use Rattle.lru_recording.specs.declared.entry.Reply.TheVariants.{Flag, Weight};
 ghost use Rattle.lru_recording.specs.Stamps.{GetsReceipt};
-ghost use Rattle.lru_sharing.specs.Hands.{up};
+ghost use Rattle.lru_short_locks.specs.Hands.{up};
 ghost use Rattle.lru_recording.specs.Ties.{hand};
 ghost use Rattle.lru_recording.specs.Tied.{AreTied};
 ghost use Rattle.lru_shard.specs.Limits.{cap_of};

@@ -6,7 +6,7 @@ use Rattle.lru_owned_cache.specs.declared.cache.Cause.TheVariants.{TooHeavy, Ful
 use Rattle.lru_owned_cache.specs.declared.cache.Refused.{Refused}
 use Rattle.lru_owned_cache.specs.Cache.{Cached, MayRefuse}
 use Rattle.lru_deadlines.specs.declared.deadlines.Until.{Until}
-use Rattle.lru_shared.specs.Counting.{PutsCounted}
+use Rattle.lru_shared_cache.specs.Counting.{PutsCounted}
 use Rattle.lru_shared_deadlines.specs.declared.ages.Aged.{Aged}
 use Rattle.lru_shared_deadlines.specs.Calls.{ShardOf, Ends}
 use Rattle.lru_shared_deadlines.specs.Answers.{MayPutBack}

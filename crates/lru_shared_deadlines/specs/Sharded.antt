@@ -3,8 +3,8 @@ use Rattle.std.specs.Prelude.{◌≡◌, ℕ, ◌<◌, List, length, replicate, 
 use Rattle.std.specs.Coded.{Coded, code_by, coded×, coded_ℕ, coded_list}
 use Rattle.lru_owned_cache.specs.Cache.{cached_code}
 use Rattle.lru_deadlines.specs.Codes.{until_code}
-use Rattle.lru_shared.specs.CountCodes.{counted_code}
-use Rattle.lru_shared.specs.Sharded.{empty_shard}
+use Rattle.lru_shared_cache.specs.CountCodes.{counted_code}
+use Rattle.lru_shared_cache.specs.Sharded.{empty_shard}
 use Rattle.lru_shared_deadlines.specs.declared.ages.Ages.{Ages}
 use Rattle.lru_shared_deadlines.specs.Codes.{aged_code, ages_code}
 use Rattle.lru_shared_deadlines.specs.Calls.{ShardOf}

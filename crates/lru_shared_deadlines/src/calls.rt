@@ -4,9 +4,9 @@ ghost use Rattle.std.specs.Prelude.{◌≡◌, ◌<◌, ◌⊎◌, Ok, Err, None
 ghost use Rattle.lru_index.specs.Hashing.{key_hash};
 ghost use Rattle.lru_deadlines.specs.Deadlines.{living};
 ghost use Rattle.lru_owned_cache.specs.Entries.{weight_of};
-ghost use Rattle.lru_shared.specs.Shards.{home};
-ghost use Rattle.lru_shared.specs.Calls.{RetainsShard};
-ghost use Rattle.lru_shared.specs.Counting.{Takes, PopsShard, ClearsShard, DrainsShard, LimitsShard, PutsCounted};
+ghost use Rattle.lru_shared_cache.specs.Shards.{home};
+ghost use Rattle.lru_shared_cache.specs.Calls.{RetainsShard};
+ghost use Rattle.lru_shared_cache.specs.Counting.{Takes, PopsShard, ClearsShard, DrainsShard, LimitsShard, PutsCounted};
 ghost use Rattle.lru_shared_deadlines.specs.Calls.{ShowsLiving, Lends, Gets, SweepsShard, PutsIn, PutsMissing, VisitsEach, GetsOrPuts, EndsMaking};
 
 use crate::ages::{Aged, Gone, Moment};
@@ -17,9 +17,9 @@ use lru_index::alike::SameHashes;
 use lru_index::hashing::hash_of;
 use lru_index::keys::Query;
 use lru_owned_cache::cache::{Cause, Refused};
-use lru_shared::limits::Limits;
-use lru_shared::shards::{Shards, give_up, home_of};
-use lru_shared::shared::NotGot;
+use lru_shared_cache::limits::Limits;
+use lru_shared_cache::shards::{Shards, give_up, home_of};
+use lru_shared_cache::shared::NotGot;
 use std::alloc::AllocError;
 use std::hash::{BuildHasher, Hash};
 

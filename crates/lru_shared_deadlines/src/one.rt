@@ -5,16 +5,16 @@ ghost use Rattle.lru_rows.specs.Rows.{Updates};
 ghost use Rattle.lru_deadlines.specs.Deadlines.{living};
 ghost use Rattle.lru_shared_deadlines.specs.Ages.{kept_until};
 ghost use Rattle.lru_shared_deadlines.specs.Calls.{ShowsLiving, Lends, Gets, SweepsShard, MakesShardRoom, Places, PutsIn, PutsMissing, VisitsEach};
-ghost use Rattle.lru_shared.specs.Calls.{RetainsShard};
-ghost use Rattle.lru_shared.specs.Counting.{size_of, Takes, PopsShard, ClearsShard, DrainsShard, LimitsShard, PutsCounted};
+ghost use Rattle.lru_shared_cache.specs.Calls.{RetainsShard};
+ghost use Rattle.lru_shared_cache.specs.Counting.{size_of, Takes, PopsShard, ClearsShard, DrainsShard, LimitsShard, PutsCounted};
 
 use crate::ages::{Aged, Gone, Moment};
 use lru_deadlines::deadlines::{DeadlineCache, Until};
 use lru_index::alike::SameHashes;
 use lru_index::keys::Query;
 use lru_owned_cache::cache::Refused;
-use lru_shared::counts::{Counted, Size, Why, weight_in};
-use lru_shared::limits::Limits;
+use lru_shared_cache::counts::{Counted, Size, Why, weight_in};
+use lru_shared_cache::limits::Limits;
 use std::alloc::AllocError;
 use std::hash::{BuildHasher, Hash};
 

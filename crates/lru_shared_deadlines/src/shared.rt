@@ -1,10 +1,10 @@
 //! A cache that threads share, whose entries end.
 ghost use Rattle.std.specs.Prelude.{◌≡◌, ◌<◌, length, vec_len, IfErr, IfSome};
-ghost use Rattle.lru_shared.specs.Answers.{HandsBack, MayShow};
+ghost use Rattle.lru_shared_cache.specs.Answers.{HandsBack, MayShow};
 ghost use Rattle.lru_shared_deadlines.specs.Ages.{moment};
 ghost use Rattle.lru_shared_deadlines.specs.Calls.{Lends, Gets, SweepsShard, PutsIn};
-ghost use Rattle.lru_shared.specs.Calls.{RetainsShard};
-ghost use Rattle.lru_shared.specs.Counting.{Takes, PopsShard, ClearsShard, DrainsShard, LimitsShard, PutsCounted};
+ghost use Rattle.lru_shared_cache.specs.Calls.{RetainsShard};
+ghost use Rattle.lru_shared_cache.specs.Counting.{Takes, PopsShard, ClearsShard, DrainsShard, LimitsShard, PutsCounted};
 ghost use Rattle.lru_shared_deadlines.specs.Answers.{MayAct, MayChange, MayGetOrPut, MayPutBack};
 
 use crate::ages::Moment;
@@ -18,10 +18,10 @@ use lru_index::alike::SameHashes;
 use lru_index::hashing::SeededHashes;
 use lru_index::keys::Query;
 use lru_owned_cache::cache::Refused;
-use lru_shared::counts::{Counted, Counts, shard_stats};
-pub use lru_shared::limits::Limits;
-use lru_shared::locked::{Held, Locked, behind_locks};
-pub use lru_shared::shared::NotGot;
+use lru_shared_cache::counts::{Counted, Counts, shard_stats};
+pub use lru_shared_cache::limits::Limits;
+use lru_shared_cache::locked::{Held, Locked, behind_locks};
+pub use lru_shared_cache::shared::NotGot;
 use std::alloc::{AllocError, Global};
 use std::fmt;
 use std::fmt::{Debug, Formatter};
@@ -57,7 +57,7 @@ impl<'a, K: Hash, V, S: BuildHasher> LockedDeadlineShard<'a, K, V, S> {
 /// `get_or_put_with` makes is made under no lock.
 #[derive(Drop)]
 pub struct SharedDeadlineCache<K: Hash, V, const N: usize, S: BuildHasher = SeededHashes> {
-    shards: Vec<CachePadded<lru_shared::locked::Shard<Counted<DeadlineCache<K, Aged<V>, S>>>>>,
+    shards: Vec<CachePadded<lru_shared_cache::locked::Shard<Counted<DeadlineCache<K, Aged<V>, S>>>>>,
     hash_builder: S,
     ages: Ages,
     turn: AtomicUsize,

@@ -11,10 +11,10 @@ use Rattle.lru_owned_cache.specs.Cache.{entry_of}
 use Rattle.lru_segmented.specs.Segmented.{Segmented, entries, Uses}
 use Rattle.lru_segmented.specs.Scans.{FitsBeside}
 use Rattle.lru_segmented.proofs.Walked.{Stays, stays_same, stays_on, any_stays}
-use Rattle.lru_shared.specs.declared.calls.NotGot.{NotGot}
-use Rattle.lru_shared.specs.declared.calls.NotGot.TheVariants.{Memory, Unmade, Refused as Unput}
-use Rattle.lru_shared.specs.Calls.{IsCloned}
-use Rattle.lru_shared.specs.Shards.{Sees, Owns}
+use Rattle.lru_shared_cache.specs.declared.calls.NotGot.{NotGot}
+use Rattle.lru_shared_cache.specs.declared.calls.NotGot.TheVariants.{Memory, Unmade, Refused as Unput}
+use Rattle.lru_shared_cache.specs.Calls.{IsCloned}
+use Rattle.lru_shared_cache.specs.Shards.{Sees, Owns}
 use Rattle.lru_shared_segmented.specs.Calls.{ShardOf, Gets}
 use Rattle.lru_shared_segmented.specs.Making.{PutsMissing, RefusesMade, EndsMaking, Answers, GetsOrPuts}
 use Rattle.lru_shared_segmented.specs.Walks.{RequestsShards, MadeFitsInShard, upper_of}

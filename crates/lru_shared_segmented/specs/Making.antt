@@ -6,8 +6,8 @@ use Rattle.lru_owned_cache.specs.declared.cache.Refused.{Refused}
 use Rattle.lru_owned_cache.specs.declared.cache.Cause.TheVariants.{Memory as NoMemory}
 use Rattle.lru_owned_cache.specs.Cache.{entry_of}
 use Rattle.lru_segmented.specs.Segmented.{entries}
-use Rattle.lru_shared.specs.declared.calls.NotGot.{NotGot}
-use Rattle.lru_shared.specs.declared.calls.NotGot.TheVariants.{Memory, Unmade, Refused as Unput}
+use Rattle.lru_shared_cache.specs.declared.calls.NotGot.{NotGot}
+use Rattle.lru_shared_cache.specs.declared.calls.NotGot.TheVariants.{Memory, Unmade, Refused as Unput}
 use Rattle.lru_shared_segmented.specs.Calls.{ShardOf, Gets, PutsCounted}
 
 -- an entry is put of a key that had none, unless it has one by now, which is newer, and stays

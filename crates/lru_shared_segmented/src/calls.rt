@@ -4,8 +4,8 @@ ghost use Rattle.lru_index.specs.Hashing.{key_hash};
 ghost use Rattle.lru_owned_cache.specs.Cache.{entry_of};
 ghost use Rattle.lru_owned_cache.specs.Entries.{weight_of};
 ghost use Rattle.lru_segmented.specs.Segmented.{entries};
-ghost use Rattle.lru_shared.specs.Shards.{home};
-ghost use Rattle.lru_shared.specs.Calls.{ShowsEntry, VisitsEach};
+ghost use Rattle.lru_shared_cache.specs.Shards.{home};
+ghost use Rattle.lru_shared_cache.specs.Calls.{ShowsEntry, VisitsEach};
 ghost use Rattle.lru_shared_segmented.specs.Calls.{Gets, Lends, Takes, PopsShard, ClearsShard, LimitsShard, PutsCounted};
 ghost use Rattle.lru_shared_segmented.specs.Making.{PutsMissing, GetsOrPuts, EndsMaking};
 
@@ -15,9 +15,9 @@ use lru_index::alike::SameHashes;
 use lru_index::hashing::hash_of;
 use lru_index::keys::Query;
 use lru_owned_cache::cache::{Cause, Entry, Refused};
-use lru_shared::limits::Limits;
-use lru_shared::shards::{Shards, give_up, home_of};
-use lru_shared::shared::NotGot;
+use lru_shared_cache::limits::Limits;
+use lru_shared_cache::shards::{Shards, give_up, home_of};
+use lru_shared_cache::shared::NotGot;
 use std::alloc::AllocError;
 use std::hash::{BuildHasher, Hash};
 

@@ -3,7 +3,7 @@ ghost use Rattle.std.specs.Prelude.{◌≡◌, is_some};
 ghost use Rattle.lru_index.specs.Hashing.{key_hash};
 ghost use Rattle.lru_owned_cache.specs.Cache.{entry_of};
 ghost use Rattle.lru_segmented.specs.Segmented.{entries};
-ghost use Rattle.lru_shared.specs.Calls.{ShowsEntry, VisitsEach};
+ghost use Rattle.lru_shared_cache.specs.Calls.{ShowsEntry, VisitsEach};
 ghost use Rattle.lru_shared_segmented.specs.Calls.{whole, Gets, Lends, Takes, PopsShard, ClearsShard, LimitsShard, PutsCounted};
 ghost use Rattle.lru_shared_segmented.specs.Making.{PutsMissing};
 
@@ -11,8 +11,8 @@ use lru_index::alike::SameHashes;
 use lru_index::keys::Query;
 use lru_owned_cache::cache::{Entry, Refused};
 use lru_segmented::segmented::SegmentedCache;
-use lru_shared::counts::{Counted, Size, Why, weight_in};
-use lru_shared::limits::Limits;
+use lru_shared_cache::counts::{Counted, Size, Why, weight_in};
+use lru_shared_cache::limits::Limits;
 use std::alloc::AllocError;
 use std::hash::{BuildHasher, Hash};
 

@@ -3,8 +3,8 @@ ghost use Rattle.std.specs.Prelude.{◌≡◌, ◌<◌, length, vec_len, is_some
 ghost use Rattle.lru_owned_cache.specs.Cache.{entry_of};
 ghost use Rattle.lru_owned_cache.specs.Entries.{weight_of};
 ghost use Rattle.lru_segmented.specs.Segmented.{entries};
-ghost use Rattle.lru_shared.specs.Answers.{HandsBack};
-ghost use Rattle.lru_shared.specs.Calls.{ShowsEntry, VisitsEach};
+ghost use Rattle.lru_shared_cache.specs.Answers.{HandsBack};
+ghost use Rattle.lru_shared_cache.specs.Calls.{ShowsEntry, VisitsEach};
 ghost use Rattle.lru_shared_segmented.specs.Calls.{Gets, Lends, Takes, PopsShard, ClearsShard, LimitsShard, PutsCounted};
 ghost use Rattle.lru_shared_segmented.specs.Answers.{MayBe, MayChange, MayGetOrPut};
 
@@ -17,10 +17,10 @@ use lru_index::hashing::SeededHashes;
 use lru_index::keys::Query;
 use lru_owned_cache::cache::{Entry, Refused};
 use lru_segmented::segmented::SegmentedCache;
-use lru_shared::counts::{Counted, Counts, shard_stats};
-pub use lru_shared::limits::Limits;
-use lru_shared::locked::{Held, Locked, behind_locks};
-pub use lru_shared::shared::NotGot;
+use lru_shared_cache::counts::{Counted, Counts, shard_stats};
+pub use lru_shared_cache::limits::Limits;
+use lru_shared_cache::locked::{Held, Locked, behind_locks};
+pub use lru_shared_cache::shared::NotGot;
 use std::alloc::{AllocError, Global};
 use std::fmt;
 use std::fmt::{Debug, Formatter};
@@ -57,7 +57,7 @@ impl<'a, K: Hash, V, S: BuildHasher> LockedSegmentedShard<'a, K, V, S> {
 #[derive(Drop)]
 pub struct SharedSegmentedCache<K: Hash, V, const N: usize, S: BuildHasher = SeededHashes> {
     // no two shards share a cache line, so that a thread at one doesn't slow a thread at another
-    shards: Vec<CachePadded<lru_shared::locked::Shard<Counted<SegmentedCache<K, V, S>>>>>,
+    shards: Vec<CachePadded<lru_shared_cache::locked::Shard<Counted<SegmentedCache<K, V, S>>>>>,
     hash_builder: S,
     ghost some: { 0 < N },
     ghost has_shards: { vec_len shards ≡ N },

@@ -1,5 +1,5 @@
 //! When entries end, which go first, and what is counted.
-use lru_shared::counts::Left;
+use lru_shared_cache::counts::Left;
 use lru_shared_deadlines::sharded::ShardedDeadlineCache;
 use lru_shared_deadlines::shared::{Ages, Gone, Limits, SharedDeadlineCache};
 use std::alloc::{AllocError, Global};

@@ -1,6 +1,6 @@
 //! What is shown of a cache.
-use lru_shared::sharded::ShardedCache;
-use lru_shared::shared::SharedCache;
+use lru_shared_cache::sharded::ShardedCache;
+use lru_shared_cache::shared::SharedCache;
 use lru_shared_deadlines::sharded::ShardedDeadlineCache;
 use lru_shared_deadlines::shared::{Ages, Limits, SharedDeadlineCache};
 use std::alloc::{AllocError, Global};

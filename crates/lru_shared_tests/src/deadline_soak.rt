@@ -3,7 +3,7 @@
 //! its key's.
 use crate::deadline_counted::{Counted, Ledger};
 use lru_cache_checkpoints::shared_deadline_captures::capture_shard;
-use lru_shared::counts::Counts;
+use lru_shared_cache::counts::Counts;
 use lru_shared_deadlines::shared::{Ages, Gone, Limits, SharedDeadlineCache};
 use std::alloc::{AllocError, Global};
 use std::sync::Wait;

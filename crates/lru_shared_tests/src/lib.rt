@@ -1,4 +1,4 @@
-//! Tests of the caches for threads (`lru_shared`, `lru_shared_deadlines`, `lru_shared_segmented`): each call, keys that are texts, limits
+//! Tests of the caches for threads (`lru_shared_cache`, `lru_shared_deadlines`, `lru_shared_segmented`): each call, keys that are texts, limits
 //! that are divided, values that are made once, entries that end, walks over many keys, and soaks.
 //!
 //! What is expected is worked out by hand, or is what a plain simulation answers, and never what the program answered.

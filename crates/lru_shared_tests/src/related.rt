@@ -3,7 +3,7 @@ ghost use Rattle.std.specs.Prelude.{◌≡◌, ◌*◌, ◌<◌, ◌^◌, IfSome
 
 use lru_index::hashing::SeededHashes;
 use lru_owned_cache::cache::Entry;
-use lru_shared::shared::{Relation, SharedCache};
+use lru_shared_cache::shared::{Relation, SharedCache};
 use std::alloc::{AllocError, Global};
 use std::sync::Wait;
 use std::test::Fail;

@@ -1,6 +1,6 @@
 //! Each call of a cache that threads share, at keys that are texts, and that it does what shards of one owner do.
 use lru_index::hashing::SeededHashes;
-use lru_shared::counts::{Counts, Left};
+use lru_shared_cache::counts::{Counts, Left};
 use lru_shared_segmented::sharded::ShardedSegmentedCache;
 use lru_shared_segmented::shared::{Limits, SharedSegmentedCache};
 use std::alloc::{AllocError, Global};

@@ -3,7 +3,7 @@ ghost use Rattle.std.specs.Prelude.{◌<◌, get_or};
 
 use lru_index::alike::SameHashes;
 use lru_owned_cache::cache::Entry;
-use lru_shared::limits::Limits;
+use lru_shared_cache::limits::Limits;
 use lru_shared_segmented::sharded::ShardedSegmentedCache;
 use std::alloc::{AllocError, Global};
 use std::hash::{BuildHasher, Hasher};

@@ -3,7 +3,7 @@ use crate::checkpoint_saves::{folder, is_saved, loaded, text, write_rows};
 use lru_cache_checkpoints::shared_captures::{SharedSource, capture_shard, restore_shards};
 use lru_frames::row::Row;
 use lru_memory_folder::memory_folder::MemoryFolder;
-use lru_shared::shared::SharedCache;
+use lru_shared_cache::shared::SharedCache;
 use std::alloc::{AllocError, Global};
 use std::io;
 use std::io::Write;

@@ -1,7 +1,7 @@
 //! A run of the program's engine: it gives up, or a reply is that memory was refused, and the run made again answers as if nothing
 //! had been. One that gives up with no request refused writes something else.
 use log::sink::Discard;
-use lru_engine::engine::run;
+use lru_tool_inside::engine::run;
 use pingora_lru_files::persistence::MemoryFolder;
 use std::alloc::{AllocError, Global};
 use std::io;

@@ -1,6 +1,6 @@
 //! A shared cache of texts, whose clones take memory too.
 use lru_owned_cache::cache::Cause;
-use lru_shared::shared::{NotGot, SharedCache};
+use lru_shared_cache::shared::{NotGot, SharedCache};
 use std::alloc::{AllocError, Global};
 use std::io;
 use std::io::Write;

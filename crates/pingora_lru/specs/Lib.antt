@@ -12,8 +12,8 @@ pub use Rattle.lru_shard.specs.Limits
 pub use Rattle.lru_shard.specs.Draws
 pub use Rattle.lru_shard.specs.ShardCalls
 pub use Rattle.lru_shard.specs.Shards
-pub use Rattle.lru_locks.specs.Batches
-pub use Rattle.lru_locks.specs.LruCalls
+pub use Rattle.lru_shared_order.specs.Batches
+pub use Rattle.lru_shared_order.specs.LruCalls
 pub use Rattle.lru_recording.specs.Ties
 pub use Rattle.lru_recording.specs.Stamps
 pub use Rattle.lru_recording.specs.Tied

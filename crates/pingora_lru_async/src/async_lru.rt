@@ -32,7 +32,7 @@ pub use lru_inbox::{Caller, exact_law};
 /// One whose whole history is accounted for once it is closed, how it is made, and what it came to.
 pub use lru_async::{Account, AccountedLru, build_accounted};
 /// What a shard came to, with its log.
-pub use lru_world::ShardEnd;
+pub use lru_workers::ShardEnd;
 /// One that keeps logs.
 pub use lru_async::logged_lru::LoggedLru;
 /// What names the logs of an order, and a blank to build one from.
@@ -42,4 +42,4 @@ pub use lru_actors::{Letter, ReplyCell};
 /// The law over every schedule, and that a batch is so many of its events.
 pub use lru_actors::{batch_law, schedule_law};
 /// What is called with each evicted pair, and what actors call before each message.
-pub use lru_world::callback::{AsyncEvictionCallback, Gate, NoGate};
+pub use lru_workers::callback::{AsyncEvictionCallback, Gate, NoGate};

@@ -1,10 +1,10 @@
 //! The program `trace_player` once more: its stored run is over a trace with commas whose sizes are all 1,
 //! which takes one pass.
 //!
-//! It stands on `lru_policies`, as the program does.
+//! It stands on `trace_player_inside`, as the program does.
 #![tactic(auto)]
 
-use lru_policies::plain_program;
+use trace_player_inside::plain_program;
 use std::io;
 use std::process::ExitCode;
 

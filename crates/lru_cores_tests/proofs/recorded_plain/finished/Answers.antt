@@ -1,7 +1,7 @@
 use Rattle.std.proofs.Common.{◌≡◌, ◌<◌, ◌≤◌, length, vec_len, ap, sym, ◌∙◌, arith, rules, lit<}
 use Rattle.std.specs.Prelude.{slice_get}
-use Rattle.lru_sharing.specs.Hands.{up}
-use Rattle.lru_sharing.proofs.Hands.{in_order}
+use Rattle.lru_short_locks.specs.Hands.{up}
+use Rattle.lru_short_locks.proofs.Hands.{in_order}
 use Rattle.lru_cores_tests.proofs.recorded_plain.finished.Goals as goal
 
 pub finish-requires : goal.finish-requires

@@ -4,10 +4,10 @@ use Rattle.std.proofs.lemmas.List.Elements.{All-push}
 use Rattle.atomic_table.specs.Table.{Me}
 use Rattle.lru_recording.specs.declared.entry.Stamp.{Stamp}
 use Rattle.lru_recording.specs.declared.entry.Hand.{Hand}
-use Rattle.lru_sharing.specs.Hands.{up}
+use Rattle.lru_short_locks.specs.Hands.{up}
 use Rattle.lru_recording.specs.Ties.{hand}
-use Rattle.lru_sharing.proofs.Hands.{up_rest, up_snoc}
-use Rattle.lru_sharing.proofs.Hands.{map_snoc}
+use Rattle.lru_short_locks.proofs.Hands.{up_rest, up_snoc}
+use Rattle.lru_short_locks.proofs.Hands.{map_snoc}
 use Rattle.lru_recording.proofs.recorded.deal_seats.Goals as goal
 
 pub new-requires : goal.new-requires

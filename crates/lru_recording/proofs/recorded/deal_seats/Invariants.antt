@@ -1,6 +1,6 @@
 use Rattle.std.proofs.Common.{◌≡◌, ◌+◌, ◌-◌, [], map}
 use Rattle.std.specs.Prelude.{All}
-use Rattle.lru_sharing.specs.Hands.{up}
+use Rattle.lru_short_locks.specs.Hands.{up}
 use Rattle.lru_recording.specs.Ties.{hand}
 use Rattle.lru_recording.proofs.recorded.deal_seats.Given as goal
 

@@ -2,9 +2,9 @@ use Rattle.std.proofs.Common.{◌≡◌, ◌+◌, ◌-◌, [], ◌∷◌, List, 
 use Rattle.atomic_table.specs.Table.{Me}
 use Rattle.lru_recording.specs.declared.entry.Stamp.{Stamp}
 use Rattle.lru_recording.specs.declared.entry.Hand.{Hand}
-use Rattle.lru_sharing.specs.Hands.{up}
+use Rattle.lru_short_locks.specs.Hands.{up}
 use Rattle.lru_recording.specs.Ties.{hand}
-use Rattle.lru_sharing.proofs.Hands.{up_rest}
+use Rattle.lru_short_locks.proofs.Hands.{up_rest}
 use Rattle.lru_recording.proofs.recorded.deal_shards.Goals as goal
 
 pub loop-number-preserved : goal.loop-number-preserved

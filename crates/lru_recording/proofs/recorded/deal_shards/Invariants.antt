@@ -1,5 +1,5 @@
 use Rattle.std.proofs.Common.{◌≡◌, ◌+◌, ◌-◌, [], vec_len}
-use Rattle.lru_sharing.specs.Hands.{up}
+use Rattle.lru_short_locks.specs.Hands.{up}
 use Rattle.lru_recording.specs.Ties.{hand}
 use Rattle.lru_recording.proofs.recorded.deal_shards.Given as goal
 

@@ -1,5 +1,5 @@
 use Rattle.std.proofs.Common.{ap, sym, ◌∙◌, subst, arith, length}
-use Rattle.lru_sharing.proofs.Hands.{some_same}
+use Rattle.lru_short_locks.proofs.Hands.{some_same}
 use Rattle.lru_inbox.specs.Logs.{log_of, accepted}
 use Rattle.lru_inbox.specs.Inboxes.{IsInbox}
 use Rattle.lru_inbox.proofs.Kept.{sends, inbox_put, put_open, numbered}

@@ -1,5 +1,5 @@
 use Rattle.std.proofs.Common.{subst}
-use Rattle.lru_shared.specs.Shards.{MayDo}
+use Rattle.lru_shared_cache.specs.Shards.{MayDo}
 use Rattle.lru_shared_deadlines.specs.Calls.{ShardOf, Lends}
 use Rattle.lru_shared_deadlines.proofs.shared.SharedDeadlineCache.get_with.Goals as goal
 
