@@ -5,7 +5,7 @@ use Rattle.pingora_lru.specs.declared.calls.Call.{Call}
 use Rattle.pingora_lru.specs.declared.calls.Call.TheVariants.{Admit, InsertTail, IncrementWeight, UpdateOrAdmit, SetWeight, Promote, PromoteTopN, Remove, EvictShard, EvictStep, EvictToLimit, SetWeightLimit, Peek, PeekWeight, PeekLru, Totals}
 use Rattle.lru_tool_inside.specs.declared.command.Command.{Command}
 use Rattle.lru_tool_inside.specs.declared.command.Command.TheVariants as command
-use Rattle.lru_snapshot.specs.declared.snapshot.Keyed.{Keyed}
+use Rattle.lru_shard_files.specs.declared.snapshot.Keyed.{Keyed}
 use Rattle.pingora_lru_files.specs.Names.{has_slash}
 use Rattle.pingora_lru.specs.Calls.{IsAllowed}
 use Rattle.lru_lines.specs.Lines.{number_of, most_of, parts_of, lines_of}

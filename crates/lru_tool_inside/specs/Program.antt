@@ -2,7 +2,7 @@
 use Rattle.std.specs.Prelude.{◌≡◌, ◌⊎◌, ℕ, List, [], codes, replicate, Some, None, is_some, Option, if◌then◌else◌}
 use Rattle.std.specs.List.{list_all}
 use Rattle.std.specs.Io.KnownBytes.{Appends}
-use Rattle.lru_snapshot.specs.declared.snapshot.Keyed.{Keyed}
+use Rattle.lru_shard_files.specs.declared.snapshot.Keyed.{Keyed}
 use Rattle.lru_tool_inside.specs.declared.settings.CoreSettings.{CoreSettings}
 use Rattle.lru_tool_inside.specs.Commands.{Asked}
 use Rattle.pingora_lru.specs.Core.{Core}

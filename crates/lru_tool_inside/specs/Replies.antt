@@ -2,7 +2,7 @@
 use Rattle.std.specs.declared.alloc.AllocError.{AllocError}
 use Rattle.std.specs.Prelude.{◌≡◌, ℕ, ◌+◌, Bool, List, [], ◌∷◌, ◌++◌, length, map, codes, decimal, Option, Some, None, Result, Ok, Err, if◌then◌else◌}
 use Rattle.std.specs.Io.KnownBytes.{Appends}
-use Rattle.lru_snapshot.specs.declared.snapshot.Keyed.{Keyed}
+use Rattle.lru_shard_files.specs.declared.snapshot.Keyed.{Keyed}
 use Rattle.pingora_lru.specs.declared.calls.Reply.{Reply}
 use Rattle.pingora_lru.specs.declared.calls.Reply.TheVariants.{Shard, Inserted, Weight as NewWeight, Updated, Was, Held, Left, Evicted, Known, Last, Totals, Done}
 use Rattle.pingora_lru.specs.declared.unit.Cause.{Cause}

@@ -1,6 +1,6 @@
 use Rattle.std.proofs.Common.{◌+◌, ◌++◌, ◌∷◌, [], ℕ, get_or, drop, sym, ap, ◌∙◌, append_assoc, arith}
 use Rattle.std.proofs.lemmas.List.{at_drop_more}
-use Rattle.lru_snapshot.specs.declared.snapshot.Keyed.{Keyed}
+use Rattle.lru_shard_files.specs.declared.snapshot.Keyed.{Keyed}
 use Rattle.lru_tool_inside.specs.Replies.{pairs_text, pair_text}
 use Rattle.lru_lines.proofs.WriteLaws.{appends_then}
 use Rattle.lru_tool_inside.proofs.replies.write_pairs.Goals as goal

@@ -1,5 +1,5 @@
 use Rattle.std.proofs.Common.{◌++◌, ◌∷◌, [], ℕ, sym, ap, ◌∙◌, append_assoc}
-use Rattle.lru_snapshot.specs.declared.snapshot.Keyed.{Keyed}
+use Rattle.lru_shard_files.specs.declared.snapshot.Keyed.{Keyed}
 use Rattle.lru_tool_inside.specs.Replies.{pairs_text, pair_text}
 use Rattle.lru_lines.proofs.WriteLaws.{appends_then}
 use Rattle.lru_tool_inside.proofs.replies.write_rows.Goals as goal
