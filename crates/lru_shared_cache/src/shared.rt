@@ -1,5 +1,7 @@
 //! A cache that threads share.
 ghost use Rattle.std.specs.Prelude.{◌≡◌, ℕ, ◌<◌, ◌/◌, All, length, vec_len, true, Ok, IfOk, IfErr, IfSome};
+ghost use Rattle.lru_index.specs.Hashing.{seeded, unseeded};
+ghost use Rattle.lru_owned_cache.specs.Cache.{hashes_from};
 ghost use Rattle.lru_shared_cache.specs.Answers.{HandsBack};
 ghost use Rattle.lru_shared_cache.specs.Sharded.{empty_shard};
 ghost use Rattle.lru_shared_cache.specs.Related.{KeepsRelation, MayShowRelated, MayLendRelated, MayGetRelated, MayTakeRelated, MayPutRelated, MayVisitRelated, MayClearRelated, MayDrainRelated, MayLimitRelated, MayRetainRelated, MayVisitTo, MayClearTo, MayDrainTo, MayLimitTo};
@@ -23,6 +25,7 @@ use std::alloc::{AllocError, Global};
 use std::fmt;
 use std::fmt::{Debug, Formatter};
 use std::hash::{BuildHasher, Hash};
+use std::marker::Model;
 use std::sync::Wait;
 
 /// A shard under its lock, which is held as long as this is there.
@@ -66,8 +69,18 @@ pub struct SharedCache<
     // no two shards share a cache line, so that a thread at one doesn't slow a thread at another
     shards: Vec<CachePadded<crate::locked::Shard<RelatedShard<K, V, S, Rel>>>>,
     hash_builder: S,
-    ghost some: { 0 < N },
-    ghost has_shards: { vec_len shards ≡ N },
+}
+
+impl<K: Hash, V, const N: usize, S: BuildHasher, Rel: Relation<K, V>> Model
+    for SharedCache<K, V, N, S, Rel> {
+    // what lies behind the locks is known nowhere; what makes the hashes stays
+    ghost Value = { S };
+
+    ghost coded = { S.code };
+
+    ghost view = { λ c. c.hash_builder };
+
+    ghost invariant = { λ c. (0 < N) × (vec_len c.shards ≡ N) };
 }
 
 /// Tells how many shards there are. What they have is read under their locks, so it is not told here.
@@ -89,6 +102,7 @@ impl<K: Hash + Drop, V: Drop, const N: usize> SharedCache<K, V, N, SeededHashes>
     /// There is no memory.
     pub fn new(alloc: Global, most_weight: usize, most_entries: usize) -> Result<Self, AllocError>
         requires { 0 < N }
+        ensures { IfOk result (λ cache. cache ≡ hashes_from unseeded) }
     {
         SharedCache::with_hasher(alloc, most_weight, most_entries, SeededHashes::fixed())
     }
@@ -100,6 +114,7 @@ impl<K: Hash + Drop, V: Drop, const N: usize> SharedCache<K, V, N, SeededHashes>
     /// There is no memory.
     pub fn with_limits(alloc: Global, limits: Limits) -> Result<Self, AllocError>
         requires { 0 < N }
+        ensures { IfOk result (λ cache. cache ≡ hashes_from unseeded) }
     {
         SharedCache::new(alloc, limits.weight, limits.entries)
     }
@@ -117,6 +132,7 @@ impl<K: Hash + Drop, V: Drop, const N: usize> SharedCache<K, V, N, SeededHashes>
         seed: u64,
     ) -> Result<Self, AllocError>
         requires { 0 < N }
+        ensures { IfOk result (λ cache. cache ≡ hashes_from (seeded seed)) }
     {
         let hash_builder = SeededHashes::with_seed(seed);
         SharedCache::with_hasher(alloc, most_weight, most_entries, hash_builder)
@@ -141,6 +157,7 @@ impl<K: Hash + Drop, V: Drop, const N: usize, S: BuildHasher + Copy + Drop> Shar
         hash_builder: S,
     ) -> Result<Self, AllocError>
         requires { 0 < N }
+        ensures { IfOk result (λ cache. cache ≡ hash_builder) }
     {
         SharedCache::related(alloc, most_weight, most_entries, hash_builder)
     }
@@ -190,6 +207,7 @@ impl<
         hash_builder: S,
     ) -> Result<Self, AllocError>
         requires { 0 < N }
+        ensures { IfOk result (λ cache. cache ≡ hash_builder) }
     {
         let limits = Limits {
             weight: most_weight,

@@ -1,6 +1,7 @@
 //! A segmented cache that threads share.
-ghost use Rattle.std.specs.Prelude.{◌≡◌, ◌<◌, length, vec_len, is_some, IfErr};
-ghost use Rattle.lru_owned_cache.specs.Cache.{entry_of};
+ghost use Rattle.std.specs.Prelude.{◌≡◌, ◌<◌, length, vec_len, is_some, IfOk, IfErr};
+ghost use Rattle.lru_index.specs.Hashing.{seeded, unseeded};
+ghost use Rattle.lru_owned_cache.specs.Cache.{entry_of, hashes_from};
 ghost use Rattle.lru_owned_cache.specs.Entries.{weight_of};
 ghost use Rattle.lru_segmented.specs.Segmented.{entries};
 ghost use Rattle.lru_shared_cache.specs.Answers.{HandsBack};
@@ -25,6 +26,7 @@ use std::alloc::{AllocError, Global};
 use std::fmt;
 use std::fmt::{Debug, Formatter};
 use std::hash::{BuildHasher, Hash};
+use std::marker::Model;
 use std::sync::Wait;
 
 /// A shard under its lock, which is held as long as this is there.
@@ -59,8 +61,17 @@ pub struct SharedSegmentedCache<K: Hash, V, const N: usize, S: BuildHasher = See
     // no two shards share a cache line, so that a thread at one doesn't slow a thread at another
     shards: Vec<CachePadded<lru_shared_cache::locked::Shard<Counted<SegmentedCache<K, V, S>>>>>,
     hash_builder: S,
-    ghost some: { 0 < N },
-    ghost has_shards: { vec_len shards ≡ N },
+}
+
+impl<K: Hash, V, const N: usize, S: BuildHasher> Model for SharedSegmentedCache<K, V, N, S> {
+    // what lies behind the locks is known nowhere; what makes the hashes stays
+    ghost Value = { S };
+
+    ghost coded = { S.code };
+
+    ghost view = { λ c. c.hash_builder };
+
+    ghost invariant = { λ c. (0 < N) × (vec_len c.shards ≡ N) };
 }
 
 /// Tells how many shards there are. What they have is read under their locks, so it is not told here.
@@ -85,6 +96,7 @@ impl<K: Hash + Drop, V: Drop, const N: usize> SharedSegmentedCache<K, V, N, Seed
         protected: usize,
     ) -> Result<Self, AllocError>
         requires { 0 < N }
+        ensures { IfOk result (λ cache. cache ≡ hashes_from unseeded) }
     {
         let hash_builder = SeededHashes::fixed();
         SharedSegmentedCache::with_protected_and_hasher(alloc, limits, protected, hash_builder)
@@ -103,6 +115,7 @@ impl<K: Hash + Drop, V: Drop, const N: usize> SharedSegmentedCache<K, V, N, Seed
         seed: u64,
     ) -> Result<Self, AllocError>
         requires { 0 < N }
+        ensures { IfOk result (λ cache. cache ≡ hashes_from (seeded seed)) }
     {
         let hash_builder = SeededHashes::with_seed(seed);
         SharedSegmentedCache::with_protected_and_hasher(alloc, limits, protected, hash_builder)
@@ -127,6 +140,7 @@ impl<K: Hash + Drop, V: Drop, const N: usize, S: BuildHasher + Copy + Drop> Shar
         hash_builder: S,
     ) -> Result<Self, AllocError>
         requires { 0 < N }
+        ensures { IfOk result (λ cache. cache ≡ hash_builder) }
     {
         let shards = empty_shards(alloc, limits, protected, N, hash_builder)?;
         Ok(SharedSegmentedCache {
