@@ -1,5 +1,5 @@
 //! What actors, workers and callers share.
-ghost use Rattle.std.specs.Prelude.{◌≡◌, ◌+◌, ◌-◌, ◌<◌, [], All, vec_len, IfOk, OnOk, IsSome, is_some};
+ghost use Rattle.std.specs.Prelude.{◌≡◌, ◌+◌, ◌-◌, ◌<◌, [], true, All, vec_len, IfOk, OnOk, IsSome, is_some};
 ghost use Rattle.std.specs.Option.{ForSome};
 ghost use Rattle.std.specs.Sync.Mutex.{mutex_guard_value};
 ghost use Rattle.lru_inbox.specs.Logs.{log, hand, of_log, blank_logs, blank_fronts};
@@ -85,6 +85,7 @@ impl<K: Clone + Drop, B: BoxRegistry + Archive> ShardPlace<K, B> {
         requires some { 0 < shards }
         requires all { B.shards ≡ shards }
         requires log { voice.token.me ≡ (of_log (log shard [] []), []) }
+        ensures { IfOk result (λ place. is_logged place ≡ true) }
     {
         let mut voice = voice;
         let rows = LoggedShard::new(alloc, shard, shards, capacity, voice.seen(), seat)?;
@@ -110,7 +111,9 @@ impl<K: Clone + Drop, B: BoxRegistry + Archive> ShardPlace<K, B> {
     }
 
     /// What stood there, which nobody else holds: the mailbox, and the rows where there is a log.
-    pub fn into_parts(self) -> (Inbox<K, B>, Option<LoggedShard<K, B>>) {
+    pub fn into_parts(self) -> (Inbox<K, B>, Option<LoggedShard<K, B>>)
+        ensures { is_some result.1 ≡ is_logged self }
+    {
         let ShardPlace {
             mailbox,
             weights,
