@@ -139,8 +139,8 @@ impl<K, C, const N: usize, G> AsyncLruBuilder<K, C, N, G> {
         }
     }
 
-    /// What memory of what it makes comes from.
-    pub fn alloc(&self) -> Global {
+    // What memory of what it makes comes from.
+    pub(crate) fn alloc(&self) -> Global {
         self.alloc
     }
 
