@@ -1,3 +1,3 @@
-mod Restored
+mod Restoring
 pub mod ComesBack
 mod RestoredAges

@@ -4,7 +4,7 @@ use Rattle.std.proofs.lemmas.Result.{err_from_is_err_and}
 use Rattle.std.specs.Vec.Iter.{into_iter_items}
 use Rattle.lru_cache_checkpoints.specs.Captures.{PutsEntries}
 use Rattle.lru_cache_checkpoints.specs.CapturedDeadlines.{until_row}
-use Rattle.lru_cache_checkpoints.proofs.Restored.{left_more, put_more}
+use Rattle.lru_cache_checkpoints.proofs.Restoring.{left_more, put_more}
 use Rattle.lru_cache_checkpoints.proofs.deadline_captures.restore_deadlines.Goals as goal
 
 pub loop-row-preserved-then-is_out : goal.loop-row-preserved-then-is_out

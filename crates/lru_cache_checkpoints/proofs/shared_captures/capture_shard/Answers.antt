@@ -1,4 +1,4 @@
-use Rattle.lru_cache_checkpoints.proofs.Restored.{may_copy}
+use Rattle.lru_cache_checkpoints.proofs.Restoring.{may_copy}
 use Rattle.lru_cache_checkpoints.proofs.shared_captures.capture_shard.Goals as goal
 
 pub returns : goal.returns

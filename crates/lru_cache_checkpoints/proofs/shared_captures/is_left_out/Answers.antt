@@ -1,4 +1,4 @@
-use Rattle.lru_cache_checkpoints.proofs.Restored.{may_put}
+use Rattle.lru_cache_checkpoints.proofs.Restoring.{may_put}
 use Rattle.lru_cache_checkpoints.proofs.shared_captures.is_left_out.Goals as goal
 
 pub returns-in-Ok : goal.returns-in-Ok

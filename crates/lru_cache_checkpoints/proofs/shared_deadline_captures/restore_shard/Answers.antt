@@ -4,7 +4,7 @@ use Rattle.std.proofs.lemmas.Result.{err_from_is_err_and}
 use Rattle.std.specs.Vec.Iter.{into_iter_items}
 use Rattle.lru_cache_checkpoints.specs.Captures.{MayPutEntries}
 use Rattle.lru_cache_checkpoints.specs.CapturedAges.{aged_row}
-use Rattle.lru_cache_checkpoints.proofs.Restored.{may_leave_more, may_put_more}
+use Rattle.lru_cache_checkpoints.proofs.Restoring.{may_leave_more, may_put_more}
 use Rattle.lru_cache_checkpoints.proofs.shared_deadline_captures.restore_shard.Goals as goal
 
 pub loop-row-preserved-then-is_out : goal.loop-row-preserved-then-is_out

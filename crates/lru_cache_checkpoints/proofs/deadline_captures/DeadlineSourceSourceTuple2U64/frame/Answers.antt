@@ -3,7 +3,7 @@ use Rattle.std.specs.Prelude.{map}
 use Rattle.lru_owned_cache.specs.Cache.{parts_of}
 use Rattle.lru_frames.specs.Copies.{AreEach}
 use Rattle.lru_cache_checkpoints.specs.CapturedDeadlines.{IsDeadlineCopy}
-use Rattle.lru_cache_checkpoints.proofs.Restored.{if_all_ok}
+use Rattle.lru_cache_checkpoints.proofs.Restoring.{if_all_ok}
 use Rattle.lru_cache_checkpoints.proofs.deadline_captures.DeadlineSourceSourceTuple2U64.frame.Goals as goal
 
 pub returns : goal.returns
