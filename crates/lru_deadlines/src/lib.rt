@@ -5,3 +5,5 @@
 #![tactic(auto)]
 
 pub mod deadlines;
+pub mod putting;
+pub mod taking;

@@ -9,9 +9,13 @@
 pub mod iter;
 pub(crate) mod keeping;
 pub mod laws;
+pub mod putting;
+pub mod putting_with_deadlines;
 pub(crate) mod seat;
 pub(crate) mod seats;
 pub mod segmented;
 pub mod segmented_deadlines;
 pub mod segmented_unit;
+pub mod taking;
+pub mod taking_with_deadlines;
 pub mod unit_laws;
