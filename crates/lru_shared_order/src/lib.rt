@@ -7,9 +7,13 @@
 
 mod admission;
 mod admitting;
+mod counters;
+mod evicting;
 mod locked;
 pub mod look;
 pub mod lru;
+mod making_room;
+mod shard;
 mod shed;
 
 pub use admission::{Admission, Fate};
