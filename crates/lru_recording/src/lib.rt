@@ -5,7 +5,9 @@
 //! table of `atomic_table` by the words of `lru_short_locks`.
 #![tactic(auto)]
 
+mod dealing;
 pub mod entry;
+mod evicting;
 pub mod gathered;
 pub mod journal;
 pub mod recorded;

@@ -8,7 +8,7 @@ use Rattle.lru_short_locks.specs.Hands.{up}
 use Rattle.lru_recording.specs.Ties.{hand}
 use Rattle.lru_short_locks.proofs.Hands.{up_rest, up_snoc}
 use Rattle.lru_short_locks.proofs.Hands.{map_snoc}
-use Rattle.lru_recording.proofs.recorded.deal_seats.Goals as goal
+use Rattle.lru_recording.proofs.dealing.deal_seats.Goals as goal
 
 pub new-requires : goal.new-requires
 new-requires g c =

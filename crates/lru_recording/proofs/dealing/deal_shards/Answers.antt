@@ -5,7 +5,7 @@ use Rattle.lru_recording.specs.declared.entry.Hand.{Hand}
 use Rattle.lru_short_locks.specs.Hands.{up}
 use Rattle.lru_recording.specs.Ties.{hand}
 use Rattle.lru_short_locks.proofs.Hands.{up_rest}
-use Rattle.lru_recording.proofs.recorded.deal_shards.Goals as goal
+use Rattle.lru_recording.proofs.dealing.deal_shards.Goals as goal
 
 pub loop-number-preserved : goal.loop-number-preserved
 loop-number-preserved g c =
