@@ -1,5 +1,5 @@
 //! Policies beside one another, as a table.
-ghost use Rattle.std.specs.Prelude.{◌≡◌, ◌≤◌, length, IfOk};
+ghost use Rattle.std.specs.Prelude.{◌≡◌, ◌≤◌, ℕ, max, length, IfOk, IsTrue};
 ghost use Rattle.std.specs.List.{All};
 
 use crate::future::only_size;
@@ -42,7 +42,9 @@ pub fn row_of(alloc: Global, limit: usize, requests: &[Request]) -> Result<HitsR
 }
 
 /// Whether the optimum of a trace is told exactly: where all objects have one size. Else it is a bound.
-pub fn is_exact(requests: &[Request]) -> bool {
+pub fn is_exact(requests: &[Request]) -> bool
+    ensures { IsTrue result → (size : ℕ) × All (λ q. max q.size 1 ≡ size) requests.now }
+{
     requests.is_empty() || only_size(requests).is_some()
 }
 

@@ -64,7 +64,7 @@ pub enum Asked {
 }
 
 /// What the arguments of the program ask for, as `asked_by` has it.
-pub fn asked_of(rt: &(impl Env + AllocGlobal)) -> io::Result<Asked> {
+pub(crate) fn asked_of(rt: &(impl Env + AllocGlobal)) -> io::Result<Asked> {
     let mut words = Vec::new(rt.alloc());
     for word in env::args(rt)?.skip(1) {
         words.push(word)?;
