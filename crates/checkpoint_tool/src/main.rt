@@ -4,8 +4,8 @@
 //! folder, to `checkpoint_tool_inside`, where the clauses stand.
 #![tactic(auto)]
 
-use lru_host_folder::host_folder::HostFolder;
 use checkpoint_tool_inside::program;
+use lru_host_folder::host_folder::HostFolder;
 use std::process::ExitCode;
 
 fn main(rt: HostRuntime) -> ExitCode {
