@@ -1,7 +1,7 @@
 //! The program over a folder in memory.
+use checkpoint_tool_inside::engine::run;
 use lru_folder::folder::Folder;
 use lru_memory_folder::memory_folder::MemoryFolder;
-use checkpoint_tool_inside::engine::run;
 use std::alloc::{AllocError, Global};
 
 pub(crate) fn words(alloc: Global, line: &str) -> Result<Vec<String>, AllocError> {

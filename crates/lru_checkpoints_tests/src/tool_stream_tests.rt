@@ -2,10 +2,10 @@
 ghost use Rattle.std.specs.Prelude.{⊤};
 
 use crate::tool_fixture::{Run, empty, other_run, words};
-use lru_lines::input::{Input, InputError, read_to_end};
 use checkpoint_tool_inside::engine::{run, run_buffered};
 use checkpoint_tool_inside::program;
 use checkpoint_tool_inside::requests::WordsError;
+use lru_lines::input::{Input, InputError, read_to_end};
 use std::alloc::{AllocError, Global};
 use std::io;
 use std::io::BufWriter;

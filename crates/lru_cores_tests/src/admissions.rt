@@ -1,8 +1,8 @@
 //! Admissions that evict: by one caller as a core does them, and by two threads with each pair counted.
 use crate::shown::{tell_core_state, tell_state, text_of};
 use lru_cores::lru_core::LruCore;
-use lru_shared_order::lru::Lru;
 use lru_shard::unit::{Cause, Refused};
+use lru_shared_order::lru::Lru;
 use rand::rngs::StdRng;
 use rand_core::{Rng, SeedableRng};
 use std::alloc::{AllocError, Global};

@@ -1,7 +1,7 @@
 //! What an `Lru` leaves after the calls of two threads: the counters are the sums over its shards.
-use lru_shared_order::lru::Lru;
 use lru_shard::totals::{Totals, Units};
 use lru_shard::unit::LruUnit;
+use lru_shared_order::lru::Lru;
 use rand::rngs::StdRng;
 use rand_core::{Rng, SeedableRng};
 use std::alloc::{AllocError, Global};

@@ -1,7 +1,7 @@
 //! Calls of an `Lru` with closures: what they are handed, what comes of it, and which are not called.
 use crate::locked_steps::shown;
-use lru_shared_order::lru::Lru;
 use lru_shard::unit::{Cause, Refused};
+use lru_shared_order::lru::Lru;
 use std::alloc::{AllocError, Global};
 use std::sync::Wait;
 use std::test::Fail;

@@ -2,8 +2,8 @@
 use crate::asked::{Step, call_of};
 use crate::shown::{rows_of, text_of};
 use lru_cores::calls::{Call, Reply};
-use lru_shared_order::lru::Lru;
 use lru_shard::unit::Refused;
+use lru_shared_order::lru::Lru;
 use rand::rngs::StdRng;
 use std::alloc::{AllocError, Global};
 use std::sync::Wait;

@@ -3,9 +3,9 @@ ghost use Rattle.std.specs.Prelude.{⊤};
 
 use crate::run_tests::words;
 use log::sink::Discard;
+use lru_lines::input::{Input, InputError, read_to_end};
 use lru_tool_inside::arguments;
 use lru_tool_inside::engine::run;
-use lru_lines::input::{Input, InputError, read_to_end};
 use pingora_lru_files::persistence::MemoryFolder;
 use std::alloc::{AllocError, Global};
 use std::env::{Env, FillError};

@@ -9,9 +9,9 @@ use lru_frames::marked::encode_marked;
 use lru_frames::row::Row;
 use lru_frames::source::Source;
 use lru_frames::stored::Stored;
+use lru_shard::unit::{LruUnit, Refused};
 use lru_shared_order::look::Look;
 use lru_shared_order::lru::Lru;
-use lru_shard::unit::{LruUnit, Refused};
 use std::alloc::{AllocError, Global};
 use std::sync::Wait;
 

@@ -61,7 +61,9 @@ impl<'a, K: Hash, V, S: BuildHasher> LockedDeadlineShard<'a, K, V, S> {
 /// `get_or_put_with` makes is made under no lock.
 #[derive(Drop)]
 pub struct SharedDeadlineCache<K: Hash, V, const N: usize, S: BuildHasher = SeededHashes> {
-    shards: Vec<CachePadded<lru_shared_cache::locked::Shard<Counted<DeadlineCache<K, Aged<V>, S>>>>>,
+    shards: Vec<
+        CachePadded<lru_shared_cache::locked::Shard<Counted<DeadlineCache<K, Aged<V>, S>>>>,
+    >,
     hash_builder: S,
     ages: Ages,
     turn: AtomicUsize,

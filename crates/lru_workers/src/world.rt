@@ -93,7 +93,9 @@ impl<K: Clone + Drop, B: BoxRegistry + Archive> ShardPlace<K, B> {
         Ok(ShardPlace::new(mailbox, Weights::WithRows(ShortMutex::new(rows))))
     }
 
-    fn new(mailbox: SharedInbox<K, B>, weights: Weights<K, B>) -> Self {
+    fn new(mailbox: SharedInbox<K, B>, weights: Weights<K, B>) -> Self
+        ensures { result.weights ≡ weights }
+    {
         ShardPlace {
             mailbox,
             weights,

@@ -10,9 +10,9 @@
 
 pub use lru_cores::{calls, inclusion, tiered};
 pub use lru_list::linked_list;
+pub use lru_shard::{totals, unit};
 pub use lru_shared_order::lru;
 pub use lru_shared_order::lru::Lru;
-pub use lru_shard::{totals, unit};
 
 /// Batches of admissions to an [`Lru`].
 pub mod batch {

@@ -14,8 +14,8 @@
 //! A bad line, wrong arguments, or a file that can't be written: a line that says so, and status 2. No memory: status 1.
 #![tactic(auto)]
 
-use trace_player_inside::program;
 use std::process::ExitCode;
+use trace_player_inside::program;
 
 fn main(rt: HostRuntime) -> ExitCode {
     program::run(rt)

@@ -4,9 +4,9 @@
 //! It stands on `trace_player_inside`, as the program does.
 #![tactic(auto)]
 
-use trace_player_inside::plain_program;
 use std::io;
 use std::process::ExitCode;
+use trace_player_inside::plain_program;
 
 fn main(rt: HostRuntime) -> io::Result<ExitCode> {
     plain_program::run(rt)

@@ -1,9 +1,9 @@
 //! Plain simulations: lists of objects, of which those that go first stand first.
 use lru_admission::sketch::Sketch;
 use lru_index::hashing::{SeededHashes, hash_of};
+use std::alloc::{AllocError, Global};
 use trace_player_inside::player::Request;
 use trace_player_inside::policies::Policy;
-use std::alloc::{AllocError, Global};
 
 /// What objects weigh together.
 fn weight_of(objects: &[Request]) -> usize {

@@ -1,13 +1,13 @@
 //! Each policy over a worked trace, and over made ones beside a plain simulation.
 use crate::plain::{most_of_all, plain_hits};
+use std::alloc::{AllocError, Global};
+use std::test::Fail;
 use trace_player_inside::future::{hits_at_best, next_uses};
 use trace_player_inside::made::{Kind, Recipe, keys_of};
 use trace_player_inside::plain_program::Takes;
 use trace_player_inside::player::Request;
 use trace_player_inside::policies::{POLICIES, Policy, Refusal, hits};
 use trace_player_inside::sampling::Sample;
-use std::alloc::{AllocError, Global};
-use std::test::Fail;
 
 // Requests for 1, 2, 1, 3, 2, 4, 1 and 3.
 static KEYS: [u64; 8] = [1, 2, 1, 3, 2, 4, 1, 3];

@@ -1,4 +1,7 @@
 //! Tables of lines, of shares and of limits, each gone through by one function.
+use std::alloc::{AllocError, Global};
+use std::io;
+use std::test::Fail;
 use trace_player_inside::limits::{LimitFault, add_limit, limit_of};
 use trace_player_inside::numbers::NumberFault;
 use trace_player_inside::one_pass::{are_of_size_one, play_all};
@@ -9,9 +12,6 @@ use trace_player_inside::progress::Progress;
 use trace_player_inside::requests::{Format, LineFault, format_of, read_request, request_of};
 use trace_player_inside::settings::{Asked, asked_by};
 use trace_player_inside::table::Percent;
-use std::alloc::{AllocError, Global};
-use std::io;
-use std::test::Fail;
 
 #[rattlefmt::skip]
 const LINES: [(&str, Option<Request>); 12] = [

@@ -1,10 +1,10 @@
 //! What the words of the program ask for, and the texts of tables.
+use std::alloc::{AllocError, Global};
+use std::test::Fail;
 use trace_player_inside::compared::{Head, TableLine, is_exact, row_of};
 use trace_player_inside::player::Request;
 use trace_player_inside::sampling::Estimate;
 use trace_player_inside::words::{Asked, asked_of};
-use std::alloc::{AllocError, Global};
-use std::test::Fail;
 
 // Words, and what they ask for.
 static WORDS: [(&str, &str); 16] = [
