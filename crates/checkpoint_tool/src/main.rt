@@ -6,10 +6,7 @@
 
 use checkpoint_tool_inside::program;
 use lru_host_folder::host_folder::HostFolder;
-<<<<<<< HEAD
 use std::env;
-=======
->>>>>>> dbf0012ca418e2ce7dc8237279867f24a54843a9
 use std::process::ExitCode;
 
 fn main(rt: HostRuntime) -> ExitCode {

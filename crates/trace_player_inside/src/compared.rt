@@ -45,7 +45,10 @@ pub fn row_of(alloc: Global, limit: usize, requests: &[Request]) -> Result<HitsR
 pub fn is_exact(requests: &[Request]) -> bool
     ensures { IsTrue result → (size : ℕ) × All (λ q. max q.size 1 ≡ size) requests.now }
 {
-    requests.is_empty() || only_size(requests).is_some()
+    match only_size(requests) {
+        Some(_) => true,
+        None => requests.is_empty(),
+    }
 }
 
 /// What a policy is called in a table.
