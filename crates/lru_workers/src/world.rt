@@ -174,8 +174,8 @@ impl<K: Clone + Drop, B: BoxRegistry + Archive> ShardPlace<K, B> {
         unreachable!()
     }
 
-    /// Closes the mailbox. Who waits for a reply to a message that is left behind is told.
-    pub fn shut(&self, rt: &impl Wait) {
+    // Closes the mailbox. Who waits for a reply to a message that is left behind is told.
+    fn shut(&self, rt: &impl Wait) {
         let left = self.mailbox.leave(rt);
         for letter in left {
             let Letter { message, cell } = letter;
@@ -240,6 +240,8 @@ fn add(counter: &AtomicUsize, amount: usize) {
 }
 
 impl<K: Clone + Drop, B: BoxRegistry + Archive> World<K, B> {
+    ghost use Rattle.lru_workers.specs.Limiting.{MayBePast};
+
     /// So many empty shards, each with room for `capacity` rows. Where there are logs, `logs` speaks for all of them and for those
     /// who take, and then for those alone; and each shard gets a seat, in order, as long as there are any: it lies beside the rows,
     /// has the slips of what the shard evicts, and `LoggedShard::end` gives it back. A seat that no shard gets is let go.
@@ -323,7 +325,9 @@ impl<K: Clone + Drop, B: BoxRegistry + Archive> World<K, B> {
     }
 
     /// Whether a limit is passed.
-    pub fn over_limit(&self) -> bool {
+    pub fn over_limit(&self) -> bool
+        ensures { MayBePast self.now.limits result }
+    {
         is_past(
             self.limits.weight_limit,
             self.limits.len_watermark,
