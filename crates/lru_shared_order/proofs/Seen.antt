@@ -1,6 +1,6 @@
 -- What a look for a key may have seen: a row of a key shows that the shard is the key's own, and where none is found, a shard
 -- without rows has none.
-use Rattle.std.proofs.Common.{◌≡◌, ℕ, ◌%◌, ◌<◌, eqb, List, [], ◌∷◌, Some, None, inl, inr, refl, sym, ap, subst, ◌∙◌, arith, Bool, true, false, zero, suc}
+use Rattle.std.proofs.Common.{◌≡◌, ℕ, ◌<◌, eqb, List, [], ◌∷◌, Some, None, inl, inr, refl, sym, ap, subst, ◌∙◌, arith, Bool, true, false, zero, suc}
 use Rattle.std.specs.Prelude.{take, is_some, not, Option}
 use Rattle.std.proofs.lemmas.Bool.{cases_Bool, cond-true, cond-false, not-false, false≢true}
 use Rattle.lru_shard.specs.Row.{Row, row_of, times, is_held}
