@@ -4,7 +4,7 @@ ghost use Rattle.std.specs.Option.{ForSome};
 ghost use Rattle.std.specs.Sync.Mutex.{mutex_guard_value};
 ghost use Rattle.lru_inbox.specs.Logs.{log, hand, of_log, blank_logs, blank_fronts};
 ghost use Rattle.lru_inbox.specs.Inboxes.{taken_in};
-ghost use Rattle.lru_workers.specs.Looking.{LearnsWeight};
+ghost use Rattle.lru_workers.specs.Looking.{LearnsWeight, MayWeigh};
 ghost use Rattle.lru_workers.specs.Seats.{slips_at};
 ghost use Rattle.lru_shard.specs.Limits.{cap_of};
 ghost use Rattle.lru_workers.specs.Replying.{HasNothing, AreTakers};
@@ -139,10 +139,12 @@ impl<K: Clone + Drop, B: BoxRegistry + Archive> ShardPlace<K, B> {
     }
 
     /// The weight of the row with this hash, if there is one.
-    pub fn weight_of(&self, rt: &impl Wait, hash: u64) -> Option<usize> {
+    pub fn weight_of(&self, rt: &impl Wait, hash: u64) -> Option<usize>
+        ensures { is_logged self.now ≡ true → MayWeigh K (cap_of B.shards) hash result }
+    {
         match &self.weights {
             Weights::Alone(map) => map.read(rt).get(&hash).copied(),
-            Weights::WithRows(rows) => rows.lock(rt).weight_of(hash),
+            Weights::WithRows(rows) => rows.lock(rt).weight_left(hash),
         }
     }
 
