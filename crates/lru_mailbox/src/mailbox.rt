@@ -1,6 +1,6 @@
 //! A mailbox that threads share.
 ghost use Rattle.std.specs.Prelude.{◌≡◌, ◌+◌, ◌≤◌, vec_len, vec_capacity};
-ghost use Rattle.lru_mailbox.specs.Sending.{HandsBack, HandsBackEvict, Gains};
+ghost use Rattle.lru_mailbox.specs.Sending.{HandsBack, HandsBackEvict, Gains, MayWait};
 
 use crate::shared::Shared;
 use crate::{MailError, MailState};
@@ -85,13 +85,10 @@ impl<M> Mailbox<M> {
     }
 
     /// How many messages wait.
-    pub fn len(&self, rt: &impl Wait) -> usize {
+    pub fn len(&self, rt: &impl Wait) -> usize
+        ensures { MayWait M result }
+    {
         self.shared.lock(rt).len()
-    }
-
-    /// Whether no message is put any more.
-    pub fn is_closed(&self, rt: &impl Wait) -> bool {
-        self.shared.lock(rt).is_closed()
     }
 
     /// How many messages were put, modulo 2^64.
