@@ -1,7 +1,7 @@
 //! A cache that threads share, whose entries end.
 ghost use Rattle.std.specs.Prelude.{◌≡◌, ◌-◌, ◌<◌, ◌^◌, min, sum_by, length, vec_len, is_some, IfOk, IfErr, IfSome};
 ghost use Rattle.lru_index.specs.Hashing.{seeded, unseeded};
-ghost use Rattle.lru_owned_cache.specs.Cache.{hashes_from};
+ghost use Rattle.lru_owned_cache.specs.Cache.{IsCache, hashes_from};
 ghost use Rattle.lru_owned_cache.specs.Entries.{weight_of};
 ghost use Rattle.lru_deadlines.specs.Deadlines.{living};
 ghost use Rattle.lru_shared_deadlines.specs.Sharded.{setting};
@@ -42,9 +42,26 @@ pub struct LockedDeadlineShard<'a, K: Hash, V, S: BuildHasher> {
     held: Held<'a, Counted<DeadlineCache<K, Aged<V>, S>>>,
 }
 
+impl<'a, K: Hash, V, S: BuildHasher> Model for LockedDeadlineShard<'a, K, V, S> {
+    ghost use Rattle.lru_owned_cache.specs.Cache.{Cached, cached_code};
+    ghost use Rattle.lru_deadlines.specs.Codes.{until_code};
+    ghost use Rattle.lru_deadlines.specs.declared.deadlines.Until.{Until};
+    ghost use Rattle.lru_shared_deadlines.specs.Codes.{aged_code};
+    ghost use Rattle.lru_shared_deadlines.specs.declared.ages.Aged.{Aged};
+
+    // the entries behind the lock
+    ghost Value = { Cached K (Until (Aged V)) S };
+
+    ghost coded = { cached_code K.code (until_code (aged_code V.code)) S.code };
+
+    ghost view = { λ locked. locked.held.cache };
+}
+
 impl<'a, K: Hash, V, S: BuildHasher> LockedDeadlineShard<'a, K, V, S> {
     /// The entries of the shard, as they are while the lock is held, also those that are past.
-    pub fn cache(&self) -> &DeadlineCache<K, Aged<V>, S> {
+    pub fn cache(&self) -> &DeadlineCache<K, Aged<V>, S>
+        ensures { result.now ≡ self.now }
+    {
         &self.held.cache().cache
     }
 }
@@ -247,10 +264,14 @@ impl<K: Hash, V, const N: usize, S: BuildHasher> SharedDeadlineCache<K, V, N, S>
     /// shard has to come from another thread.
     pub fn lock_shard(&self, rt: &impl Wait, shard: usize) -> LockedDeadlineShard<'_, K, V, S>
         requires { shard < N }
+        ensures { IsCache K.eq result }
     {
-        LockedDeadlineShard {
+        let locked = LockedDeadlineShard {
             held: self.shards[shard].lock(rt),
-        }
+        };
+        // Read for the proof alone, which learns from it what the type says of itself.
+        let _len = locked.cache().len();
+        locked
     }
 
     /// How many entries a shard has, with those that are past, read under its lock.

@@ -3,7 +3,7 @@ ghost use Rattle.std.specs.Prelude.{◌≡◌, ◌-◌, ◌<◌, ◌^◌, min, s
 ghost use Rattle.lru_index.specs.Hashing.{seeded, unseeded};
 ghost use Rattle.lru_owned_cache.specs.Cache.{entry_of, hashes_from};
 ghost use Rattle.lru_owned_cache.specs.Entries.{weight_of};
-ghost use Rattle.lru_segmented.specs.Segmented.{entries};
+ghost use Rattle.lru_segmented.specs.Segmented.{IsSegmented, entries};
 ghost use Rattle.lru_shared_cache.specs.Answers.{HandsBack};
 ghost use Rattle.lru_shared_cache.specs.Counts.{total};
 ghost use Rattle.lru_shared_cache.specs.Calls.{ShowsEntry, VisitsEach};
@@ -36,9 +36,22 @@ pub struct LockedSegmentedShard<'a, K: Hash, V, S: BuildHasher> {
     held: Held<'a, Counted<SegmentedCache<K, V, S>>>,
 }
 
+impl<'a, K: Hash, V, S: BuildHasher> Model for LockedSegmentedShard<'a, K, V, S> {
+    ghost use Rattle.lru_segmented.specs.Segmented.{Segmented, segmented_code};
+
+    // the entries behind the lock
+    ghost Value = { Segmented K V S };
+
+    ghost coded = { segmented_code K.code V.code S.code };
+
+    ghost view = { λ locked. locked.held.cache };
+}
+
 impl<'a, K: Hash, V, S: BuildHasher> LockedSegmentedShard<'a, K, V, S> {
     /// The entries of the shard, as they are while the lock is held.
-    pub fn cache(&self) -> &SegmentedCache<K, V, S> {
+    pub fn cache(&self) -> &SegmentedCache<K, V, S>
+        ensures { result.now ≡ self.now }
+    {
         &self.held.cache().cache
     }
 }
@@ -255,10 +268,14 @@ impl<K: Hash, V, const N: usize, S: BuildHasher> SharedSegmentedCache<K, V, N, S
     /// shard has to come from another thread.
     pub fn lock_shard(&self, rt: &impl Wait, shard: usize) -> LockedSegmentedShard<'_, K, V, S>
         requires { shard < N }
+        ensures { IsSegmented K.eq result }
     {
-        LockedSegmentedShard {
+        let locked = LockedSegmentedShard {
             held: self.shards[shard].lock(rt),
-        }
+        };
+        // Read for the proof alone, which learns from it what the type says of itself.
+        let _len = locked.cache().len();
+        locked
     }
 }
 
