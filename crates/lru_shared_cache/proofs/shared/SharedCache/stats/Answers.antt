@@ -12,5 +12,5 @@ loop-shard-preserved g c = counts_one g.Rel.Relation.holds c.loop-shard.shard c.
 
 pub returns : goal.returns
 returns g c =
-    let all : c.loop-shard.shard ≡ g.row.N = omega (arith, c.loop-shard-test.false, c.loop-shard.auto.shard-end) in
+    let all : c.loop-shard.shard ≡ g.row.N = omega (arith, c.loop-shard-test.false) in
     subst (λ n. MaySeeAllRelated g.Rel.Relation.holds g.row.S.Denot n (λ shards. c.loop-shard.stats ≡ total shards)) all c.loop-shard.invariant

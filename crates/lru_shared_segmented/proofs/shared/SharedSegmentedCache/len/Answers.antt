@@ -13,5 +13,5 @@ loop-shard-preserved g c = adds_one (λ shard. length (entries shard.cache)) c.l
 
 pub returns : goal.returns
 returns g c =
-    let all : c.loop-shard.shard ≡ g.row.N = omega (arith, c.loop-shard-test.false, c.loop-shard.auto.shard-end) in
+    let all : c.loop-shard.shard ≡ g.row.N = omega (arith, c.loop-shard-test.false) in
     subst (λ n. MayBeAll g.row.K.Denot g.row.V.Denot g.row.S.Denot n (λ shards. c.loop-shard.len ≡ min (sum_by (λ shard. length (entries shard.cache)) shards) (2 ^ 64 - 1))) all c.loop-shard.invariant

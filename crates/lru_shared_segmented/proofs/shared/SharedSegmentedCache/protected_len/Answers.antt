@@ -12,5 +12,5 @@ loop-shard-preserved g c = adds_one (λ shard. length shard.cache.upper) c.loop-
 
 pub returns : goal.returns
 returns g c =
-    let all : c.loop-shard.shard ≡ g.row.N = omega (arith, c.loop-shard-test.false, c.loop-shard.auto.shard-end) in
+    let all : c.loop-shard.shard ≡ g.row.N = omega (arith, c.loop-shard-test.false) in
     subst (λ n. MayBeAll g.row.K.Denot g.row.V.Denot g.row.S.Denot n (λ shards. c.loop-shard.len ≡ min (sum_by (λ shard. length shard.cache.upper) shards) (2 ^ 64 - 1))) all c.loop-shard.invariant
