@@ -91,22 +91,7 @@ impl<M> Mailbox<M> {
         self.shared.lock(rt).len()
     }
 
-    /// How many messages were put, modulo 2^64.
-    pub fn pushed(&self, rt: &impl Wait) -> u64 {
-        self.shared.lock(rt).pushed()
-    }
-
-    /// How many messages were taken, modulo 2^64.
-    pub fn taken(&self, rt: &impl Wait) -> u64 {
-        self.shared.lock(rt).taken()
-    }
-
-    /// How many messages are lost, modulo 2^64.
-    pub fn lost(&self, rt: &impl Wait) -> u64 {
-        self.shared.lock(rt).lost()
-    }
-
-    /// Lends the state until the guard is dropped. Who puts messages into it calls `wake` afterwards.
+    /// Lends the state, with its counts, until the guard is dropped. Who puts messages into it calls `wake` afterwards.
     pub fn lend<R: Wait>(&self, rt: &R) -> MutexGuard<'_, MailState<M>> {
         self.shared.lock(rt)
     }

@@ -7,3 +7,4 @@ pub mod Looking
 pub mod Seats
 pub mod Accounts
 pub mod Limiting
+pub mod Actors

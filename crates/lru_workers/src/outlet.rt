@@ -105,7 +105,7 @@ impl<K: Drop, B: BoxRegistry> Outlet<K, B> {
     /// How many pairs are lost, modulo 2^64.
     pub fn lost(&self, rt: &impl Wait) -> usize {
         match self {
-            Outlet::Mailbox(mailbox) => mailbox.lost(rt) as usize,
+            Outlet::Mailbox(mailbox) => mailbox.lend(rt).lost() as usize,
             Outlet::Ledger(ledger) => ledger.lost_len(rt),
         }
     }
