@@ -1,4 +1,2 @@
 pub mod Reports
 mod Seats
-pub mod Logged
-mod Ends

@@ -10,4 +10,3 @@ pub mod Sparing
 pub mod TextsFault
 pub mod Texts
 pub mod Blames
-pub mod SyncedNames

@@ -14,6 +14,3 @@ pub mod Frame
 pub mod Causes
 pub mod Marks
 pub mod Sources
-pub mod Crc
-pub mod CrcLanes
-pub mod CrcWindows

@@ -2,5 +2,3 @@ pub mod Lists
 pub mod Kept
 pub mod Steps
 pub mod Counting
-pub mod Moves
-pub mod Dealing

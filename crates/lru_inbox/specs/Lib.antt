@@ -1,4 +1,3 @@
 pub mod Replies
 pub mod Inboxes
 pub mod Taking
-pub mod Logs

@@ -1,2 +1,1 @@
 pub mod Restores
-pub mod Captures

@@ -9,9 +9,4 @@ pub mod Caches
 pub mod Receding
 pub mod Retained
 pub mod Drained
-pub mod Put
-pub mod Answered
-pub mod Living
-pub mod UnitPutting
-pub mod AsRows
-pub mod UnitWalked
+pub mod Putting

@@ -4,6 +4,3 @@ pub mod Representation
 pub mod Retained
 pub mod Scans
 pub mod Laws
-pub mod SegmentedDeadlines
-pub mod SegmentedUnit
-pub mod UnitLaws

@@ -7,6 +7,5 @@
 
 pub mod counters;
 pub mod eviction;
-pub mod iter;
 pub mod totals;
 pub mod unit;

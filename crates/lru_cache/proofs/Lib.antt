@@ -1,0 +1,10 @@
+pub mod Entries
+pub mod Views
+pub mod Placing
+pub mod Putting
+pub mod Retained
+pub mod Drained
+pub mod Settled
+pub mod Reweighed
+pub mod Queried
+pub mod Fresh

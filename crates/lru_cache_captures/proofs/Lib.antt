@@ -1,0 +1,3 @@
+mod Restored
+pub mod ComesBack
+mod RestoredAges

@@ -1,3 +1,0 @@
-mod Restoring
-pub mod ComesBack
-mod RestoredAges

@@ -1,0 +1,4 @@
+pub mod Logged
+pub mod Orders
+pub mod Accounts
+pub mod AccountedOrders

@@ -1,0 +1,3 @@
+pub mod Names
+pub mod Manifests
+pub mod Listing

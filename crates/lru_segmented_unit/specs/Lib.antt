@@ -1,0 +1,2 @@
+pub mod SegmentedUnit
+pub mod Laws

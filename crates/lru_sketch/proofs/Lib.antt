@@ -1,0 +1,4 @@
+pub mod Packed
+pub mod Estimates
+pub mod Runs
+pub mod Kept

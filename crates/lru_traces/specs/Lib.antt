@@ -1,0 +1,5 @@
+pub mod Traces
+pub mod Representation
+pub mod TraceLines
+pub mod Numbers
+pub mod Limits

@@ -1,0 +1,3 @@
+pub mod Touched
+pub mod Replaced
+pub mod Removed

@@ -1,0 +1,3 @@
+pub mod Touching
+pub mod Reading
+pub mod Replacing
