@@ -2,10 +2,10 @@
 ghost use Rattle.std.specs.Prelude.{◌≡◌};
 
 use lru_async::async_lru::AsyncLru;
-use lru_desks::{Blanks, Registry};
-use lru_logs::tie::Archive;
+use lru_boxes::{Blanks, BoxRegistry};
+use lru_inbox::tie::Archive;
 use lru_mailbox::{Settled, Slip};
-use lru_world::callback::AsyncEvictionCallback;
+use lru_workers::callback::AsyncEvictionCallback;
 use rand::RngExt;
 use rand::rngs::StdRng;
 use rand_core::SeedableRng;
@@ -37,7 +37,7 @@ impl AsyncEvictionCallback<u64> for Adding {
 }
 
 // Fifty thousand drawn sends. Whether each was taken.
-fn draw_sends<B: Registry + Archive, R: Wait>(
+fn draw_sends<B: BoxRegistry + Archive, R: Wait>(
     rt: &R,
     lru: &AsyncLru<u64, 4, B>,
     seed: u64,
@@ -60,7 +60,7 @@ fn draw_sends<B: Registry + Archive, R: Wait>(
 }
 
 // Four senders at once.
-fn four_send<B: Registry + Archive + Send + Sync, R: Threads + Wait + Sync>(
+fn four_send<B: BoxRegistry + Archive + Send + Sync, R: Threads + Wait + Sync>(
     rt: &R,
     lru: &AsyncLru<u64, 4, B>,
 ) -> bool {
@@ -99,7 +99,7 @@ fn all_sums(lists: &Vec<Vec<Slip>>) -> (usize, usize, usize) {
 
 // Sends under a limit, and closes. Whether each send was taken, and what is settled; nothing where there are no threads.
 fn soaked<
-    B: Registry + Archive + Send + Sync + 'static,
+    B: BoxRegistry + Archive + Send + Sync + 'static,
     R: Threads + Wait + Copy + Send + Sync + 'static,
 >(rt: R, alloc: Global, adding: Arc<Adding, Global>, blanks: Blanks) -> Option<(bool, Settled<u64>)>
     requires tables { (blanks.puts.tie.table.shared.table_id ≡ B.puts) × (blanks.takes.tie.table.shared.table_id ≡ B.takes) }

@@ -1,8 +1,8 @@
 -- What the answers of a cache that threads share say by themselves, where nothing is known of the entries that others may change.
 use Rattle.std.specs.Prelude.{ℕ, Bool, Result}
-use Rattle.lru_entries.specs.declared.entry.Entry.{Entry}
-use Rattle.lru_shared.specs.declared.calls.NotGot.{NotGot}
-use Rattle.lru_shared.specs.Shards.{MaySee, MayDo}
+use Rattle.lru_owned_cache.specs.declared.entry.Entry.{Entry}
+use Rattle.lru_shared_cache.specs.declared.calls.NotGot.{NotGot}
+use Rattle.lru_shared_cache.specs.Shards.{MaySee, MayDo}
 use Rattle.lru_shared_segmented.specs.Calls.{ShardOf}
 use Rattle.lru_shared_segmented.specs.Making.{GetsOrPuts}
 
