@@ -9,10 +9,10 @@
 #![tactic(auto)]
 
 use lru_cache::cache::Cache;
-use lru_cache_captures::caches::{CacheSource, restore_shards};
-use lru_generations::generations::save;
-use lru_generations::loading::{Loaded, load};
-use lru_host_folder::host_folder::HostFolder;
+use lru_checkpoints::caches::{CacheSource, restore_shards};
+use lru_checkpoints::generations::save;
+use lru_checkpoints::host_folder::HostFolder;
+use lru_checkpoints::loading::{Loaded, load};
 use std::io::ErrorKind;
 use std::process::ExitCode;
 use std::{env, io};

@@ -1,10 +1,10 @@
 -- Entries that have what comes of their keys.
 use Rattle.std.proofs.Common.{◌≡◌, ℕ, Bool, true, false, cond, not, nat_eq, List, [], ◌∷◌, ◌++◌, Option, Some, None, refl, sym, ap, ◌∙◌, subst}
 use Rattle.std.proofs.lemmas.Bool.{eqb-true}
-use Rattle.lru_entries.specs.declared.entry.Entry.{Entry}
+use Rattle.lru_owned_cache.specs.declared.entry.Entry.{Entry}
 use Rattle.std.specs.Prelude.{Result, Ok, Err}
-use Rattle.lru_cache.specs.declared.cache.Refused.{Refused}
-use Rattle.lru_cache.specs.Cache.{Cached, entry_of, without, Puts}
+use Rattle.lru_owned_cache.specs.declared.cache.Refused.{Refused}
+use Rattle.lru_owned_cache.specs.Cache.{Cached, entry_of, without, Puts}
 use Rattle.example_memo.specs.Answers.{AreRight}
 
 -- the entry that a key finds is that key's

@@ -1,8 +1,8 @@
 -- Answers that are kept.
 use Rattle.std.specs.Prelude.{◌≡◌, ℕ, List, [], ◌∷◌}
 use Rattle.std.specs.Int.{w64, to_le_bytes}
-use Rattle.lru_crc64.specs.Crc.{crc_of}
-use Rattle.lru_entries.specs.declared.entry.Entry.{Entry}
+use Rattle.lru_frames.specs.Crc.{crc_of}
+use Rattle.lru_owned_cache.specs.declared.entry.Entry.{Entry}
 
 -- the check of a number's eight bytes
 abbrev pub check_of : ℕ → ℕ

@@ -9,7 +9,7 @@ ghost use Rattle.example_memo.specs.Answers.{check_of};
 
 mod memo;
 
-use lru_crc64::crc64;
+use lru_frames::crc64;
 use memo::{Memo, Work};
 use std::process::ExitCode;
 use std::{env, io};

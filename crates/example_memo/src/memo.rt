@@ -4,7 +4,7 @@
 //! its limits. No clause here speaks of lists, places or hashes.
 ghost use Rattle.std.specs.Prelude.{◌≡◌, ℕ, ◌≤◌, length, map, IfOk};
 
-use lru_cache::cache::Cache;
+use lru_owned_cache::cache::Cache;
 use std::alloc::{AllocError, Global};
 use std::marker::Model;
 

@@ -14,10 +14,10 @@
 
 mod store;
 
-use lru_generations::generations::save;
-use lru_generations::loading::{Loaded, load};
-use lru_host_folder::host_folder::HostFolder;
-use lru_order_captures::cores::{CoreSource, restore_shards};
+use lru_checkpoints::cores::{CoreSource, restore_shards};
+use lru_checkpoints::generations::save;
+use lru_checkpoints::host_folder::HostFolder;
+use lru_checkpoints::loading::{Loaded, load};
 use rand::rngs::StdRng;
 use rand_core::SeedableRng;
 use std::env::Env;

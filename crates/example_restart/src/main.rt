@@ -9,10 +9,10 @@
 //! line that says which, and status 2. A checkpoint that was not loaded or saved: a line that says why, and status 1.
 #![tactic(auto)]
 
-use lru_cache_checkpoints::restored::RestoreError;
-use lru_cache_checkpoints::shared::{load_shared, save_shared};
-use lru_host_folder::host_folder::HostFolder;
-use lru_shared::shared::SharedCache;
+use lru_cache::shared::SharedCache;
+use lru_checkpoints::host_folder::HostFolder;
+use lru_checkpoints::restored::RestoreError;
+use lru_checkpoints::shared::{load_shared, save_shared};
 use std::alloc::{AllocError, Global};
 use std::io::ErrorKind;
 use std::process::ExitCode;

@@ -8,7 +8,7 @@
 //! counts it among those that it missed.
 #![tactic(auto)]
 
-use lru_shared::shared::SharedCache;
+use lru_cache::shared::SharedCache;
 use std::sync::Wait;
 use std::sync::atomic::{AtomicU64, Ordering};
 use std::{io, thread};

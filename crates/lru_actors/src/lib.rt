@@ -3,7 +3,7 @@
 //!
 //! Each message's answer and all that it leaves are exact, and equal keys have equal hashes. `schedule_law` is of every schedule of
 //! senders, actors and workers: each accepted message is consumed, in hand, left behind or waiting, once and in order. No thread
-//! stands here: `lru_world` runs these functions on threads. It stands on one shard (`lru_shard`) and on what takes evicted pairs
+//! stands here: `lru_workers` runs these functions on threads. It stands on one shard (`lru_shard`) and on what takes evicted pairs
 //! (`lru_mailbox`).
 #![tactic(auto)]
 

@@ -3,9 +3,9 @@ use Rattle.std.proofs.Common.{◌≡◌, ℕ, ◌+◌, ◌-◌, ◌<◌, ◌≤�
 use Rattle.std.specs.List.{list_all}
 use Rattle.std.proofs.lemmas.List.{append_assoc, map-append, length-append, length-map, append-nil}
 use Rattle.std.proofs.lemmas.List.Sums.{sum_by-append}
-use Rattle.lru_entries.specs.declared.entry.Entry.{Entry}
-use Rattle.lru_entries.specs.Entries.{entry, weight_of}
-use Rattle.lru_cache.specs.Cache.{Fit, Leaves, parts_of}
+use Rattle.lru_owned_cache.specs.declared.entry.Entry.{Entry}
+use Rattle.lru_owned_cache.specs.Entries.{entry, weight_of}
+use Rattle.lru_owned_cache.specs.Cache.{Fit, Leaves, parts_of}
 use Rattle.lru_admission.proofs.Victims.{Needed, answer_no}
 
 module _ {K V : Type 0} where

@@ -1,9 +1,9 @@
 -- Whether an entry may enter.
 use Rattle.std.proofs.Common.{◌≡◌, ℕ, ◌-◌, ◌<◌, ◌≤◌, Bool, true, false, cond, not, List, [], ◌∷◌, Option, Some, None, refl, sym, ap, ◌∙◌, subst}
 use Rattle.std.specs.Prelude.{is_some}
-use Rattle.lru_entries.specs.declared.entry.Entry.{Entry}
-use Rattle.lru_cache.specs.Cache.{Leaves, entry_of, without}
-use Rattle.lru_sketch.specs.Sketch.{estimate}
+use Rattle.lru_owned_cache.specs.declared.entry.Entry.{Entry}
+use Rattle.lru_owned_cache.specs.Cache.{Leaves, entry_of, without}
+use Rattle.lru_admission.specs.Sketch.{estimate}
 use Rattle.lru_admission.specs.Admission.{Watched, all_rarer, AsksVictims, MayEnter}
 use Rattle.lru_admission.proofs.Victims.{leaves_same}
 

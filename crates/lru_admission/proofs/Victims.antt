@@ -4,9 +4,9 @@ use Rattle.std.specs.List.{list_all}
 use Rattle.std.proofs.lemmas.Bool.{cases_lt, and_right}
 use Rattle.std.proofs.lemmas.List.Sums.{sum_by-cons}
 use Rattle.std.proofs.lemmas.List.Folds.{list_all-append}
-use Rattle.lru_entries.specs.declared.entry.Entry.{Entry}
-use Rattle.lru_entries.specs.Entries.{weight_of}
-use Rattle.lru_cache.specs.Cache.{Fit, Leaves}
+use Rattle.lru_owned_cache.specs.declared.entry.Entry.{Entry}
+use Rattle.lru_owned_cache.specs.Entries.{weight_of}
+use Rattle.lru_owned_cache.specs.Cache.{Fit, Leaves}
 
 module _ {K V : Type 0} where
   same_head : (a b : Entry K V) (xs ys : List (Entry K V)) → a ∷ xs ≡ b ∷ ys → a ≡ b

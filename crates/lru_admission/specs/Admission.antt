@@ -2,9 +2,9 @@
 use Rattle.std.specs.Prelude.{◌≡◌, ℕ, ◌-◌, ◌<◌, ◌≤◌, Bool, true, false, nat_lt, List, Option, None, Result, Ok, Err, refl}
 use Rattle.std.specs.List.{list_all}
 use Rattle.std.specs.Coded.{Coded, code_by, coded×}
-use Rattle.lru_entries.specs.declared.entry.Entry.{Entry}
-use Rattle.lru_cache.specs.Cache.{Cached, cached_code, entry_of, without, Leaves, Puts}
-use Rattle.lru_sketch.specs.Sketch.{Counted, counted_code, estimate}
+use Rattle.lru_owned_cache.specs.declared.entry.Entry.{Entry}
+use Rattle.lru_owned_cache.specs.Cache.{Cached, cached_code, entry_of, without, Leaves, Puts}
+use Rattle.lru_admission.specs.Sketch.{Counted, counted_code, estimate}
 use Rattle.lru_admission.specs.declared.admission.NotAdmitted.{NotAdmitted}
 use Rattle.lru_admission.specs.declared.admission.NotAdmitted.TheVariants.{Rarer, Refused}
 

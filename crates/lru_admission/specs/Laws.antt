@@ -1,7 +1,7 @@
 -- Who is let in after any uses.
 use Rattle.std.specs.Prelude.{◌≡◌, ℕ, ◌*◌, ◌<◌, ◌==◌, min, max, true, List, [], All, count_by}
-use Rattle.lru_entries.specs.declared.entry.Entry.{Entry}
-use Rattle.lru_sketch.specs.Sketch.{estimate, fresh, counted_all, since_halving}
+use Rattle.lru_owned_cache.specs.declared.entry.Entry.{Entry}
+use Rattle.lru_admission.specs.Sketch.{estimate, fresh, counted_all, since_halving}
 use Rattle.lru_admission.specs.Admission.{is_let_in}
 
 -- how often a hash was used since the last halving, of all uses from the first on

@@ -1,2 +1,5 @@
 pub mod Admission
 pub mod Laws
+pub mod Sketch
+pub mod SketchLaws
+pub mod Representation

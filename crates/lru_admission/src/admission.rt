@@ -1,13 +1,13 @@
 //! A cache of one owner that asks, before it lets a new entry in.
 ghost use Rattle.std.specs.Prelude.{◌≡◌, ◌-◌, ◌<◌, ◌≤◌, is_some, IfOk};
 ghost use Rattle.lru_index.specs.Hashing.{key_hash, seeded, unseeded};
-ghost use Rattle.lru_cache.specs.Cache.{empty, hashes_from, entry_of, without, used, with_entries, UpdatesEntry, PopsLast, Limits, Clears};
-ghost use Rattle.lru_sketch.specs.Sketch.{estimate, counted, fresh};
+ghost use Rattle.lru_owned_cache.specs.Cache.{empty, hashes_from, entry_of, without, used, with_entries, UpdatesEntry, PopsLast, Limits, Clears};
+ghost use Rattle.lru_admission.specs.Sketch.{estimate, counted, fresh};
 ghost use Rattle.lru_admission.specs.Admission.{watched, AsksVictims, MayEnter, PutsIfAsked};
 
-use lru_cache::cache::{Cache, Entry, Refused};
+use crate::sketch::Sketch;
 use lru_index::hashing::SeededHashes;
-use lru_sketch::sketch::Sketch;
+use lru_owned_cache::cache::{Cache, Entry, Refused};
 use std::alloc::{AllocError, Global};
 use std::hash::{BuildHasher, Hash};
 use std::marker::Model;

@@ -1,7 +1,7 @@
 //! Who is let in, after any uses.
 ghost use Rattle.lru_admission.specs.Laws.{NeverTurnedAway};
 
-use lru_sketch::laws::estimates_law;
+use crate::sketch_laws::estimates_law;
 
 /// The contract of this function, which does nothing, is about every list of uses from the first on, however many halvings
 /// were among them: a key that was used more often since the last halving, counted up to 15, than each entry that would have

@@ -1,2 +1,4 @@
 pub mod Reports
 mod Seats
+pub mod Logged
+mod Ends

@@ -2,7 +2,7 @@
 use Rattle.std.proofs.Common.{◌≡◌, ℕ, ◌+◌, ◌<◌, List, [], ◌∷◌, Some, None, sym, refl, ap, ◌∙◌, subst, arith}
 use Rattle.std.specs.Prelude.{Option, Result, Ok, Err, option_map}
 use Rattle.std.specs.Option.{ForSome}
-use Rattle.lru_hands.proofs.Hands.{some_same, none_some}
+use Rattle.lru_short_locks.proofs.Hands.{some_same, none_some}
 use Rattle.lru_async.specs.declared.async_lru.ShardData.{ShardData}
 use Rattle.lru_async.specs.declared.saving.SaveReport.{SaveReport}
 use Rattle.lru_async.specs.Saving.{added, report_of, HandsOn, AreSaved, IsReport}

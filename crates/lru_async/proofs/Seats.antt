@@ -4,8 +4,8 @@ use Rattle.lru_mailbox.specs.declared.slip.Slip.{Slip}
 use Rattle.lru_mailbox.specs.Slips.{lists_of}
 use Rattle.std.specs.Prelude.{Vec}
 use Rattle.std.specs.declared.alloc.Global.{Global}
-use Rattle.lru_hands.specs.Hands.{up}
-use Rattle.lru_hands.proofs.Hands.{as_many, map_length}
+use Rattle.lru_short_locks.specs.Hands.{up}
+use Rattle.lru_short_locks.proofs.Hands.{as_many, map_length}
 
 pub as_long : {S : Type 0} (number : S → ℕ) (slips : S → List Slip) (seats : List S) (lists : List (Vec Slip Global)) (n : ℕ) → map number seats ≡ up 0 n → lists_of lists ≡ map slips seats → length lists ≡ n
 as_long number slips seats lists n e l =

@@ -3,20 +3,20 @@ use Rattle.std.specs.Prelude.{◌≡◌, ℕ, None, vec_len}
 use Rattle.std.specs.Arc.{arc_value}
 use Rattle.std.specs.declared.alloc.Global.{Global}
 use Rattle.std.specs.declared.clone.Clone as clone
-use Rattle.lru_desks.specs.declared.tie.Registry as registry
-use Rattle.lru_logs.specs.declared.tie.Archive as archive
-use Rattle.lru_world.specs.declared.world.Limits.{Limits}
-use Rattle.lru_world.specs.declared.world.World.{World}
+use Rattle.lru_boxes.specs.declared.tie.BoxRegistry as registry
+use Rattle.lru_inbox.specs.declared.tie.Archive as archive
+use Rattle.lru_workers.specs.declared.world.OrderLimits.{OrderLimits}
+use Rattle.lru_workers.specs.declared.world.World.{World}
 use Rattle.lru_async.specs.declared.async_lru.AsyncLru.{AsyncLru}
 use Rattle.lru_async.specs.declared.ledger_lru.LedgerLru.{LedgerLru}
-use Rattle.lru_async.specs.declared.builder.Settings.{Settings}
+use Rattle.lru_async.specs.declared.builder.BuilderSettings.{BuilderSettings}
 
 -- what a builder goes by that was told a limit on the weight alone
-abbrev pub untold : ℕ → Settings
+abbrev pub untold : ℕ → BuilderSettings
 untold limit = record { weight_limit = limit; len_watermark = None; capacity = 0; num_eviction_workers = 1; num_callback_workers = 1; seed = 0 }
 
 -- the limits that a builder was told
-abbrev pub limits_told : Settings → Limits
+abbrev pub limits_told : BuilderSettings → OrderLimits
 limits_told settings = record { weight_limit = settings.weight_limit; len_watermark = settings.len_watermark }
 
 -- what the threads of an order share
@@ -28,11 +28,11 @@ abbrev pub alloc_of : {K : Type 0} {N : ℕ} {B : Type 0} {C : clone.Ghosts K} {
 alloc_of lru = lru.alloc
 
 -- the limits that an order has
-abbrev pub limits_of : {K : Type 0} {N : ℕ} {B : Type 0} {C : clone.Ghosts K} {R : registry.Ghosts B} {A : archive.Ghosts B} → AsyncLru K N B C R A → Limits
+abbrev pub limits_of : {K : Type 0} {N : ℕ} {B : Type 0} {C : clone.Ghosts K} {R : registry.Ghosts B} {A : archive.Ghosts B} → AsyncLru K N B C R A → OrderLimits
 limits_of lru = (arc_value lru.world).limits
 
 -- as many eviction workers and callback workers were started as a builder was told
-pub record HasWorkers {K : Type 0} {N : ℕ} {B : Type 0} {C : clone.Ghosts K} {R : registry.Ghosts B} {A : archive.Ghosts B} (lru : AsyncLru K N B C R A) (settings : Settings) : Type 0 where
+pub record HasWorkers {K : Type 0} {N : ℕ} {B : Type 0} {C : clone.Ghosts K} {R : registry.Ghosts B} {A : archive.Ghosts B} (lru : AsyncLru K N B C R A) (settings : BuilderSettings) : Type 0 where
   pub evicting : vec_len lru.eviction_workers ≡ settings.num_eviction_workers
   pub calling : vec_len lru.callback_workers ≡ settings.num_callback_workers
 

@@ -13,10 +13,10 @@ use crate::sends::shard_of;
 use log::Log;
 use lru_actors::ReplyCell;
 use lru_actors::key::hash_key;
-use lru_desks::{PutSeat, Registry, TakeSeat};
-use lru_logs::tie::Archive;
-use lru_world::callback::NoGate;
-use lru_world::world::World;
+use lru_boxes::{BoxRegistry, PutSeat, TakeSeat};
+use lru_inbox::tie::Archive;
+use lru_workers::callback::NoGate;
+use lru_workers::world::World;
 use std::alloc::Global;
 use std::hash::Hash;
 use std::marker::Brand;
@@ -54,7 +54,7 @@ pub struct Closed {
 ///
 /// One that is dropped without `close` leaves its threads waiting.
 #[derive(Drop)]
-pub struct AsyncLru<K: Clone + Drop, const N: usize, B: Registry + Archive = Brand> {
+pub struct AsyncLru<K: Clone + Drop, const N: usize, B: BoxRegistry + Archive = Brand> {
     pub(crate) world: Arc<World<K, B>, Global>,
     pub(crate) alloc: Global,
     // each thread's cell, which it fills as its last step
@@ -68,7 +68,7 @@ pub struct AsyncLru<K: Clone + Drop, const N: usize, B: Registry + Archive = Bra
 impl<
     K: Hash + Eq + Clone + Drop + Send + Sync + 'static,
     const N: usize,
-    B: Registry + Archive,
+    B: BoxRegistry + Archive,
 > AsyncLru<K, N, B> {
     ghost use Rattle.lru_async.specs.Orders.{untold};
     ghost use Rattle.lru_async.specs.Saving.{IsReport, IsWritten};
@@ -243,8 +243,9 @@ impl<
     }
 }
 
-impl<K: Clone + Drop, const N: usize, B: Registry + Archive> AsyncLru<K, N, B> {
+impl<K: Clone + Drop, const N: usize, B: BoxRegistry + Archive> AsyncLru<K, N, B> {
     ghost use Rattle.lru_async.specs.Orders.{alloc_of, limits_of, world_of};
+    ghost use Rattle.lru_workers.specs.Limiting.{MayBePast};
 
     /// What its threads share, for a layer of yours that sends otherwise than its calls do.
     pub fn world(&self) -> &World<K, B>
@@ -388,7 +389,9 @@ impl<K: Clone + Drop, const N: usize, B: Registry + Archive> AsyncLru<K, N, B> {
     }
 
     /// Whether a limit is passed.
-    pub fn over_limit(&self) -> bool {
+    pub fn over_limit(&self) -> bool
+        ensures { MayBePast (limits_of self.now) result }
+    {
         self.world.over_limit()
     }
 }

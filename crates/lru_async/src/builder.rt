@@ -10,12 +10,12 @@ use crate::ledger_lru::LedgerLru;
 use crate::receiver::EvictionReceiver;
 use crate::refusals::BuildError;
 use lru_actors::message::LruMsg;
-use lru_desks::{Blanks, LedgerBox, PutSeat, Registry, TakeSeat};
-use lru_logs::tie::{Archive, Blank};
-use lru_logs::voice::Voice;
+use lru_boxes::{Blanks, BoxRegistry, LedgerBox, PutSeat, TakeSeat};
+use lru_inbox::tie::{Archive, BlankLogs};
+use lru_inbox::voice::Voice;
 use lru_mailbox::Mailbox;
-use lru_world::callback::{AsyncEvictionCallback, Gate, NoGate};
-use lru_world::outlet::Outlet;
+use lru_workers::callback::{AsyncEvictionCallback, Gate, NoGate};
+use lru_workers::outlet::Outlet;
 use std::alloc::{AllocError, Global};
 use std::hash::Hash;
 use std::marker::{Brand, PhantomData};
@@ -24,7 +24,7 @@ use std::thread::Threads;
 
 /// What a builder was told.
 #[derive(Clone, Copy, Debug, PartialEq, Eq)]
-pub struct Settings {
+pub struct BuilderSettings {
     /// The most that all rows may weigh before rows are evicted.
     pub weight_limit: usize,
     /// The most rows that there may be before rows are evicted, if that is limited.
@@ -40,7 +40,7 @@ pub struct Settings {
 }
 
 // Refuses settings without callback workers.
-fn want_callback_workers(settings: &Settings) -> Result<(), BuildError>
+fn want_callback_workers(settings: &BuilderSettings) -> Result<(), BuildError>
     ensures { settings.now.num_callback_workers ≡ 0 → result ≡ Err NoCallbackWorkers }
 {
     if settings.num_callback_workers == 0 {
@@ -50,11 +50,11 @@ fn want_callback_workers(settings: &Settings) -> Result<(), BuildError>
 }
 
 // What speaks for all logs of a blank.
-fn voice_of<E, B: Archive>(alloc: Global, blank: Blank<E>) -> Result<Voice<E, B>, BuildError>
+fn voice_of<E, B: Archive>(alloc: Global, blank: BlankLogs<E>) -> Result<Voice<E, B>, BuildError>
     requires { blank.tie.table.shared.table_id ≡ B.log }
     ensures { IfOk result (λ v. v.token ≡ blank.token) }
 {
-    let Blank { tie, token } = blank;
+    let BlankLogs { tie, token } = blank;
     match Arc::new(alloc, tie) {
         Ok(tie) => Ok(Voice::new(tie, token)),
         Err(_) => Err(BuildError::Memory),
@@ -62,7 +62,7 @@ fn voice_of<E, B: Archive>(alloc: Global, blank: Blank<E>) -> Result<Voice<E, B>
 }
 
 // A box made of blanks, the outlet that leads into it, and the seats of those who put and of those who take.
-fn ledger_of<K: Drop, B: Registry>(
+fn ledger_of<K: Drop, B: BoxRegistry>(
     alloc: Global,
     blanks: Blanks,
 ) -> Result<
@@ -87,7 +87,7 @@ fn ledger_of<K: Drop, B: Registry>(
 }
 
 // Lists with room for so many seats.
-fn rooms<B: Registry>(
+fn rooms<B: BoxRegistry>(
     alloc: Global,
     putters: usize,
     takers: usize,
@@ -102,7 +102,7 @@ fn rooms<B: Registry>(
 #[derive(Drop)]
 pub struct AsyncLruBuilder<K, C, const N: usize, G = NoGate> {
     /// What it was told.
-    pub settings: Settings,
+    pub settings: BuilderSettings,
     /// What is called with each evicted pair.
     pub callback: Arc<C, Global>,
     /// What an actor passes before each message, if there is one.
@@ -124,7 +124,7 @@ impl<K, C, const N: usize, G> AsyncLruBuilder<K, C, N, G> {
         ensures gate { result.gate ≡ gate }
     {
         AsyncLruBuilder {
-            settings: Settings {
+            settings: BuilderSettings {
                 weight_limit,
                 len_watermark: None,
                 capacity: 0,
@@ -139,8 +139,8 @@ impl<K, C, const N: usize, G> AsyncLruBuilder<K, C, N, G> {
         }
     }
 
-    /// What memory of what it makes comes from.
-    pub fn alloc(&self) -> Global {
+    // What memory of what it makes comes from.
+    pub(crate) fn alloc(&self) -> Global {
         self.alloc
     }
 
@@ -150,7 +150,7 @@ impl<K, C, const N: usize, G> AsyncLruBuilder<K, C, N, G> {
         ensures callback { result.callback ≡ self.callback }
         ensures gate { result.gate ≡ self.gate }
     {
-        let settings = Settings {
+        let settings = BuilderSettings {
             capacity,
             ..self.settings
         };
@@ -163,7 +163,7 @@ impl<K, C, const N: usize, G> AsyncLruBuilder<K, C, N, G> {
         ensures callback { result.callback ≡ self.callback }
         ensures gate { result.gate ≡ self.gate }
     {
-        let settings = Settings {
+        let settings = BuilderSettings {
             len_watermark: Some(watermark),
             ..self.settings
         };
@@ -176,7 +176,7 @@ impl<K, C, const N: usize, G> AsyncLruBuilder<K, C, N, G> {
         ensures callback { result.callback ≡ self.callback }
         ensures gate { result.gate ≡ self.gate }
     {
-        let settings = Settings {
+        let settings = BuilderSettings {
             num_eviction_workers: workers,
             ..self.settings
         };
@@ -189,7 +189,7 @@ impl<K, C, const N: usize, G> AsyncLruBuilder<K, C, N, G> {
         ensures callback { result.callback ≡ self.callback }
         ensures gate { result.gate ≡ self.gate }
     {
-        let settings = Settings {
+        let settings = BuilderSettings {
             num_callback_workers: workers,
             ..self.settings
         };
@@ -202,7 +202,7 @@ impl<K, C, const N: usize, G> AsyncLruBuilder<K, C, N, G> {
         ensures callback { result.callback ≡ self.callback }
         ensures gate { result.gate ≡ self.gate }
     {
-        let settings = Settings {
+        let settings = BuilderSettings {
             seed,
             ..self.settings
         };
@@ -258,8 +258,8 @@ impl<
     /// it is refused. The calls of the order itself say nothing of the logs; those of a `LoggedLru`, which has it built, do.
     pub fn build_over_logs<
         R: Threads + Wait + Copy + Send + 'static,
-        B: Registry + Archive + Send + Sync + 'static,
-    >(self, rt: R, blank: Blank<LruMsg<K>>) -> Result<AsyncLru<K, N, B>, BuildError>
+        B: BoxRegistry + Archive + Send + Sync + 'static,
+    >(self, rt: R, blank: BlankLogs<LruMsg<K>>) -> Result<AsyncLru<K, N, B>, BuildError>
         requires some { 0 < N }
         requires ready { C.ready (arc_value self.callback) }
         requires table { blank.tie.table.shared.table_id ≡ B.log }
@@ -281,7 +281,7 @@ impl<
     /// many who take as there are callback workers. Without callback workers the pairs are left in the box.
     pub fn build_with_ledger<
         R: Threads + Wait + Copy + Send + 'static,
-        B: Registry + Archive + Send + Sync + 'static,
+        B: BoxRegistry + Archive + Send + Sync + 'static,
     >(self, rt: R, blanks: Blanks) -> Result<LedgerLru<K, N, B>, BuildError>
         requires some { 0 < N }
         requires ready { C.ready (arc_value self.callback) }
@@ -304,11 +304,11 @@ impl<
     /// the seat of those who put, and the slips of what was evicted. Where there is no memory all is let go.
     pub fn build_over_logs_and_ledger<
         R: Threads + Wait + Copy + Send + 'static,
-        B: Registry + Archive + Send + Sync + 'static,
+        B: BoxRegistry + Archive + Send + Sync + 'static,
     >(
         self,
         rt: R,
-        blank: Blank<LruMsg<K>>,
+        blank: BlankLogs<LruMsg<K>>,
         blanks: Blanks,
     ) -> Result<(AsyncLru<K, N, B>, Arc<LedgerBox<K, B>, Global>), BuildError>
         requires some { 0 < N }

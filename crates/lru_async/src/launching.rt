@@ -1,27 +1,27 @@
 //! How the threads of an order are started.
 ghost use Rattle.std.specs.Prelude.{◌≡◌, ◌+◌, ◌%◌, ◌^◌, ◌<◌, [], All, vec_len, IfOk, OnOk, IsSome, is_some};
 ghost use Rattle.std.specs.Option.{ForSome};
-ghost use Rattle.lru_logs.specs.Logs.{hand, blank_logs, blank_fronts};
+ghost use Rattle.lru_inbox.specs.Logs.{hand, blank_logs, blank_fronts};
 ghost use Rattle.lru_inbox.specs.Inboxes.{taken_in};
-ghost use Rattle.lru_world.specs.Replying.{AreTakers, HasNothing};
+ghost use Rattle.lru_workers.specs.Replying.{AreTakers, HasNothing};
 ghost use Rattle.std.specs.Arc.{arc_value};
 ghost use Rattle.lru_async.specs.Orders.{limits_of, limits_told, HasWorkers};
 
 use crate::async_lru::AsyncLru;
-use crate::builder::{AsyncLruBuilder, Settings};
+use crate::builder::{AsyncLruBuilder, BuilderSettings};
 use crate::cells::cell_and_clone;
 use crate::receiver::EvictionReceiver;
 use crate::refusals::BuildError;
 use crate::threads::{Placed, start_actor, start_callback_worker, start_eviction_worker};
 use lru_actors::message::LruMsg;
-use lru_desks::{PutSeat, Registry, TakeSeat};
+use lru_boxes::{BoxRegistry, PutSeat, TakeSeat};
 use lru_inbox::Taker;
-use lru_logs::tie::Archive;
-use lru_logs::voice::Voice;
-use lru_world::actor::Actor;
-use lru_world::callback::{AsyncEvictionCallback, Gate};
-use lru_world::outlet::Outlet;
-use lru_world::world::{Limits, World, next_taker};
+use lru_inbox::tie::Archive;
+use lru_inbox::voice::Voice;
+use lru_workers::actor::Actor;
+use lru_workers::callback::{AsyncEvictionCallback, Gate};
+use lru_workers::outlet::Outlet;
+use lru_workers::world::{OrderLimits, World, next_taker};
 use std::alloc::{AllocError, Global};
 use std::hash::Hash;
 use std::sync::{Arc, Wait};
@@ -35,17 +35,17 @@ fn seed_of(seed: u64, number: usize) -> u64
 }
 
 // The limits that a builder was told.
-fn limits_told(settings: &Settings) -> Limits
+fn limits_told(settings: &BuilderSettings) -> OrderLimits
     ensures { result ≡ limits_told settings.now }
 {
-    Limits {
+    OrderLimits {
         weight_limit: settings.weight_limit,
         len_watermark: settings.len_watermark,
     }
 }
 
 // The seats of those who put, for the rows of the shards, and for their actors: where there are logs the rows have them.
-fn seats_apart<B: Registry>(
+fn seats_apart<B: BoxRegistry>(
     alloc: Global,
     logged: bool,
     seats: Vec<PutSeat<B>>,
@@ -60,7 +60,7 @@ fn seats_apart<B: Registry>(
 }
 
 // The actor of one of N shards.
-fn actor_of_one<K: Clone + Drop, const N: usize, B: Registry + Archive>(
+fn actor_of_one<K: Clone + Drop, const N: usize, B: BoxRegistry + Archive>(
     alloc: Global,
     taker: Taker<K, B>,
     capacity: usize,
@@ -73,9 +73,9 @@ fn actor_of_one<K: Clone + Drop, const N: usize, B: Registry + Archive>(
 }
 
 // An order of empty shards round their world, with room for as many threads as were told, none of which is started.
-fn order_of_none<K: Clone + Drop, const N: usize, B: Registry + Archive>(
+fn order_of_none<K: Clone + Drop, const N: usize, B: BoxRegistry + Archive>(
     alloc: Global,
-    settings: &Settings,
+    settings: &BuilderSettings,
     world: Arc<World<K, B>, Global>,
 ) -> Result<AsyncLru<K, N, B>, AllocError>
     requires some { 0 < N }
@@ -94,9 +94,9 @@ fn order_of_none<K: Clone + Drop, const N: usize, B: Registry + Archive>(
 }
 
 // An order of empty shards, as it was told, no thread of which is started.
-fn idle<K: Clone + Drop, const N: usize, B: Registry + Archive>(
+fn idle<K: Clone + Drop, const N: usize, B: BoxRegistry + Archive>(
     alloc: Global,
-    settings: &Settings,
+    settings: &BuilderSettings,
     logs: &mut Option<Voice<LruMsg<K>, B>>,
     seats: Vec<PutSeat<B>>,
     outlet: Outlet<K, B>,
@@ -132,7 +132,7 @@ pub(crate) fn launch<
     const N: usize,
     G: Gate + Drop + 'static,
     R: Threads + Wait + Copy + Send + 'static,
-    B: Registry + Archive + Send + Sync + 'static,
+    B: BoxRegistry + Archive + Send + Sync + 'static,
 >(
     rt: R,
     alloc: Global,
@@ -169,7 +169,7 @@ fn start<
     const N: usize,
     G: Gate + Drop + 'static,
     R: Threads + Wait + Copy + Send + 'static,
-    B: Registry + Archive + Send + Sync + 'static,
+    B: BoxRegistry + Archive + Send + Sync + 'static,
 >(
     rt: R,
     lru: &mut AsyncLru<K, N, B>,
@@ -195,7 +195,7 @@ fn start<
 impl<
     K: Hash + Eq + Clone + Drop + Send + Sync + 'static,
     const N: usize,
-    B: Registry + Archive + Send + Sync + 'static,
+    B: BoxRegistry + Archive + Send + Sync + 'static,
 > AsyncLru<K, N, B> {
     fn start_actors<G: Gate + Drop + 'static, R: Threads + Wait + Copy + Send + 'static>(
         &mut self,
@@ -300,7 +300,7 @@ impl<
     }
 }
 
-impl<K: Clone + Drop, const N: usize, B: Registry + Archive> AsyncLru<K, N, B> {
+impl<K: Clone + Drop, const N: usize, B: BoxRegistry + Archive> AsyncLru<K, N, B> {
     // With a receiver of its evicted pairs.
     pub(crate) fn with_receiver(
         self,

@@ -5,8 +5,8 @@ ghost use Rattle.lru_mailbox.specs.Slips.{lists_of, IsSettled};
 
 use crate::async_lru::AsyncLru;
 use crate::seats_back::{all_puts, all_takes, sole};
-use lru_desks::{LedgerBox, PutSeat, Registry, TakeSeat};
-use lru_logs::tie::Archive;
+use lru_boxes::{BoxRegistry, LedgerBox, PutSeat, TakeSeat};
+use lru_inbox::tie::Archive;
 use lru_mailbox::Settled;
 use std::alloc::Global;
 use std::marker::Brand;
@@ -14,7 +14,7 @@ use std::sync::{Arc, Wait};
 
 /// An [`AsyncLru`] whose evicted pairs go through a box: once it is closed, each of them was taken, is lost or is left.
 #[derive(Drop)]
-pub struct LedgerLru<K: Clone + Drop, const N: usize, B: Registry + Archive = Brand> {
+pub struct LedgerLru<K: Clone + Drop, const N: usize, B: BoxRegistry + Archive = Brand> {
     lru: AsyncLru<K, N, B>,
     ledger: Arc<LedgerBox<K, B>, Global>,
     takers: usize,
@@ -25,7 +25,7 @@ pub struct LedgerLru<K: Clone + Drop, const N: usize, B: Registry + Archive = Br
     ghost takers_are: { B.takers ≡ takers },
 }
 
-impl<K: Clone + Drop, const N: usize, B: Registry + Archive> LedgerLru<K, N, B> {
+impl<K: Clone + Drop, const N: usize, B: BoxRegistry + Archive> LedgerLru<K, N, B> {
     ghost use Rattle.lru_async.specs.Orders.{order_of};
 
     pub(crate) fn new(

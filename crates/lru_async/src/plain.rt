@@ -9,24 +9,24 @@ use crate::refusals::SendRefused;
 use crate::sends::{Addressed, Heard, heard_in, refusal_of};
 use lru_actors::Letter;
 use lru_actors::message::LruMsg;
-use lru_desks::Registry;
-use lru_logs::tie::Archive;
+use lru_boxes::BoxRegistry;
+use lru_inbox::tie::Archive;
 use std::sync::Wait;
 
 /// The line to the actors of an order without logs. What a call does behind a lock is known nowhere, so it says nothing of it.
 #[derive(Drop)]
-pub(crate) struct Plain<'a, K: Clone + Drop, const N: usize, B: Registry + Archive, R: Wait> {
+pub(crate) struct Plain<'a, K: Clone + Drop, const N: usize, B: BoxRegistry + Archive, R: Wait> {
     lru: &'a AsyncLru<K, N, B>,
     rt: &'a R,
 }
 
-impl<'a, K: Clone + Drop, const N: usize, B: Registry + Archive, R: Wait> Plain<'a, K, N, B, R> {
+impl<'a, K: Clone + Drop, const N: usize, B: BoxRegistry + Archive, R: Wait> Plain<'a, K, N, B, R> {
     pub(crate) fn new(lru: &'a AsyncLru<K, N, B>, rt: &'a R) -> Self {
         Plain { lru, rt }
     }
 }
 
-impl<'a, K: Clone + Drop, const N: usize, B: Registry + Archive, R: Wait> Line<K>
+impl<'a, K: Clone + Drop, const N: usize, B: BoxRegistry + Archive, R: Wait> Line<K>
     for Plain<'a, K, N, B, R> {
     ghost shards = { λ _. N };
 

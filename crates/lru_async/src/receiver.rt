@@ -1,20 +1,20 @@
 //! A receiver of evicted pairs.
-use lru_desks::Registry;
-use lru_logs::tie::Archive;
-use lru_world::world::World;
+use lru_boxes::BoxRegistry;
+use lru_inbox::tie::Archive;
+use lru_workers::world::World;
 use std::alloc::Global;
 use std::marker::Brand;
 use std::sync::{Arc, Wait};
 
 /// Receives evicted pairs. A receiver that is dropped without `leave` lets them wait on.
 #[derive(Drop)]
-pub struct EvictionReceiver<K: Clone + Drop, B: Registry + Archive = Brand> {
+pub struct EvictionReceiver<K: Clone + Drop, B: BoxRegistry + Archive = Brand> {
     world: Arc<World<K, B>, Global>,
     // nobody else takes pairs
     alone: bool,
 }
 
-impl<K: Clone + Drop, B: Registry + Archive> EvictionReceiver<K, B> {
+impl<K: Clone + Drop, B: BoxRegistry + Archive> EvictionReceiver<K, B> {
     pub(crate) fn new(world: Arc<World<K, B>, Global>, alone: bool) -> Self {
         EvictionReceiver { world, alone }
     }

@@ -1,15 +1,15 @@
 //! Seats that ended threads gave back, and what nobody else holds any more.
 ghost use Rattle.std.specs.Prelude.{◌≡◌, map};
 ghost use Rattle.std.specs.Arc.{arc_value};
-ghost use Rattle.lru_hands.specs.Hands.{up};
+ghost use Rattle.lru_short_locks.specs.Hands.{up};
 
-use lru_desks::{PutSeat, Registry, TakeSeat};
+use lru_boxes::{BoxRegistry, PutSeat, TakeSeat};
 use std::alloc::Global;
 use std::sync::{Arc, Wait};
 use std::thread;
 
 /// Answers the put seats that so many actors gave back, in order, once they are all. Were one missing, this would wait for it.
-pub fn all_puts<B: Registry>(
+pub fn all_puts<B: BoxRegistry>(
     rt: &impl Wait,
     seats: Vec<PutSeat<B>>,
     count: usize,
@@ -27,7 +27,7 @@ pub fn all_puts<B: Registry>(
 }
 
 /// The same of the take seats of so many callback workers.
-pub fn all_takes<B: Registry>(
+pub fn all_takes<B: BoxRegistry>(
     rt: &impl Wait,
     seats: Vec<TakeSeat<B>>,
     count: usize,

@@ -11,7 +11,7 @@ use lru_actors::effect::Reply;
 use lru_actors::key::hash_key;
 use lru_actors::message::LruMsg;
 use lru_inbox::Told;
-use lru_logs::tie::Archive;
+use lru_inbox::tie::Archive;
 use lru_mailbox::MailError;
 use std::hash::Hash;
 

@@ -6,12 +6,12 @@ ghost use Rattle.std.specs.Arc.{arc_value};
 
 use crate::refusals::BuildError;
 use lru_actors::ReplyCell;
-use lru_desks::{PutSeat, Registry, TakeSeat};
-use lru_logs::tie::Archive;
-use lru_world::actor::Actor;
-use lru_world::callback::{AsyncEvictionCallback, Gate};
-use lru_world::workers::{call_back, evict};
-use lru_world::world::World;
+use lru_boxes::{BoxRegistry, PutSeat, TakeSeat};
+use lru_inbox::tie::Archive;
+use lru_workers::actor::Actor;
+use lru_workers::callback::{AsyncEvictionCallback, Gate};
+use lru_workers::workers::{call_back, evict};
+use lru_workers::world::World;
 use rand::rngs::StdRng;
 use rand_core::SeedableRng;
 use std::alloc::Global;
@@ -21,13 +21,13 @@ use std::thread::Threads;
 
 // An actor with the world that it works in, whose cap is that of one of the world's shards.
 #[derive(Drop)]
-pub(crate) struct Placed<K: Clone + Drop, B: Registry + Archive> {
+pub(crate) struct Placed<K: Clone + Drop, B: BoxRegistry + Archive> {
     pub(crate) actor: Actor<K, B>,
     pub(crate) world: Arc<World<K, B>, Global>,
     ghost one_of_all: { actor.shards ≡ vec_len (arc_value world).shards },
 }
 
-impl<K: Clone + Drop, B: Registry + Archive> Placed<K, B> {
+impl<K: Clone + Drop, B: BoxRegistry + Archive> Placed<K, B> {
     // What the actor does, to its end. The world is let go then, and its seat given back.
     fn run<G: Gate, R: Wait>(self, rt: &R, gate: &Option<Arc<G, Global>>) -> Option<PutSeat<B>> {
         let Placed { actor, world } = self;
@@ -37,7 +37,7 @@ impl<K: Clone + Drop, B: Registry + Archive> Placed<K, B> {
 
 pub(crate) fn start_actor<
     K: Clone + Drop + Send + Sync + 'static,
-    B: Registry + Archive + Send + Sync + 'static,
+    B: BoxRegistry + Archive + Send + Sync + 'static,
     G: Gate + Drop + 'static,
     R: Threads + Wait + Copy + Send + 'static,
 >(
@@ -60,7 +60,7 @@ pub(crate) fn start_actor<
 pub(crate) fn start_eviction_worker<
     K: Clone + Drop + Send + Sync + 'static,
     R: Threads + Wait + Copy + Send + 'static,
-    B: Registry + Archive + Send + Sync + 'static,
+    B: BoxRegistry + Archive + Send + Sync + 'static,
 >(
     rt: R,
     world: Arc<World<K, B>, Global>,
@@ -86,7 +86,7 @@ pub(crate) fn start_callback_worker<
     K: Clone + Drop + Send + Sync + 'static,
     C: AsyncEvictionCallback<K> + Drop + 'static,
     R: Threads + Wait + Copy + Send + 'static,
-    B: Registry + Archive + Send + Sync + 'static,
+    B: BoxRegistry + Archive + Send + Sync + 'static,
 >(
     rt: R,
     world: Arc<World<K, B>, Global>,

@@ -2,7 +2,7 @@
 ghost use Rattle.std.specs.Prelude.{◌≡◌, ◌<◌};
 
 use lru_async::async_lru::AsyncLru;
-use lru_world::callback::{AsyncEvictionCallback, Gate};
+use lru_workers::callback::{AsyncEvictionCallback, Gate};
 use std::alloc::Global;
 use std::hash::Hash;
 use std::sync::atomic::{AtomicBool, AtomicUsize, Ordering};

@@ -4,9 +4,9 @@ ghost use Rattle.rand_core.specs.Steps.{stream_of, steps_u32};
 
 use crate::callbacks::LOOKS;
 use lru_mailbox::Mailbox;
-use lru_world::outlet::Outlet;
-use lru_world::workers::evict;
-use lru_world::world::{Change, Limits, World};
+use lru_workers::outlet::Outlet;
+use lru_workers::workers::evict;
+use lru_workers::world::{Change, OrderLimits, World};
 use rand_core::utils::NextWord;
 use rand_core::{Rng, utils};
 use std::alloc::{AllocError, Global};
@@ -69,7 +69,7 @@ fn gained(rows: usize) -> Change {
 fn two_shards(alloc: Global, first: usize, second: usize) -> Result<World<u64>, AllocError>
     ensures { IfOk result (λ world. vec_len world.shards ≡ 2) }
 {
-    let limits = Limits {
+    let limits = OrderLimits {
         weight_limit: 0,
         len_watermark: None,
     };

@@ -3,8 +3,8 @@ ghost use Rattle.std.specs.Prelude.{◌≡◌};
 
 use crate::callbacks::{Counting, Holding, LOOKS, Meeting, Quiet, gated_order, is_raised};
 use lru_async::async_lru::{AsyncLru, Closed};
-use lru_desks::{Blanks, Registry};
-use lru_logs::tie::Archive;
+use lru_boxes::{Blanks, BoxRegistry};
+use lru_inbox::tie::Archive;
 use lru_mailbox::Settled;
 use std::alloc::Global;
 use std::marker::Brand;
@@ -77,7 +77,7 @@ fn a_held_shard_holds_up_no_other(rt: HostRuntime) -> Result<(), Fail> {
 }
 
 // Admits keys 1, 2 and 3 with weight 10, and waits until nothing is under way. Whether one was evicted then.
-fn fills<B: Registry + Archive, R: Wait>(rt: &R, lru: &AsyncLru<u64, 1, B>) -> bool {
+fn fills<B: BoxRegistry + Archive, R: Wait>(rt: &R, lru: &AsyncLru<u64, 1, B>) -> bool {
     for key in 1..4u64 {
         if lru.admit(rt, key, 10).is_err() {
             return false;
@@ -280,7 +280,7 @@ fn all_left(settled: &Settled<u64>) -> (usize, bool) {
 
 // Fills an order whose pairs nobody takes, and closes it.
 fn untaken<
-    B: Registry + Archive + Send + Sync + 'static,
+    B: BoxRegistry + Archive + Send + Sync + 'static,
     R: Threads + Wait + Copy + Send + Sync + 'static,
 >(rt: R, alloc: Global, quiet: Arc<Quiet, Global>, blanks: Blanks) -> Option<(bool, Settled<u64>)>
     requires tables { (blanks.puts.tie.table.shared.table_id ≡ B.puts) × (blanks.takes.tie.table.shared.table_id ≡ B.takes) }
@@ -312,7 +312,7 @@ fn a_ledger_keeps_what_nobody_takes(rt: HostRuntime) -> Result<(), Fail> {
 
 // Fills an order round a box: whether its pair is called while it is open.
 fn called_soon<
-    B: Registry + Archive + Send + Sync + 'static,
+    B: BoxRegistry + Archive + Send + Sync + 'static,
     R: Threads + Wait + Copy + Send + Sync + 'static,
 >(rt: R, alloc: Global, counting: &Arc<Counting, Global>, blanks: Blanks) -> Option<bool>
     requires tables { (blanks.puts.tie.table.shared.table_id ≡ B.puts) × (blanks.takes.tie.table.shared.table_id ≡ B.takes) }

@@ -7,10 +7,10 @@ use lru_actors::message::LruMsg;
 use lru_actors::{Letter, ReplyCell};
 use lru_inbox::{Taker, Told};
 use lru_mailbox::Mailbox;
-use lru_world::actor::Actor;
-use lru_world::callback::{Gate, NoGate};
-use lru_world::outlet::Outlet;
-use lru_world::world::{Limits, World};
+use lru_workers::actor::Actor;
+use lru_workers::callback::{Gate, NoGate};
+use lru_workers::outlet::Outlet;
+use lru_workers::world::{OrderLimits, World};
 use std::alloc::{AllocError, Global};
 use std::marker::Brand;
 use std::sync::atomic::{AtomicUsize, Ordering};
@@ -24,7 +24,7 @@ type Cell = Arc<ReplyCell<Told<u64, Brand>>, Global>;
 fn one_shard(alloc: Global) -> Result<World<u64>, AllocError>
     ensures { IfOk result (λ world. vec_len world.shards ≡ 1) }
 {
-    let limits = Limits {
+    let limits = OrderLimits {
         weight_limit: 1000,
         len_watermark: None,
     };

@@ -2,10 +2,10 @@
 ghost use Rattle.std.specs.Prelude.{◌≡◌};
 
 use lru_async::async_lru::AsyncLru;
-use lru_desks::{Blanks, Registry};
-use lru_logs::tie::Archive;
+use lru_boxes::{Blanks, BoxRegistry};
+use lru_inbox::tie::Archive;
 use lru_mailbox::{Settled, Slip};
-use lru_world::callback::AsyncEvictionCallback;
+use lru_workers::callback::AsyncEvictionCallback;
 use rand::RngExt;
 use rand::rngs::StdRng;
 use rand_core::SeedableRng;
@@ -37,7 +37,7 @@ impl AsyncEvictionCallback<u64> for Adding {
 }
 
 // Fifty thousand drawn sends. Whether each was taken.
-fn draw_sends<B: Registry + Archive, R: Wait>(
+fn draw_sends<B: BoxRegistry + Archive, R: Wait>(
     rt: &R,
     lru: &AsyncLru<u64, 4, B>,
     seed: u64,
@@ -60,7 +60,7 @@ fn draw_sends<B: Registry + Archive, R: Wait>(
 }
 
 // Four senders at once.
-fn four_send<B: Registry + Archive + Send + Sync, R: Threads + Wait + Sync>(
+fn four_send<B: BoxRegistry + Archive + Send + Sync, R: Threads + Wait + Sync>(
     rt: &R,
     lru: &AsyncLru<u64, 4, B>,
 ) -> bool {
@@ -97,23 +97,32 @@ fn all_sums(lists: &Vec<Vec<Slip>>) -> (usize, usize, usize) {
     all
 }
 
-// Sends under a limit, and closes. Whether each send was taken, and what is settled; nothing where there are no threads.
+// Sends under a limit, more of them while nothing was evicted yet, since the workers may come late on a machine that does much
+// else, and closes. Whether each send was taken, and what is settled; nothing where there are no threads.
 fn soaked<
-    B: Registry + Archive + Send + Sync + 'static,
+    B: BoxRegistry + Archive + Send + Sync + 'static,
     R: Threads + Wait + Copy + Send + Sync + 'static,
 >(rt: R, alloc: Global, adding: Arc<Adding, Global>, blanks: Blanks) -> Option<(bool, Settled<u64>)>
     requires tables { (blanks.puts.tie.table.shared.table_id ≡ B.puts) × (blanks.takes.tie.table.shared.table_id ≡ B.takes) }
     requires counts { (B.putters ≡ 4) × (B.takers ≡ 2) }
     requires blanks { (blanks.putters ≡ 4) × (blanks.takers ≡ 2) }
 {
-    let Ok(ledger) = AsyncLru::<u64, 4>::builder(alloc, 300, adding)
+    let Ok(theirs) = Arc::try_clone(&adding) else {
+        return None;
+    };
+    let Ok(ledger) = AsyncLru::<u64, 4>::builder(alloc, 300, theirs)
         .num_eviction_workers(2)
         .num_callback_workers(2)
         .build_with_ledger::<R, B>(rt, blanks)
     else {
         return None;
     };
-    let sent = four_send(&rt, ledger.lru());
+    let mut sent = four_send(&rt, ledger.lru());
+    for seed in 5..50u64 {
+        if adding.calls.load(Ordering::SeqCst) == 0 {
+            sent = draw_sends(&rt, ledger.lru(), seed) && sent;
+        }
+    }
     Some((sent, ledger.close(&rt)))
 }
 

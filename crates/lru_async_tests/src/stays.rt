@@ -1,8 +1,8 @@
 //! A limit that stays: whatever the threads do, no row is evicted that the limit would not want gone.
 use lru_async::async_lru::{AsyncLru, Closed};
-use lru_world::asking::{Held, may_ask};
-use lru_world::callback::AsyncEvictionCallback;
-use lru_world::world::Limits;
+use lru_workers::asking::{HeldTotals, may_ask};
+use lru_workers::callback::AsyncEvictionCallback;
+use lru_workers::world::OrderLimits;
 use rand::RngExt;
 use rand::rngs::StdRng;
 use rand_core::SeedableRng;
@@ -20,7 +20,7 @@ const HEAVIEST: usize = 9;
 const ROWS: u64 = 20_000;
 
 // How many evictions may be asked for beside none, where nothing is done meanwhile.
-fn may_be_asked(limits: &Limits, held: &Held) -> usize {
+fn may_be_asked(limits: &OrderLimits, held: &HeldTotals) -> usize {
     for pending in 0..100usize {
         if !may_ask(limits, held, pending) {
             return pending;
@@ -31,15 +31,15 @@ fn may_be_asked(limits: &Limits, held: &Held) -> usize {
 
 #[test]
 fn no_more_are_asked_for_than_are_wanted(rt: HostRuntime) -> Result<(), Fail> {
-    let weighs = Limits {
+    let weighs = OrderLimits {
         weight_limit: 10,
         len_watermark: None,
     };
-    let counts = Limits {
+    let counts = OrderLimits {
         weight_limit: 1000,
         len_watermark: Some(3),
     };
-    let held = |weight: usize, len: usize, heaviest: usize| Held {
+    let held = |weight: usize, len: usize, heaviest: usize| HeldTotals {
         weight,
         len,
         heaviest,

@@ -6,7 +6,7 @@ use crate::trace;
 use crate::watch::Watch;
 use pingora_lru::unit::LruUnit;
 use pingora_lru_async::async_lru::{Effect, LruMsg, ShardState, process_batch};
-use pingora_lru_async::mailbox::{Blanks, LedgerBox, MailState, Registry};
+use pingora_lru_async::mailbox::{Blanks, BoxRegistry, LedgerBox, MailState};
 use std::alloc::{AllocError, Global};
 use std::collections::HashMap;
 use std::io;
@@ -114,7 +114,7 @@ fn time<R: Print + Clock>(
 }
 
 // Puts a million pairs into a box, and takes each out again.
-fn measure_box<B: Registry, R: Print + Clock + Wait>(
+fn measure_box<B: BoxRegistry, R: Print + Clock + Wait>(
     rt: &R,
     alloc: Global,
     watch: Watch,

@@ -4,7 +4,7 @@ ghost use Rattle.std.specs.Prelude.{◌<◌};
 
 use crate::trace::Keys;
 use crate::watch::Watch;
-use lru_shared::shared::SharedCache;
+use lru_shared_cache::shared::SharedCache;
 use std::alloc::Global;
 use std::rt::Clock;
 use std::sync::Wait;

@@ -1,8 +1,8 @@
-//! Caches of keys and values, which are never over their limit: the toolchain's `lru`, and `lru_cache`.
+//! Caches of keys and values, which are never over their limit: the toolchain's `lru`, and `lru_owned_cache`.
 
 use crate::order::Order;
 use lru::LruCache;
-use lru_cache::cache::Cache;
+use lru_owned_cache::cache::Cache;
 
 impl Order for LruCache<u64, u64> {
     fn admit(&mut self, key: u64) -> bool {

@@ -13,7 +13,7 @@ mod texts;
 mod units;
 
 use lru::LruCache;
-use lru_cache::cache::Cache;
+use lru_owned_cache::cache::Cache;
 use pingora_lru::lru_core::LruCore;
 use pingora_lru::unit::LruUnit;
 use std::alloc::Global;

@@ -1,7 +1,7 @@
 //! A cache whose keys are texts.
 
 use crate::order::Order;
-use lru_cache::cache::Cache;
+use lru_owned_cache::cache::Cache;
 use std::alloc::{AllocError, Global};
 
 // An odd number, so that the texts of different numbers differ, and are of 20 digits for the most part.

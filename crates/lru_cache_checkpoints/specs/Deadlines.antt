@@ -4,13 +4,13 @@ use Rattle.lru_folder.specs.Files.{Files}
 use Rattle.lru_frames.specs.declared.row.Row.{Row}
 use Rattle.lru_frames.specs.Words.{word}
 use Rattle.lru_frames.specs.Copies.{AreEach}
-use Rattle.lru_cache.specs.declared.cache.Refused as cached
-use Rattle.lru_cache.specs.Cache.{Cached, parts_of}
+use Rattle.lru_owned_cache.specs.declared.cache.Refused as cached
+use Rattle.lru_owned_cache.specs.Cache.{Cached, parts_of}
 use Rattle.lru_deadlines.specs.declared.deadlines.Until.{Until}
-use Rattle.lru_checkpoints.specs.Loads.{IsFault}
-use Rattle.lru_generations.specs.declared.loading.Checkpoint.{Checkpoint}
+use Rattle.lru_generations.specs.Loads.{IsFault}
+use Rattle.lru_generations.specs.declared.newest_loading.Checkpoint.{Checkpoint}
 use Rattle.lru_generations.specs.Loaded.{number_of}
-use Rattle.lru_cache_captures.specs.Deadlines.{IsDeadlineCopy, PutsDeadlines}
+use Rattle.lru_cache_checkpoints.specs.CapturedDeadlines.{IsDeadlineCopy, PutsDeadlines}
 use Rattle.lru_cache_checkpoints.specs.Restores.{IsFound}
 use Rattle.lru_cache_checkpoints.specs.declared.restored.Restored.{Restored}
 use Rattle.lru_cache_checkpoints.specs.declared.restored.RestoreError.{RestoreError}

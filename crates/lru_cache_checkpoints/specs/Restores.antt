@@ -3,14 +3,14 @@ use Rattle.std.specs.Prelude.{◌≡◌, ◌<◌, ℕ, Bool, List, Option, None,
 use Rattle.lru_folder.specs.Files.{Files}
 use Rattle.lru_frames.specs.declared.row.Row.{Row}
 use Rattle.lru_frames.specs.Copies.{AreEach, IsEntryCopy}
-use Rattle.lru_cache.specs.declared.cache.Refused as cached
-use Rattle.lru_cache.specs.Cache.{Cached, parts_of}
-use Rattle.lru_checkpoints.specs.declared.errors.CheckpointError.{CheckpointError}
-use Rattle.lru_checkpoints.specs.Checkpoints.{Shards, HasCheckpoint}
-use Rattle.lru_checkpoints.specs.Loads.{IsFault}
-use Rattle.lru_generations.specs.declared.loading.Checkpoint.{Checkpoint}
+use Rattle.lru_owned_cache.specs.declared.cache.Refused as cached
+use Rattle.lru_owned_cache.specs.Cache.{Cached, parts_of}
+use Rattle.lru_generations.specs.declared.errors.CheckpointError.{CheckpointError}
+use Rattle.lru_generations.specs.Checkpoints.{Shards, HasCheckpoint}
+use Rattle.lru_generations.specs.Loads.{IsFault}
+use Rattle.lru_generations.specs.declared.newest_loading.Checkpoint.{Checkpoint}
 use Rattle.lru_generations.specs.Loaded.{IsLoaded, IsReadable, IsSameCheckpoint, number_of}
-use Rattle.lru_cache_captures.specs.Captures.{PutsShards, MayPutShards}
+use Rattle.lru_cache_checkpoints.specs.Captures.{PutsShards, MayPutShards}
 use Rattle.lru_cache_checkpoints.specs.declared.restored.Restored.{Restored}
 use Rattle.lru_cache_checkpoints.specs.declared.restored.RestoreError.{RestoreError}
 use Rattle.lru_cache_checkpoints.specs.declared.restored.RestoreError.TheVariants.{Unloaded, Refused}

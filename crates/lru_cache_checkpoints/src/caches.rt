@@ -2,26 +2,26 @@
 ghost use Rattle.std.specs.Prelude.{◌≡◌, ◌↔◌, ◌⊎◌, ℕ, List, false, None, Some, IfErr, IfOk, IfSome, OnOk, option_copied};
 ghost use Rattle.std.specs.FinMap.{get};
 ghost use Rattle.lru_folder.specs.Names.{has_slash};
-ghost use Rattle.lru_manifests.specs.declared.names.PartName.{PartName};
-ghost use Rattle.lru_manifests.specs.Names.{IsPart, part_path};
-ghost use Rattle.lru_whole_files.specs.Touching.{TouchesNothing};
-ghost use Rattle.lru_checkpoints.specs.Checkpoints.{Shards, AreHandedOut};
-ghost use Rattle.lru_checkpoints.specs.Loads.{IsFault, IsRefused, IsRefusedFrame};
+ghost use Rattle.lru_generations.specs.declared.names.PartName.{PartName};
+ghost use Rattle.lru_generations.specs.Names.{IsPart, part_path};
+ghost use Rattle.lru_generations.specs.Touching.{TouchesNothing};
+ghost use Rattle.lru_generations.specs.Checkpoints.{Shards, AreHandedOut};
+ghost use Rattle.lru_generations.specs.Loads.{IsFault, IsRefused, IsRefusedFrame};
 ghost use Rattle.lru_generations.specs.Faults.{IsFailed, IsUnlisted};
 ghost use Rattle.lru_generations.specs.Newest.{AreGenerations, ArePassed, IsAsKnown, IsHighestTaken, IsNewest};
 ghost use Rattle.lru_generations.specs.Saving.{IsForGood, IsOlder, IsUnsaved, IsUnused, SavesAfter, SavesNext, TellsPassed};
 ghost use Rattle.lru_cache_checkpoints.specs.Restores.{IfUnloaded, IsCopyOf, Restores};
 
+use crate::cache_captures::{CacheSource, restore_shards};
 use crate::restored::{RestoreError, Restored};
-use lru_cache::cache::Cache;
-use lru_cache_captures::caches::{CacheSource, restore_shards};
-use lru_checkpoints::errors::CheckpointError;
 use lru_folder::folder::Folder;
+use lru_folder::synced_folder::SyncedFolder;
 use lru_frames::stored::Stored;
+use lru_generations::errors::CheckpointError;
 use lru_generations::generations::{Saved, save, save_after};
 use lru_generations::known::Known;
-use lru_generations::loading::{Loaded, load};
-use lru_synced_folder::synced_folder::SyncedFolder;
+use lru_generations::newest_loading::{Loaded, load};
+use lru_owned_cache::cache::Cache;
 use std::alloc::Global;
 use std::hash::Hash;
 

@@ -2,10 +2,10 @@
 ghost use Rattle.std.specs.Prelude.{◌≡◌};
 ghost use Rattle.lru_cache_checkpoints.specs.declared.restored.RestoreError.TheVariants as why;
 
-use lru_cache::cache::Refused;
-use lru_checkpoints::errors::CheckpointError;
+use lru_generations::errors::CheckpointError;
 use lru_generations::known::Known;
 use lru_generations::newest::Passed;
+use lru_owned_cache::cache::Refused;
 
 /// What a load put back.
 #[derive(Debug, Drop)]

@@ -1,24 +1,31 @@
-//! A cache that threads share, whose entries end, saved. `restore_shards` of `lru_cache_captures::shared_deadlines` puts what was
-//! loaded back: ends and deadlines stay what they were, in the caller's unit of time.
-ghost use Rattle.std.specs.Prelude.{◌≡◌, ◌↔◌, ◌≤◌, ℕ, List, false, None, Some, IfErr, IfOk, OnOk, option_copied};
+//! A cache that threads share, whose entries end, saved and loaded: ends and deadlines stay what they were, in the caller's unit of
+//! time.
+ghost use Rattle.std.specs.Prelude.{◌≡◌, ◌↔◌, ◌⊎◌, ◌≤◌, ℕ, List, false, None, Some, IfErr, IfOk, IfSome, OnOk, option_copied};
 ghost use Rattle.std.specs.FinMap.{get};
 ghost use Rattle.lru_folder.specs.Names.{has_slash};
-ghost use Rattle.lru_manifests.specs.declared.names.PartName.{PartName};
-ghost use Rattle.lru_manifests.specs.Names.{IsPart, part_path};
-ghost use Rattle.lru_cache_captures.specs.Ages.{MayCopyAged};
-ghost use Rattle.lru_checkpoints.specs.Checkpoints.{Shards, AreHandedOut, most_shards};
-ghost use Rattle.lru_checkpoints.specs.Loads.{IsFault};
-ghost use Rattle.lru_generations.specs.Newest.{IsAsKnown, IsHighestTaken, IsNewest};
+ghost use Rattle.lru_generations.specs.declared.names.PartName.{PartName};
+ghost use Rattle.lru_generations.specs.Names.{IsPart, part_path};
+ghost use Rattle.lru_generations.specs.Touching.{TouchesNothing};
+ghost use Rattle.lru_cache_checkpoints.specs.CapturedAges.{MayCopyAged};
+ghost use Rattle.lru_generations.specs.Checkpoints.{Shards, AreHandedOut, most_shards};
+ghost use Rattle.lru_generations.specs.Loads.{IsFault, IsRefused, IsRefusedFrame};
+ghost use Rattle.lru_generations.specs.Faults.{IsFailed, IsUnlisted};
+ghost use Rattle.lru_generations.specs.Newest.{AreGenerations, ArePassed, IsAsKnown, IsHighestTaken, IsNewest};
 ghost use Rattle.lru_generations.specs.Saving.{IsForGood, IsOlder, IsUnsaved, IsUnused, SavesAfter, SavesNext, TellsPassed};
-ghost use Rattle.lru_cache_checkpoints.specs.Ages.{aged_bytes, IsAged};
+ghost use Rattle.lru_cache_checkpoints.specs.Ages.{aged_bytes, IsAged, MayRestoreAged};
+ghost use Rattle.lru_cache_checkpoints.specs.Restores.{IfUnloaded};
 
-use lru_cache_captures::shared_deadlines::SharedDeadlineSource;
-use lru_checkpoints::errors::CheckpointError;
+use crate::restored::{RestoreError, Restored};
+use crate::shared_deadline_captures::{SharedDeadlineSource, restore_shards};
+use lru_deadlines::deadlines::Until;
+use lru_folder::folder::Folder;
+use lru_folder::synced_folder::SyncedFolder;
 use lru_frames::stored::Stored;
+use lru_generations::errors::CheckpointError;
 use lru_generations::generations::{Saved, save, save_after};
 use lru_generations::known::Known;
-use lru_shared_deadlines::shared::SharedDeadlineCache;
-use lru_synced_folder::synced_folder::SyncedFolder;
+use lru_generations::newest_loading::{Loaded, load};
+use lru_shared_deadlines::shared::{Aged, SharedDeadlineCache};
 use std::alloc::Global;
 use std::hash::Hash;
 use std::sync::Wait;
@@ -135,4 +142,57 @@ pub fn save_shared_deadlines_after<
         &SharedDeadlineSource { rt, cache },
         known,
     )
+}
+
+/// Loads the newest checkpoint into a shared cache whose entries end: its entries are put into the shards of their keys with the
+/// ends and deadlines that they had, those of each saved shard the last first. Where there is no checkpoint, nothing is put.
+pub fn load_shared_deadlines<F: Folder, K: Hash + Stored, V: Stored, const N: usize>(
+    rt: &impl Wait,
+    alloc: Global,
+    folder: &mut F,
+    dir: &str,
+    file_name: &str,
+    cache: &SharedDeadlineCache<K, V, N>,
+) -> Result<Restored, RestoreError<K, Until<Aged<V>>>>
+    requires { has_slash file_name.now ≡ false }
+    ensures restores { F.meaning.keeps folder.old → MayRestoreAged K.bytes_of K.is_value K.is_same V.bytes_of V.is_value V.is_same
+        dir.now file_name.now (F.meaning.files folder.old) K.eq result }
+
+    // Of the generations that have a manifest, those above it were passed over.
+    ensures passed { F.meaning.keeps folder.old → IfOk result (λ restored. (generations : List ℕ)
+        × (AreGenerations dir.now file_name.now (F.meaning.files folder.old) generations
+        × ArePassed (λ generation error. IsRefused F.meaning (IsRefusedFrame F.meaning K.bytes_of K.is_value (aged_bytes V.bytes_of) (IsAged V.is_value) dir.now file_name.now)
+        dir.now file_name.now generation folder.old folder.new error)
+        generations restored.generation restored.passed.items)) }
+
+    // What is known of it is whole.
+    ensures known { F.meaning.keeps folder.old → IfOk result (λ restored. IfSome restored.known (λ known. (restored.generation ≡ Some known.generation)
+        × IsAsKnown dir.now file_name.now (F.meaning.files folder.old) (Some known))) }
+
+    // Where none was loaded, the folder was not listed, memory was refused or a call failed.
+    ensures reason { F.meaning.keeps folder.old → IfErr result (IfUnloaded (λ error. IsUnlisted F.meaning dir.now folder.old folder.new error
+        ⊎ IsFailed F.meaning folder.old folder.new error)) }
+
+    ensures touches { F.meaning.keeps folder.old → TouchesNothing F.meaning folder.old folder.new }
+    ensures files { F.meaning.keeps folder.old → F.meaning.files folder.new ≡ F.meaning.files folder.old }
+    ensures faults { F.meaning.keeps folder.old → OnOk result (F.meaning.faults folder.new ≡ F.meaning.faults folder.old) }
+    ensures places { F.meaning.keeps folder.old → F.meaning.folders folder.new ≡ F.meaning.folders folder.old }
+    ensures kept { F.meaning.keeps folder.old ↔ F.meaning.keeps folder.new }
+{
+    let Loaded { newest, passed } = load(alloc, folder, dir, file_name)?;
+    let Some(checkpoint) = newest else {
+        return Ok(Restored {
+            generation: None,
+            known: None,
+            left_out: 0,
+            passed,
+        });
+    };
+    let left_out = restore_shards(rt, cache, checkpoint.shards)?;
+    Ok(Restored {
+        generation: Some(checkpoint.generation),
+        known: Some(checkpoint.known),
+        left_out,
+        passed,
+    })
 }

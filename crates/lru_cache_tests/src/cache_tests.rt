@@ -1,7 +1,7 @@
 //! Caches of numbers, of keys that collide, and of values without a size.
 use crate::alike::Alike;
 use crate::steps::{Call, Step, fault};
-use lru_cache::cache::Cache;
+use lru_owned_cache::cache::Cache;
 use std::test::Fail;
 
 // Each call, under limits that nothing reaches.

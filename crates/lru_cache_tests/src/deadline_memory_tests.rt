@@ -1,7 +1,7 @@
 //! Want of memory: a put that is refused hands key and value back, leaves the cache as it was, and is made again. The
 //! gate runs this with memory for all; `rt try --test --fail-alloc N` refuses the request number N.
-use lru_cache::cache::{Cause, Refused};
 use lru_deadlines::deadlines::{DeadlineCache, Until};
+use lru_owned_cache::cache::{Cause, Refused};
 use std::alloc::{AllocError, Global};
 use std::test::Fail;
 

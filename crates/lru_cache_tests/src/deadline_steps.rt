@@ -1,6 +1,6 @@
 //! A list of calls, done one by one: the text of each answer, and of the cache after it.
-use lru_cache::cache::{Entry, Refused};
 use lru_deadlines::deadlines::{DeadlineCache, Until};
+use lru_owned_cache::cache::{Entry, Refused};
 use std::alloc::{AllocError, Global};
 use std::fmt::Debug;
 use std::hash::Hash;

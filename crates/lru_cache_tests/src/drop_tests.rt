@@ -1,6 +1,6 @@
 //! Each key and each value is dropped once, and by nobody but who holds it: the cache, or the caller it was handed to.
 use crate::counted::Counted;
-use lru_cache::cache::{Cache, Entry};
+use lru_owned_cache::cache::{Cache, Entry};
 use std::alloc::{AllocError, Global};
 use std::cell::Cell;
 use std::test::Fail;

@@ -1,5 +1,5 @@
 //! An entry that is made where a key has none, and the causes by which none is put.
-use lru_cache::cache::{Cache, Cause, NotPut};
+use lru_owned_cache::cache::{Cache, Cause, NotPut};
 use std::alloc::{AllocError, Global};
 use std::test::Fail;
 

@@ -1,5 +1,5 @@
 //! A list of calls, done one by one: the text of each answer, and of the cache after it.
-use lru_cache::cache::{Cache, Entry, Refused};
+use lru_owned_cache::cache::{Cache, Entry, Refused};
 use std::alloc::{AllocError, Global};
 use std::fmt::Debug;
 use std::hash::Hash;

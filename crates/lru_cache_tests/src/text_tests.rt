@@ -1,6 +1,6 @@
 //! A cache of texts by texts, and its limits.
 use crate::steps::{look, put, shown, taken};
-use lru_cache::cache::Cache;
+use lru_owned_cache::cache::Cache;
 use std::alloc::{AllocError, Global};
 use std::test::Fail;
 

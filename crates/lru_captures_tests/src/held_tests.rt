@@ -1,19 +1,19 @@
 //! A save that is held holds up no call: each shard is copied before it is written, and no lock is held meanwhile.
 ghost use Rattle.std.specs.Prelude.{◌≤◌};
-ghost use Rattle.lru_checkpoints.specs.Checkpoints.{most_shards};
+ghost use Rattle.lru_generations.specs.Checkpoints.{most_shards};
 
-use lru_checkpoints::errors::CheckpointError;
 use lru_folder::folder::Folder;
 use lru_frames::frame::Header;
 use lru_frames::mark::Mark;
 use lru_frames::row::Row;
 use lru_frames::source::Source;
 use lru_frames::stored::Stored;
+use lru_generations::errors::CheckpointError;
 use lru_generations::generations::save;
-use lru_generations::loading::{Loaded, load};
-use lru_locks::lru::Lru;
+use lru_generations::newest_loading::{Loaded, load};
 use lru_memory_folder::memory_folder::MemoryFolder;
-use lru_order_captures::locks::LruSource;
+use lru_order_checkpoints::shared_captures::LruSource;
+use lru_shared_order::lru::Lru;
 use std::alloc::{AllocError, Global};
 use std::sync::Wait;
 use std::sync::atomic::{AtomicBool, Ordering};

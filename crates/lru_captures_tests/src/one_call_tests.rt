@@ -1,20 +1,26 @@
 //! Saves and loads of caches and orders, each by one call.
-use lru_cache::cache::Cache;
-use lru_cache_captures::{caches, deadlines, shared};
 use lru_cache_checkpoints::caches::{load_cache, save_cache, save_cache_after};
 use lru_cache_checkpoints::deadlines::{load_deadlines, save_deadlines, save_deadlines_after};
 use lru_cache_checkpoints::shared::{load_shared, save_shared, save_shared_after};
+use lru_cache_checkpoints::shared_deadlines::{
+    load_shared_deadlines, save_shared_deadlines, save_shared_deadlines_after,
+};
+use lru_cache_checkpoints::{
+    cache_captures, deadline_captures, shared_captures, shared_deadline_captures,
+};
 use lru_cores::lru_core::LruCore;
 use lru_deadlines::deadlines::DeadlineCache;
 use lru_folder::folder::Folder;
 use lru_frames::row::Row;
 use lru_generations::generations::Saved;
-use lru_locks::lru::Lru;
 use lru_memory_folder::memory_folder::MemoryFolder;
-use lru_order_captures::{cores, locks};
 use lru_order_checkpoints::cores::{load_core, save_core, save_core_after};
 use lru_order_checkpoints::locks::{load_lru, save_lru, save_lru_after};
-use lru_shared::shared::SharedCache;
+use lru_order_checkpoints::{core_captures, shared_captures as order_captures};
+use lru_owned_cache::cache::Cache;
+use lru_shared_cache::shared::SharedCache;
+use lru_shared_deadlines::shared::{Ages, Limits, SharedDeadlineCache};
+use lru_shared_order::lru::Lru;
 use std::alloc::Global;
 use std::sync::Wait;
 use std::test::Fail;
@@ -69,7 +75,7 @@ fn is_cache_there(alloc: Global, folder: &mut MemoryFolder, generation: u64) -> 
     let restored = load_cache(alloc, folder, "d", "c", &mut again)?;
     let is_told = (restored.generation == Some(generation)) & (restored.left_out == 0);
     let is_known = restored.known.is_some();
-    Ok(is_told & is_known & are_as_put(&caches::capture_cache(alloc, &again)?))
+    Ok(is_told & is_known & are_as_put(&cache_captures::capture_cache(alloc, &again)?))
 }
 
 fn cache_comes_back(alloc: Global) -> Result<bool, Fail> {
@@ -148,7 +154,7 @@ fn are_deadlines_there(
     let restored = load_deadlines(alloc, folder, "d", "c", &mut again)?;
     let is_told = (restored.generation == Some(generation)) & (restored.left_out == 0);
     let is_known = restored.known.is_some();
-    let rows = deadlines::capture_deadlines(alloc, &again)?;
+    let rows = deadline_captures::capture_deadlines(alloc, &again)?;
     Ok(is_told & is_known & are_deadlines_as_put(&rows))
 }
 
@@ -170,7 +176,7 @@ fn deadlines_stand_in_front(alloc: Global) -> Result<bool, Fail> {
     let mut again: DeadlineCache<u64, u64> = DeadlineCache::new(alloc, LIMIT, 9)?;
     again.put_until(4, 8, 1, 50, |_gone| {})?;
     load_deadlines(alloc, &mut folder, "d", "c", &mut again)?;
-    let rows = deadlines::capture_deadlines(alloc, &again)?;
+    let rows = deadline_captures::capture_deadlines(alloc, &again)?;
     match rows.as_slice() {
         [first, second] => Ok((first.key == 3) & (second.key == 4)),
         _ => Ok(false),
@@ -197,7 +203,7 @@ fn shards_are_their_own<R: Wait>(
     cache: &SharedCache<u64, u64, 2>,
 ) -> Result<bool, Fail> {
     for shard in 0..2usize {
-        let rows = shared::capture_shard(rt, alloc, cache, shard)?;
+        let rows = shared_captures::capture_shard(rt, alloc, cache, shard)?;
         let is_whole = rows.len() == cache.shard_len(rt, shard);
         if !is_whole || !rows.iter().all(|row| row.weight == weight_of(row.key)) {
             return Ok(false);
@@ -257,6 +263,83 @@ fn a_cache_that_threads_share_by_one_call(rt: HostRuntime) -> Result<(), Fail> {
     Ok(())
 }
 
+// Entries are answered up to 60 after they were put, and up to 20 after their last use.
+const AGES: Ages = Ages { live: 60, idle: 20 };
+
+type Ending = SharedDeadlineCache<u64, u64, 2>;
+
+fn ending(alloc: Global) -> Result<Ending, Fail> {
+    let limits = Limits {
+        weight: LIMIT,
+        entries: 18,
+    };
+    Ok(SharedDeadlineCache::new(alloc, limits, AGES)?)
+}
+
+// Entries that were put at 100.
+fn filled_ending<R: Wait>(rt: &R, alloc: Global) -> Result<Ending, Fail> {
+    let cache = ending(alloc)?;
+    for (key, weight) in &ROWS {
+        cache.put(rt, 100, *key, *key ^ 100, *weight, |_gone| {})?;
+    }
+    Ok(cache)
+}
+
+fn ends_as_put(row: &Row<u64, (u64, (u64, u64))>) -> bool {
+    (row.data == (row.key ^ 100, (160, 120))) & (row.weight == weight_of(row.key))
+}
+
+// Each of two shards has its own entries, with their weights, ends and deadlines.
+fn all_end_as_put<R: Wait>(rt: &R, alloc: Global, cache: &Ending) -> Result<bool, Fail> {
+    for shard in 0..2usize {
+        let rows = shared_deadline_captures::capture_shard(rt, alloc, cache, shard)?;
+        let is_whole = rows.len() == cache.shard_len(rt, shard);
+        if !is_whole || !rows.iter().all(ends_as_put) {
+            return Ok(false);
+        }
+    }
+    Ok(cache.len(rt) == 3)
+}
+
+fn save_ending_twice<R: Wait>(
+    rt: &R,
+    alloc: Global,
+    folder: &mut MemoryFolder,
+    cache: &Ending,
+) -> Result<Option<u64>, Fail> {
+    let first = save_shared_deadlines(rt, alloc, folder, "d", "c", cache)?;
+    let known = Some(&first.known);
+    let saved = save_shared_deadlines_after(rt, alloc, folder, "d", "c", cache, known)?;
+    Ok(kept_by(&saved, first.generation))
+}
+
+fn is_ending_there<R: Wait>(
+    rt: &R,
+    alloc: Global,
+    folder: &mut MemoryFolder,
+    generation: u64,
+) -> Result<bool, Fail> {
+    let again = ending(alloc)?;
+    let restored = load_shared_deadlines(rt, alloc, folder, "d", "c", &again)?;
+    let is_told = (restored.generation == Some(generation)) & (restored.left_out == 0);
+    Ok(is_told & restored.known.is_some() & all_end_as_put(rt, alloc, &again)?)
+}
+
+fn ending_comes_back<R: Wait>(rt: &R, alloc: Global) -> Result<bool, Fail> {
+    let mut folder = folder(alloc)?;
+    let cache = filled_ending(rt, alloc)?;
+    match save_ending_twice(rt, alloc, &mut folder, &cache)? {
+        Some(generation) => is_ending_there(rt, alloc, &mut folder, generation),
+        None => Ok(false),
+    }
+}
+
+#[test]
+fn a_cache_whose_entries_end_by_one_call(rt: HostRuntime) -> Result<(), Fail> {
+    assert!(rt; ending_comes_back(&rt, rt.alloc())?);
+    Ok(())
+}
+
 // Rows of one shard of two, which an order has: none weighs nothing.
 static HEAVIER: [(u64, usize); 3] = [(3, 70_000), (1, 1), (5, 3)];
 
@@ -290,7 +373,7 @@ fn is_core_there(alloc: Global, folder: &mut MemoryFolder, generation: u64) -> R
     let mut again: LruCore<(u64, u64), 2> = LruCore::with_capacity(alloc, LIMIT, 4)?;
     let restored = load_core(alloc, folder, "d", "c", &mut again)?;
     let is_told = (restored.generation == Some(generation)) & restored.known.is_some();
-    Ok(is_told & are_as_admitted(&cores::capture_shard(alloc, &again, 1)?))
+    Ok(is_told & are_as_admitted(&core_captures::capture_shard(alloc, &again, 1)?))
 }
 
 fn core_comes_back(alloc: Global) -> Result<bool, Fail> {
@@ -337,7 +420,7 @@ fn is_lru_there<R: Wait>(
     let again: Lru<(u64, u64), 2> = Lru::with_capacity(alloc, LIMIT, 4)?;
     let restored = load_lru(rt, alloc, folder, "d", "c", &again)?;
     let is_told = (restored.generation == Some(generation)) & restored.known.is_some();
-    Ok(is_told & are_as_admitted(&locks::capture_shard(rt, alloc, &again, 1)?))
+    Ok(is_told & are_as_admitted(&order_captures::capture_shard(rt, alloc, &again, 1)?))
 }
 
 fn lru_comes_back<R: Wait>(rt: &R, alloc: Global) -> Result<bool, Fail> {

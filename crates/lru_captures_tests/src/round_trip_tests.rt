@@ -1,21 +1,21 @@
 //! Rows captured, saved, loaded and put back.
 ghost use Rattle.std.specs.Prelude.{◌<◌, ◌≤◌};
-ghost use Rattle.lru_checkpoints.specs.Checkpoints.{most_shards};
+ghost use Rattle.lru_generations.specs.Checkpoints.{most_shards};
 
-use lru_cache::cache::Cache;
-use lru_cache_captures::{caches, shared};
-use lru_checkpoints::errors::CheckpointError;
+use lru_cache_checkpoints::{cache_captures, shared_captures};
 use lru_cores::lru_core::LruCore;
 use lru_folder::folder::Folder;
 use lru_frames::row::Row;
 use lru_frames::source::Source;
 use lru_frames::stored::Stored;
+use lru_generations::errors::CheckpointError;
 use lru_generations::generations::save;
-use lru_generations::loading::{Loaded, load};
-use lru_locks::lru::Lru;
+use lru_generations::newest_loading::{Loaded, load};
 use lru_memory_folder::memory_folder::MemoryFolder;
-use lru_order_captures::{cores, locks, snapshots};
-use lru_shared::shared::SharedCache;
+use lru_order_checkpoints::{core_captures, shared_captures as order_captures, snapshots};
+use lru_owned_cache::cache::Cache;
+use lru_shared_cache::shared::SharedCache;
+use lru_shared_order::lru::Lru;
 use std::alloc::{AllocError, Global};
 use std::sync::Wait;
 use std::test::Fail;
@@ -70,16 +70,16 @@ fn filled_core(alloc: Global) -> Result<LruCore<(u64, String), 2>, Fail> {
 
 fn is_core_back(alloc: Global, shards: Vec<Vec<Row<u64, String>>>) -> Result<bool, Fail> {
     let mut again: LruCore<(u64, String), 2> = LruCore::with_capacity(alloc, 100, 4)?;
-    if cores::restore_shards(&mut again, shards).is_err() {
+    if core_captures::restore_shards(&mut again, shards).is_err() {
         return Ok(false);
     }
     let is_whole = (again.len() == 4) & (again.weight() == 7);
-    Ok(is_whole & is_as_it_stood(&cores::capture_shard(alloc, &again, 1)?))
+    Ok(is_whole & is_as_it_stood(&core_captures::capture_shard(alloc, &again, 1)?))
 }
 
 fn core_comes_back(alloc: Global) -> Result<bool, Fail> {
     let core = filled_core(alloc)?;
-    let shards = saved_and_loaded(alloc, &cores::CoreSource { core: &core })?;
+    let shards = saved_and_loaded(alloc, &core_captures::CoreSource { core: &core })?;
     is_core_back(alloc, shards)
 }
 
@@ -104,16 +104,16 @@ fn is_lru_back<R: Wait>(
     shards: Vec<Vec<Row<u64, String>>>,
 ) -> Result<bool, Fail> {
     let again: Lru<(u64, String), 2> = Lru::with_capacity(alloc, 100, 4)?;
-    if locks::restore_shards(rt, &again, shards).is_err() {
+    if order_captures::restore_shards(rt, &again, shards).is_err() {
         return Ok(false);
     }
     let is_whole = (again.len() == 4) & (again.weight() == 7);
-    Ok(is_whole & is_as_it_stood(&locks::capture_shard(rt, alloc, &again, 1)?))
+    Ok(is_whole & is_as_it_stood(&order_captures::capture_shard(rt, alloc, &again, 1)?))
 }
 
 fn lru_comes_back<R: Wait>(rt: &R, alloc: Global) -> Result<bool, Fail> {
     let lru = filled_lru(rt, alloc)?;
-    let shards = saved_and_loaded(alloc, &locks::LruSource { rt, lru: &lru })?;
+    let shards = saved_and_loaded(alloc, &order_captures::LruSource { rt, lru: &lru })?;
     is_lru_back(rt, alloc, shards)
 }
 
@@ -137,10 +137,10 @@ fn put_back(
     cache: &Cache<u64, String>,
     most_weight: usize,
 ) -> Result<Option<Cache<u64, String>>, Fail> {
-    let shards = saved_and_loaded(alloc, &caches::CacheSource { cache })?;
+    let shards = saved_and_loaded(alloc, &cache_captures::CacheSource { cache })?;
     let mut again: Cache<u64, String> = Cache::new(alloc, most_weight, 100)?;
     Ok(
-        caches::restore_shards(&mut again, shards)
+        cache_captures::restore_shards(&mut again, shards)
             .is_ok()
             .then_some(again),
     )
@@ -149,7 +149,7 @@ fn put_back(
 fn cache_comes_back(alloc: Global) -> Result<bool, Fail> {
     let cache = filled_cache(alloc)?;
     match put_back(alloc, &cache, 100)? {
-        Some(again) => Ok(is_as_it_stood(&caches::capture_cache(alloc, &again)?)),
+        Some(again) => Ok(is_as_it_stood(&cache_captures::capture_cache(alloc, &again)?)),
         None => Ok(false),
     }
 }
@@ -180,7 +180,7 @@ fn heavy_and_others(alloc: Global) -> Result<Vec<Row<u64, String>>, Fail> {
 fn heavy_is_left_out(alloc: Global) -> Result<bool, Fail> {
     let mut cache: Cache<u64, String> = Cache::new(alloc, 2, 100)?;
     let rows = heavy_and_others(alloc)?;
-    let is_told = matches!(caches::restore_cache(&mut cache, rows), Ok(2));
+    let is_told = matches!(cache_captures::restore_cache(&mut cache, rows), Ok(2));
     Ok(is_told & (cache.len() == 1) & cache.contains(&1))
 }
 
@@ -188,7 +188,7 @@ fn heavy_is_left_out(alloc: Global) -> Result<bool, Fail> {
 fn heavy_is_left_out_of_a_shard<R: Wait>(rt: &R, alloc: Global) -> Result<bool, Fail> {
     let cache: SharedCache<u64, String, 2> = SharedCache::new(alloc, 4, 200)?;
     let rows = heavy_and_others(alloc)?;
-    let is_told = matches!(shared::restore_shard(rt, &cache, rows), Ok(2));
+    let is_told = matches!(shared_captures::restore_shard(rt, &cache, rows), Ok(2));
     Ok(is_told & cache.contains(rt, &1) & !cache.contains(rt, &5))
 }
 
@@ -231,8 +231,11 @@ fn is_shard_alike<R: Wait>(
 ) -> Result<bool, Fail>
     requires { shard < 2 }
 {
-    let rows = shared::capture_shard(rt, alloc, one, shard)?;
-    Ok(are_alike(&rows, &shared::capture_shard(rt, alloc, other, shard)?))
+    let rows = shared_captures::capture_shard(rt, alloc, one, shard)?;
+    Ok(are_alike(
+        &rows,
+        &shared_captures::capture_shard(rt, alloc, other, shard)?,
+    ))
 }
 
 fn is_shared_back<R: Wait>(
@@ -242,7 +245,7 @@ fn is_shared_back<R: Wait>(
     shards: Vec<Vec<Row<u64, String>>>,
 ) -> Result<bool, Fail> {
     let again: SharedCache<u64, String, 2> = SharedCache::new(alloc, 200, 200)?;
-    let is_whole = shared::restore_shards(rt, &again, shards).is_ok();
+    let is_whole = shared_captures::restore_shards(rt, &again, shards).is_ok();
     let is_told = is_whole & (again.len(rt) == 4) & (again.weight(rt) == 7);
     let is_first = is_shard_alike(rt, alloc, cache, &again, 0)?;
     Ok(is_told & is_first & is_shard_alike(rt, alloc, cache, &again, 1)?)
@@ -250,7 +253,7 @@ fn is_shared_back<R: Wait>(
 
 fn shared_comes_back<R: Wait>(rt: &R, alloc: Global) -> Result<bool, Fail> {
     let cache = filled_shared(rt, alloc)?;
-    let shards = saved_and_loaded(alloc, &shared::SharedSource { rt, cache: &cache })?;
+    let shards = saved_and_loaded(alloc, &shared_captures::SharedSource { rt, cache: &cache })?;
     is_shared_back(rt, alloc, &cache, shards)
 }
 

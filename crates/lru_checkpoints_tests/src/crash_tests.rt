@@ -1,6 +1,6 @@
 //! Saves that a stop or a loss of power cuts short.
 use crate::fixture::{save_next, two, what_loads};
-use lru_checkpoints::errors::CheckpointError;
+use lru_generations::errors::CheckpointError;
 use lru_memory_folder::memory_folder::MemoryFolder;
 use std::alloc::Global;
 use std::test::Fail;

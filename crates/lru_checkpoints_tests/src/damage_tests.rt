@@ -1,7 +1,7 @@
 //! Checkpoints whose files are changed, cut short, missing, or of another checkpoint: the older one is loaded in their place.
 use crate::fixture::{empty, found_in, load_newest, names_in, save_as, save_next, two, with_other};
-use lru_checkpoints::errors::{CheckpointError, CheckpointFile};
 use lru_frames::errors::Part;
+use lru_generations::errors::{CheckpointError, CheckpointFile};
 use lru_memory_folder::memory_folder::MemoryFolder;
 use std::alloc::Global;
 use std::test::Fail;

@@ -1,7 +1,7 @@
 //! What stopped and failed saves leave in the folder, and what is refused before anything is written.
 use crate::fixture::{names_in, save_next, two, what_loads};
-use lru_checkpoints::errors::CheckpointError;
 use lru_folder::folder_call::FolderCall;
+use lru_generations::errors::CheckpointError;
 use lru_memory_folder::memory_folder::MemoryFolder;
 use std::alloc::{AllocError, Global};
 use std::test::Fail;

@@ -3,8 +3,8 @@ use crate::fixture::{
     are_passed, empty, found_in, has_none, load_newest, save_next, two, with_other,
 };
 use crate::frame_damage_tests::sealed;
-use lru_checkpoints::errors::{CheckpointError, CheckpointFile};
 use lru_frames::errors::Part;
+use lru_generations::errors::{CheckpointError, CheckpointFile};
 use lru_memory_folder::memory_folder::MemoryFolder;
 use std::alloc::Global;
 use std::test::Fail;

@@ -1,7 +1,7 @@
 //! Saves that are handed what a load or an earlier save knows.
 use crate::fixture::{are_passed, empty, load_newest, save_known, save_next, two, what_loads};
-use lru_checkpoints::errors::{CheckpointError, CheckpointFile};
 use lru_frames::errors::Part;
+use lru_generations::errors::{CheckpointError, CheckpointFile};
 use lru_generations::generations::Saved;
 use lru_generations::known::Known;
 use lru_memory_folder::memory_folder::MemoryFolder;

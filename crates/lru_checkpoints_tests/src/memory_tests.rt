@@ -1,7 +1,7 @@
 //! Want of memory. The gate runs this with memory for all; `rt try --test --fail-alloc N` refuses the request number N.
 use crate::fixture::{save_next, two, what_loads};
-use lru_checkpoints::errors::CheckpointError;
 use lru_folder::fault::FolderFault;
+use lru_generations::errors::CheckpointError;
 use lru_memory_folder::memory_folder::MemoryFolder;
 use std::alloc::Global;
 use std::test::Fail;

@@ -3,8 +3,8 @@ use crate::fixture::{
     are_passed, empty, found_in, load_as, load_newest, names_in, save_as, save_next, two,
     what_loads,
 };
-use lru_checkpoints::errors::{CheckpointError, CheckpointFile};
 use lru_frames::errors::Part;
+use lru_generations::errors::{CheckpointError, CheckpointFile};
 use lru_memory_folder::memory_folder::MemoryFolder;
 use std::alloc::Global;
 use std::test::Fail;

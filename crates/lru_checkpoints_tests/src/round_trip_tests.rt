@@ -1,11 +1,11 @@
 //! A folder without checkpoints, and how errors are shown.
 use crate::fixture::{empty, has_none, load_newest, save_next};
-use lru_checkpoints::errors::{CheckpointError, CheckpointFile};
 use lru_folder::fault::FolderFault;
 use lru_folder::folder_call::FolderCall;
 use lru_frames::errors::Part;
+use lru_generations::errors::{CheckpointError, CheckpointFile};
+use lru_generations::file_errors::CallFault;
 use lru_memory_folder::memory_folder::MemoryFolder;
-use lru_whole_files::errors::CallFault;
 use std::alloc::{AllocError, Global};
 use std::test::Fail;
 

@@ -5,3 +5,6 @@ pub mod Sparing
 pub mod Representation
 pub mod Calls
 pub mod Inclusion
+pub mod Tiers
+pub mod TierCalls
+pub mod TierRuns

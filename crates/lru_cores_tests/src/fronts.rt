@@ -1,9 +1,9 @@
 //! Two cores that do the same calls: the rows of the one with the smaller limits are a beginning of the other's.
+use crate::asked::Step;
 use crate::steps::{fault, rows_of};
+use crate::tables::{UNDER_A_WATERMARK, UNDER_TWO_LIMITS};
 use lru_cores::inclusion::inclusion_law;
 use lru_cores::lru_core::LruCore;
-use lru_test_rows::asked::Step;
-use lru_test_rows::tables::{UNDER_A_WATERMARK, UNDER_TWO_LIMITS};
 use rand::rngs::StdRng;
 use rand_core::SeedableRng;
 use std::alloc::{AllocError, Global};

@@ -1,7 +1,7 @@
 //! Orders over a hasher of the caller's: SipHash-1-3.
 use lru_cores::lru_core::LruCore;
+use lru_cores::tiered::TieredCore;
 use lru_shard::unit::LruUnit;
-use lru_tiers::tiered::TieredCore;
 use std::alloc::Global;
 use std::hash::{BuildHasherDefault, DefaultHasher};
 use std::test::Fail;

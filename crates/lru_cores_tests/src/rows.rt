@@ -1,15 +1,15 @@
 //! The worked rows of a core.
 ghost use Rattle.std.specs.Prelude.{◌<◌};
 
+use crate::asked::Step;
 use crate::steps::faults;
-use lru_cores::calls::{Call, run};
-use lru_cores::lru_core::LruCore;
-use lru_test_rows::asked::Step;
-use lru_test_rows::tables::{
+use crate::tables::{
     ANSWERS_EACH_CALL, ANSWERS_WHERE_NOTHING_IS, COUNTS_A_ROW_OF_WEIGHT_0_ONCE,
     COUNTS_UP_TO_THE_WIDTH, EVICTS_THE_OLDEST, GOES_ROUND_THE_CIRCLE, INCREMENTS, PROMOTES,
     SETS_WEIGHTS, STEPS_TO_A_VICTIM, WEIGHS_A_HALF, WEIGHS_A_THIRD, WEIGHS_NEW_ROWS,
 };
+use lru_cores::calls::{Call, run};
+use lru_cores::lru_core::LruCore;
 use rand::rngs::StdRng;
 use rand_core::{Rng, SeedableRng};
 use std::alloc::{AllocError, Global};

@@ -1,9 +1,9 @@
 //! A list of calls, done one by one: the text of each reply, and of the core after it.
 ghost use Rattle.std.specs.Prelude.{◌<◌};
 
+use crate::asked::{Step, call_of};
 use lru_cores::calls::{Call, Reply, answer};
 use lru_cores::lru_core::LruCore;
-use lru_test_rows::asked::{Step, call_of};
 use rand::rngs::StdRng;
 use std::alloc::{AllocError, Global};
 

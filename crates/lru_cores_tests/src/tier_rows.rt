@@ -1,6 +1,6 @@
 //! Worked rows of two tiers, each a list of calls.
 use crate::tier_steps::{Call, Step, fault};
-use lru_tiers::tiered::TieredCore;
+use lru_cores::tiered::TieredCore;
 use rand::rngs::StdRng;
 use rand_core::SeedableRng;
 use std::alloc::Global;

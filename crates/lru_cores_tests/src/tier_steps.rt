@@ -1,6 +1,6 @@
 //! A list of calls, done one by one: the text of each answer, and of both tiers after it.
 use lru_cores::lru_core::LruCore;
-use lru_tiers::tiered::TieredCore;
+use lru_cores::tiered::TieredCore;
 use rand::rngs::StdRng;
 use std::alloc::{AllocError, Global};
 

@@ -4,9 +4,9 @@ use Rattle.std.specs.Prelude.{Bool, filter, reverse, nat_lt}
 use Rattle.std.specs.Borrow.{Bor}
 use Rattle.std.specs.List.{FoldsTo}
 use Rattle.std.proofs.lemmas.List.{length-append, length-map, reverse-reverse, reverse-append, map-append}
-use Rattle.lru_entries.specs.declared.entry.Entry.{Entry}
-use Rattle.lru_cache.specs.Cache.{Cached, RetainsLast, with_entries}
-use Rattle.lru_entries.specs.Entries.{Asks, kept_of, gone_of}
+use Rattle.lru_owned_cache.specs.declared.entry.Entry.{Entry}
+use Rattle.lru_owned_cache.specs.Cache.{Cached, RetainsLast, with_entries}
+use Rattle.lru_owned_cache.specs.Entries.{Asks, kept_of, gone_of}
 use Rattle.lru_deadlines.specs.declared.deadlines.Until.{Until}
 use Rattle.lru_deadlines.specs.Deadlines.{is_past, last_of, before_last, Sweeps}
 

@@ -1,12 +1,12 @@
 -- A cache whose entries have deadlines: what is answered at a time, and what goes.
 use Rattle.std.specs.Prelude.{◌≡◌, ℕ, ◌-◌, nat_lt, nat_le, ◌&&◌, Bool, not, List, [], ◌++◌, length, take, drop, filter, ◌⊎◌, ◌∷◌, Option, Some, None, Result, Ok, Err, is_some, if◌then◌else◌}
 use Rattle.std.specs.Borrow.{MutBor}
-use Rattle.lru_entries.specs.declared.entry.Entry.{Entry}
+use Rattle.lru_owned_cache.specs.declared.entry.Entry.{Entry}
 use Rattle.lru_rows.specs.Rows.{Updates}
-use Rattle.lru_cache.specs.declared.cache.Refused.{Refused}
-use Rattle.lru_cache.specs.declared.cache.NotPut.{NotPut}
-use Rattle.lru_cache.specs.Cache.{Cached, entry_of, without, used, with_entries, UpdatesEntry, Puts, Reweighs, UsesOrPuts}
-use Rattle.lru_entries.specs.Entries.{entry, weight_of, IsShown}
+use Rattle.lru_owned_cache.specs.declared.cache.Refused.{Refused}
+use Rattle.lru_owned_cache.specs.declared.cache.NotPut.{NotPut}
+use Rattle.lru_owned_cache.specs.Cache.{Cached, entry_of, without, used, with_entries, UpdatesEntry, Puts, Reweighs, UsesOrPuts}
+use Rattle.lru_owned_cache.specs.Entries.{entry, weight_of, IsShown}
 use Rattle.lru_deadlines.specs.declared.deadlines.Until.{Until}
 
 abbrev pub until : {V : Type 0} → V → ℕ → Until V

@@ -1,16 +1,15 @@
 //! A cache of one owner, whose entries have deadlines.
-ghost use Rattle.std.specs.Prelude.{◌≡◌, ◌+◌, ◌≤◌, length, map, is_some, nat_eq, nat_lt, IfOk};
+ghost use Rattle.std.specs.Prelude.{◌≡◌, length, map, is_some, nat_eq, nat_lt, IfOk};
 ghost use Rattle.std.specs.Option.{option_map, option_copied};
 ghost use Rattle.lru_index.specs.Hashing.{key_hash, seeded, unseeded};
-ghost use Rattle.lru_rows.specs.Rows.{most_rows};
-ghost use Rattle.lru_cache.specs.Cache.{empty, hashes_from, entry_of, without, demoted, with_entries, parts_of, IsCache, Puts, PopsLast, PopsFirst, Limits, Clears, Drains, Retains};
-ghost use Rattle.lru_entries.specs.Entries.{weight_of};
-ghost use Rattle.lru_deadlines.specs.Deadlines.{until, living, has_room, PromotesLiving, UpdatesLiving, UpdatesIfLiving, ReweighsLiving, UsesOrPutsLiving, TakesPast, Sweeps, MakesRoom, PutsAt};
+ghost use Rattle.lru_owned_cache.specs.Cache.{empty, hashes_from, entry_of, demoted, with_entries, parts_of, IsCache};
+ghost use Rattle.lru_owned_cache.specs.Entries.{weight_of};
+ghost use Rattle.lru_deadlines.specs.Deadlines.{living, PromotesLiving, UpdatesLiving, UpdatesIfLiving};
 
-use lru_cache::cache::{Cache, Entry, NotPut, Refused};
 use lru_index::alike::SameHashes;
 use lru_index::hashing::SeededHashes;
 use lru_index::keys::Query;
+use lru_owned_cache::cache::{Cache, Entry};
 use lru_pairs::iter::{PairsEntries, PairsKeys};
 use std::alloc::{AllocError, Global};
 use std::hash::{BuildHasher, Hash};
@@ -47,11 +46,11 @@ impl<V> Until<V> {
 /// What is handed over, an `Entry` of an `Until`, has its deadline with it.
 #[derive(Drop)]
 pub struct DeadlineCache<K: Hash, V, S: BuildHasher = SeededHashes> {
-    cache: Cache<K, Until<V>, S>,
+    pub(crate) cache: Cache<K, Until<V>, S>,
 }
 
 impl<K: Hash, V, S: BuildHasher> Model for DeadlineCache<K, V, S> {
-    ghost use Rattle.lru_cache.specs.Cache.{Cached, cached_code};
+    ghost use Rattle.lru_owned_cache.specs.Cache.{Cached, cached_code};
     ghost use Rattle.lru_deadlines.specs.Codes.{until_code};
     ghost use Rattle.lru_deadlines.specs.declared.deadlines.Until.{Until};
 
@@ -270,14 +269,6 @@ impl<K: Hash, V, S: BuildHasher> DeadlineCache<K, V, S> {
         self.cache.update_hashed(query, hash, update)
     }
 
-    // Whether an entry of this weight has room beside all that are there.
-    fn has_room(&self, weight: usize) -> bool
-        ensures { result ≡ has_room weight self.now }
-    {
-        let most = self.most_weight();
-        weight <= most && self.weight() <= most - weight && self.len() < self.most_entries()
-    }
-
     /// The keys, most recent first, with those whose entries are past their deadline.
     pub fn keys(&self) -> PairsKeys<'_, K, Until<V>>
         ensures { result ≡ map (λ e. e.key) self.now.entries }
@@ -304,89 +295,6 @@ impl<K: Hash, V, S: BuildHasher> DeadlineCache<K, V, S> {
 }
 
 impl<K: Hash + Drop, V: Drop, S: BuildHasher> DeadlineCache<K, V, S> {
-    /// Puts an entry first, in place of its key's, and answers that one, also where it was past its deadline. Then the
-    /// entries that were used longest ago go, as many as have to for the others to be within the limits, and each is handed
-    /// to `visit`. A deadline that is past already is taken as any other.
-    ///
-    /// # Errors
-    ///
-    /// As for `put` of a `Cache`. Key and value are handed back, and nothing changes.
-    pub fn put_until<F: FnMut(Entry<K, Until<V>>) + Drop>(
-        &mut self,
-        key: K,
-        value: V,
-        weight: usize,
-        deadline: u64,
-        visit: F,
-    ) -> Result<Option<Entry<K, Until<V>>>, Refused<K, Until<V>>>
-        requires { F.IsAlwaysCallable visit }
-        ensures { Puts K.eq (λ p x q. F.step p x tt q) visit self.old key (until value deadline) weight result self.new }
-    {
-        self.cache
-            .put(key, Until { value, deadline }, weight, visit)
-    }
-
-    /// Puts an entry as `put_until` does, but for what goes: where it has no room beside all that are there, the last `LOOK`
-    /// entries are looked at first, those that were used longest ago, and of those go that are past their deadline, each
-    /// handed to `visit`. So what is past goes before what lives, as far as it is looked for. The look takes a time that
-    /// doesn't grow with the entries.
-    ///
-    /// # Errors
-    ///
-    /// As for `put` of a `Cache`. Key and value are handed back, and no entry goes but those.
-    pub fn put_at<F: FnMut(Entry<K, Until<V>>) + Drop>(
-        &mut self,
-        time: u64,
-        key: K,
-        until: Until<V>,
-        weight: usize,
-        mut visit: F,
-    ) -> Result<Option<Entry<K, Until<V>>>, Refused<K, Until<V>>>
-        requires visit { (f : _) (x : _) → F.pre f x }
-        ensures { PutsAt K.eq (λ p x q. F.step p x tt q) visit time self.old key until weight result self.new }
-    {
-        self.make_room(time, weight, |entry: Entry<K, Until<V>>| visit(entry));
-        self.cache.put(key, until, weight, visit)
-    }
-
-    /// `put_until`, where the key's hash is known.
-    ///
-    /// # Errors
-    ///
-    /// As for `put_until`.
-    #[inline(always)]
-    pub fn put_hashed<F: FnMut(Entry<K, Until<V>>) + Drop>(
-        &mut self,
-        key: K,
-        until: Until<V>,
-        weight: usize,
-        hash: u64,
-        visit: F,
-    ) -> Result<Option<Entry<K, Until<V>>>, Refused<K, Until<V>>>
-        requires hash { hash ≡ key_hash S.BuildHasher S.Hasher.Hasher K.hash_input self.old.hashes key }
-        requires visit { F.IsAlwaysCallable visit }
-        ensures { Puts K.eq (λ p x q. F.step p x tt q) visit self.old key until weight result self.new }
-    {
-        self.cache.put_hashed(key, until, weight, hash, visit)
-    }
-
-    /// Where an entry of this weight has no room beside all that are there, looks at the `LOOK` entries that were used longest
-    /// ago, takes those out that are past their deadline, and hands each to `visit`. The others stay where they are.
-    pub fn make_room<F: FnMut(Entry<K, Until<V>>) + Drop>(
-        &mut self,
-        time: u64,
-        weight: usize,
-        visit: F,
-    )
-        requires { F.IsAlwaysCallable visit }
-        ensures { MakesRoom (λ p x q. F.step p x tt q) visit time weight self.old self.new }
-    {
-        if self.has_room(weight) {
-            return;
-        }
-        self.sweep(time, LOOK, visit);
-    }
-
     /// Uses a key: its entry goes first. It answers whether there is one.
     ///
     /// # Errors
@@ -452,178 +360,5 @@ impl<K: Hash + Drop, V: Drop, S: BuildHasher> DeadlineCache<K, V, S> {
             Some(past) => Err(past),
             None => Ok(self.cache.update_by(query, update)),
         }
-    }
-
-    /// Uses a key, lends its value and its deadline to `change` with its weight, and gives it the weight that `change`
-    /// answers. Then the entries that were used longest ago go, as many as have to for the others to be within the limits,
-    /// and each is handed to `visit`. It answers whether the key has an entry. Where it has none, nothing is called.
-    ///
-    /// # Errors
-    ///
-    /// The entry is past its deadline, and is handed over, and nothing is called; or it is too heavy by itself then, and is
-    /// handed back as it is then. It goes in either case, and no other does.
-    pub fn reweigh<U, F>(
-        &mut self,
-        time: u64,
-        key: &K,
-        change: U,
-        visit: F,
-    ) -> Result<bool, Entry<K, Until<V>>>
-    where
-        U: FnOnce(&mut Until<V>, usize) -> usize + Drop,
-        F: FnMut(Entry<K, Until<V>>) + Drop,
-        requires change { U.IsAlwaysCallable change }
-        requires visit { F.IsAlwaysCallable visit }
-        ensures { ReweighsLiving K.eq (U.post change) (λ p x q. F.step p x tt q) visit time self.old key.now result self.new }
-    {
-        match self.take_past(time, key) {
-            Some(past) => Err(past),
-            None => self.cache.reweigh(key, change, visit),
-        }
-    }
-
-    /// Uses a key, and answers true; or puts an entry of it that `make` makes, value and deadline and weight, as `put_until`
-    /// does, and answers false. `make` is called only where the key has no entry that is in its time. One that is past its
-    /// deadline is taken out first, and is handed to `visit`.
-    ///
-    /// # Errors
-    ///
-    /// `make` made none, or the entry was refused. What is not put is handed back, and no entry goes but one of this key that
-    /// is past its deadline.
-    pub fn use_or_put<E: Drop, M, F>(
-        &mut self,
-        time: u64,
-        key: K,
-        make: M,
-        mut visit: F,
-    ) -> Result<bool, NotPut<K, Until<V>, E>>
-    where
-        M: FnOnce() -> Result<(Until<V>, usize), E> + Drop,
-        F: FnMut(Entry<K, Until<V>>) + Drop,
-        requires make { M.IsAlwaysCallable make }
-        requires visit { (f : _) (x : _) → F.pre f x }
-        ensures { UsesOrPutsLiving K.eq (M.post make) (λ p x q. F.step p x tt q) visit time self.old key result self.new }
-    {
-        if let Some(past) = self.take_past(time, &key) {
-            visit(past);
-            return self.cache.use_or_put(key, make, visit);
-        }
-        self.cache.use_or_put(key, make, visit)
-    }
-
-    /// Makes room for `additional` more entries. Nothing else changes, also where it is refused.
-    ///
-    /// # Errors
-    ///
-    /// There is no memory for that many, or there can't be as many entries.
-    pub fn reserve(&mut self, additional: usize) -> Result<(), AllocError>
-        ensures same { self.new ≡ self.old }
-        ensures room { IfOk result (λ _. length self.new.entries + additional ≤ most_rows) }
-    {
-        self.cache.reserve(additional)
-    }
-
-    /// Gives the cache other limits. Then the entries that were used longest ago go, as many as have to, and each is handed
-    /// to `visit`.
-    pub fn set_limits<F: FnMut(Entry<K, Until<V>>) + Drop>(
-        &mut self,
-        most_weight: usize,
-        most_entries: usize,
-        visit: F,
-    )
-        requires { F.IsAlwaysCallable visit }
-        ensures { Limits (λ p x q. F.step p x tt q) visit self.old most_weight most_entries self.new }
-    {
-        self.cache.set_limits(most_weight, most_entries, visit);
-    }
-
-    /// Asks `keep` of each entry, the one that was used longest ago first, by its key, its value with its deadline, and its
-    /// weight, and lets those go for which it answers false. The others stay, in their order.
-    pub fn retain<F: FnMut(&K, &Until<V>, usize) -> bool + Drop>(&mut self, keep: F)
-        requires { F.IsAlwaysCallable keep }
-        ensures { Retains (λ p k v w b q. F.step p k v w b q) keep self.old self.new }
-    {
-        self.cache.retain(keep);
-    }
-
-    // Takes a key's entry out where it is past its deadline.
-    fn take_past<Q: Query<K>>(&mut self, time: u64, query: Q) -> Option<Entry<K, Until<V>>>
-        ensures { TakesPast Q.stands_for time self.old query result self.new }
-    {
-        let until = self.cache.peek_by(query)?;
-        if !until.is_past(time) {
-            return None;
-        }
-        self.remove_by(query)
-    }
-
-    /// Looks at the `most` entries that were used longest ago, or at all where there are fewer, takes those out that are
-    /// past their deadline, and hands each to `visit`, the one that was used longest ago first. The others stay where they
-    /// are. The time that it takes grows with `most`, and not with the entries: called now and then with a small `most`
-    /// it keeps the end clean.
-    pub fn sweep<F: FnMut(Entry<K, Until<V>>) + Drop>(&mut self, time: u64, most: usize, visit: F)
-        requires { F.IsAlwaysCallable visit }
-        ensures { Sweeps (λ p x q. F.step p x tt q) visit time most self.old self.new }
-    {
-        let keep = move |_key: &K, until: &Until<V>, _weight: usize| !until.is_past(time);
-        self.cache.retain_last(most, keep, visit);
-    }
-
-    /// Takes a key's entry out, also where it is past its deadline.
-    pub fn remove(&mut self, key: &K) -> Option<Entry<K, Until<V>>>
-        ensures answer { result ≡ entry_of K.eq self.old.entries key.now }
-        ensures entries { self.new ≡ with_entries self.old (without K.eq self.old.entries key.now) }
-    {
-        self.remove_by(key)
-    }
-
-    /// As `remove`, by what stands for the key.
-    pub fn remove_by<Q: Query<K>>(&mut self, query: Q) -> Option<Entry<K, Until<V>>>
-        ensures answer { result ≡ entry_of Q.stands_for self.old.entries query }
-        ensures entries { self.new ≡ with_entries self.old (without Q.stands_for self.old.entries query) }
-    {
-        self.cache.remove_by(query)
-    }
-
-    /// `remove_by`, where the query's hash is known.
-    #[inline(always)]
-    pub fn remove_hashed<Q: Query<K>>(&mut self, query: Q, hash: u64) -> Option<Entry<K, Until<V>>>
-        requires { hash ≡ key_hash S.BuildHasher S.Hasher.Hasher Q.hash_input self.old.hashes query }
-        ensures answer { result ≡ entry_of Q.stands_for self.old.entries query }
-        ensures entries { self.new ≡ with_entries self.old (without Q.stands_for self.old.entries query) }
-    {
-        self.cache.remove_hashed(query, hash)
-    }
-
-    /// Takes the entry out that was used longest ago, also where it is past its deadline.
-    pub fn pop_last(&mut self) -> Option<Entry<K, Until<V>>>
-        ensures { PopsLast self.old result self.new }
-    {
-        self.cache.pop_last()
-    }
-
-    /// Takes the entry out that was used last, also where it is past its deadline.
-    pub fn pop_first(&mut self) -> Option<Entry<K, Until<V>>>
-        ensures { PopsFirst self.old result self.new }
-    {
-        self.cache.pop_first()
-    }
-
-    /// Lets all entries go, the one that was used longest ago first, and hands each to `visit`. The limits stay, and so do
-    /// the places: as many entries as went take no memory again.
-    pub fn clear<F: FnMut(Entry<K, Until<V>>) + Drop>(&mut self, visit: F)
-        requires { F.IsAlwaysCallable visit }
-        ensures { Clears (λ p x q. F.step p x tt q) visit self.old self.new }
-    {
-        self.cache.clear(visit);
-    }
-
-    /// Lets all entries go, the one that was used last first, and hands each to `visit`. The limits stay, and so do the
-    /// places, as for `clear`.
-    pub fn drain<F: FnMut(Entry<K, Until<V>>) + Drop>(&mut self, visit: F)
-        requires { F.IsAlwaysCallable visit }
-        ensures { Drains (λ p x q. F.step p x tt q) visit self.old self.new }
-    {
-        self.cache.drain(visit);
     }
 }

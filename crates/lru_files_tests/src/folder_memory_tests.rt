@@ -1,6 +1,6 @@
 //! Want of memory in the calls of a folder in memory: a call does what it is to do, or answers `Memory` and leaves the files
 //! as they were; then it is made again, and does it. The gate runs this with memory for all; `rt try --test --fail-alloc N`
-//! refuses the request number N. The gate's sweep refuses each request of `lru_sweep_files` in turn, which has saves and loads
+//! refuses the request number N. The gate's sweep refuses each request of `lru_sweep` in turn, which has saves and loads
 //! over such a folder.
 ghost use Rattle.std.specs.Prelude.{◌≡◌};
 ghost use Rattle.pingora_lru_files.specs.Folder.{IsWriting};

@@ -1,6 +1,6 @@
 //! Want of memory in the calls on a core: a call gives its answer, or the refusal that says memory; then it is made again, and
 //! gives its answer. The gate runs this with memory for all; `rt try --test --fail-alloc N` refuses the request number N,
-//! so at most one of two runs of a script meets a refusal. The gate's sweep refuses each request of `lru_sweep_files` in
+//! so at most one of two runs of a script meets a refusal. The gate's sweep refuses each request of `lru_sweep` in
 //! turn, which saves and loads cores.
 ghost use Rattle.std.specs.Prelude.{◌<◌};
 

@@ -10,3 +10,4 @@ pub mod Sparing
 pub mod TextsFault
 pub mod Texts
 pub mod Blames
+pub mod SyncedNames

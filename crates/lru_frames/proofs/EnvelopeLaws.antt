@@ -3,8 +3,8 @@ use Rattle.std.proofs.Common.{◌≡◌, ℕ, ◌+◌, ◌^◌, ◌<◌, ◌≤�
 use Rattle.std.proofs.lemmas.Bool.{cases_lt}
 use Rattle.std.proofs.Common.{drop, take, ◌≢◌, Result, Err}
 use Rattle.std.proofs.lemmas.List.{take_at, drop_at, length-take, take-append-drop, append-nil, nil_from_length, length-append}
-use Rattle.lru_crc64.specs.Crc.{crc_of, residue}
-use Rattle.lru_crc64.proofs.CrcLaws.{one_window, with_check as checked_twice}
+use Rattle.lru_frames.specs.Crc.{crc_of, residue}
+use Rattle.lru_frames.proofs.CrcLaws.{one_window, with_check as checked_twice}
 use Rattle.lru_frames.specs.declared.errors.Part.{Part}
 use Rattle.lru_frames.specs.declared.errors.Part.TheVariants.{Length}
 use Rattle.lru_frames.specs.Words.{word}

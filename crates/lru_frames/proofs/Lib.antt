@@ -3,3 +3,9 @@ pub mod RowsLaws
 pub mod Copied
 pub mod FrameLaws
 pub mod MarkLaws
+pub mod Xors
+pub mod Steps
+pub mod CrcLaws
+pub mod TableLaws
+pub mod LaneLaws
+pub mod WindowLaws

@@ -1,12 +1,12 @@
 -- The mark of sealed bytes.
 use Rattle.std.proofs.Common.{◌≡◌, ℕ, ◌+◌, ◌^◌, ◌<◌, List, [], ◌++◌, length, sym, ap, ◌∙◌, arith, length-append, append-nil}
-use Rattle.lru_crc64.specs.Crc.{crc_of}
+use Rattle.lru_frames.specs.Crc.{crc_of}
 use Rattle.lru_frames.specs.Words.{word}
 use Rattle.lru_frames.specs.WordLaws.{same_parts, length-word, one_word}
 use Rattle.lru_frames.specs.Envelope.{front_of, sealed}
 use Rattle.lru_frames.specs.declared.mark.Mark.{Mark}
 use Rattle.lru_frames.specs.Marks.{mark_in}
-use Rattle.lru_crc64.proofs.CrcLaws.{crc_below}
+use Rattle.lru_frames.proofs.CrcLaws.{crc_below}
 use Rattle.lru_frames.proofs.EnvelopeLaws.{sealed_is_checked, length-sealed}
 
 -- the number at the end of sealed bytes is their check

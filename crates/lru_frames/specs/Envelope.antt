@@ -1,7 +1,7 @@
 -- What stands around the content of a file: a magic, a version and the length before it, a check behind it.
 use Rattle.std.specs.Prelude.{◌≡◌, ◌≢◌, ℕ, ◌+◌, ◌<◌, ◌≤◌, List, ◌++◌, length}
 use Rattle.std.specs.List.{AllByRecursion}
-use Rattle.lru_crc64.specs.Crc.{crc_of}
+use Rattle.lru_frames.specs.Crc.{crc_of}
 use Rattle.lru_frames.specs.Words.{word}
 
 -- the bytes of the text LRUFRAME as a number

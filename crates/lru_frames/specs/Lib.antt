@@ -14,3 +14,6 @@ pub mod Frame
 pub mod Causes
 pub mod Marks
 pub mod Sources
+pub mod Crc
+pub mod CrcLanes
+pub mod CrcWindows

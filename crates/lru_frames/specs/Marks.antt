@@ -1,6 +1,6 @@
 -- What tells a frame from every other one.
 use Rattle.std.specs.Prelude.{◌≡◌, ℕ, ◌+◌, List, length}
-use Rattle.lru_crc64.specs.Crc.{crc_of}
+use Rattle.lru_frames.specs.Crc.{crc_of}
 use Rattle.lru_frames.specs.declared.errors.Part.{Part}
 use Rattle.lru_frames.specs.declared.errors.Part.TheVariants as part
 use Rattle.lru_frames.specs.declared.frame.Header.{Header}

@@ -5,9 +5,9 @@ ghost use Rattle.lru_frames.specs.Words.{word};
 ghost use Rattle.lru_frames.specs.Causes.{IsWrongAround};
 ghost use Rattle.lru_frames.specs.Envelope.{head_of, with_check, sealed};
 
+use crate::crc64;
 use crate::errors::Part;
 use crate::words::{put_word, take_word};
-use lru_crc64::crc64;
 use std::alloc::AllocError;
 
 // The bytes of the text LRUFRAME as a number.

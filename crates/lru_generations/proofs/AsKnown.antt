@@ -4,10 +4,10 @@ use Rattle.lru_folder.specs.Files.{Files}
 use Rattle.lru_folder.specs.Meaning.{Meaning}
 use Rattle.lru_frames.specs.declared.mark.Mark.{Mark}
 use Rattle.lru_frames.specs.declared.row.Row.{Row}
-use Rattle.lru_manifests.specs.declared.manifest.Manifest.{Manifest}
-use Rattle.lru_checkpoints.specs.Checkpoints.{IsTaken, IsWhole}
-use Rattle.lru_checkpoints.proofs.Saved.{leaves_more, loses_more}
-use Rattle.lru_checkpoints.proofs.Taken.{whole_taken}
+use Rattle.lru_generations.specs.declared.manifest.Manifest.{Manifest}
+use Rattle.lru_generations.specs.Checkpoints.{IsTaken, IsWhole}
+use Rattle.lru_generations.proofs.Saved.{leaves_more, loses_more}
+use Rattle.lru_generations.proofs.Taken.{whole_taken}
 use Rattle.lru_generations.specs.Newest.{IsAsKnown, IsHighestTaken, IsNewest, IsTakenAt, IsWholeAt}
 use Rattle.lru_generations.specs.Saving.{IsSavedAfter, SavesAfter, SavesNext}
 

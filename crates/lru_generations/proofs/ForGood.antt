@@ -7,20 +7,20 @@ use Rattle.lru_folder.specs.Meaning.{Meaning}
 use Rattle.lru_folder.specs.Names.{has_slash}
 use Rattle.lru_folder.proofs.LossLemmas.{loses_on}
 use Rattle.lru_folder.proofs.Moments.{goes_on}
-use Rattle.lru_synced_folder.specs.Names.{HasNames, IsIn}
+use Rattle.lru_folder.specs.SyncedNames.{HasNames, IsIn}
 use Rattle.lru_frames.specs.declared.row.Row.{Row}
-use Rattle.lru_manifests.specs.declared.names.PartName.{PartName}
-use Rattle.lru_manifests.specs.declared.names.PartName.TheVariants.{Frame, Manifest, Temp}
-use Rattle.lru_manifests.specs.Names.{IsPart, part_path, part_text, frame_path, manifest_path}
-use Rattle.lru_manifests.proofs.NameLaws.{has_slash-part_text}
-use Rattle.lru_whole_files.specs.Touching.{IsSameBut, TouchesOnly}
-use Rattle.lru_checkpoints.specs.declared.errors.CheckpointError.{CheckpointError}
-use Rattle.lru_checkpoints.specs.declared.errors.CheckpointError.TheVariants as error
-use Rattle.lru_checkpoints.specs.Causes.{HasSaveReason}
-use Rattle.lru_checkpoints.specs.Checkpoints.{Shards, AreFirm, AreHandedOut, HasCheckpoint, IsOldOrNew, IsPartOf, SavesCheckpoint, most_shards}
-use Rattle.lru_checkpoints.specs.Loads.{IsFault}
-use Rattle.lru_checkpoints.proofs.Lists.{get-below}
-use Rattle.lru_checkpoints.proofs.Saved.{frame-apart-manifest, temp-apart-manifest, leaves_more, loses_more}
+use Rattle.lru_generations.specs.declared.names.PartName.{PartName}
+use Rattle.lru_generations.specs.declared.names.PartName.TheVariants.{Frame, Manifest, Temp}
+use Rattle.lru_generations.specs.Names.{IsPart, part_path, part_text, frame_path, manifest_path}
+use Rattle.lru_generations.proofs.NameLaws.{has_slash-part_text}
+use Rattle.lru_generations.specs.Touching.{IsSameBut, TouchesOnly}
+use Rattle.lru_generations.specs.declared.errors.CheckpointError.{CheckpointError}
+use Rattle.lru_generations.specs.declared.errors.CheckpointError.TheVariants as error
+use Rattle.lru_generations.specs.Causes.{HasSaveReason}
+use Rattle.lru_generations.specs.Checkpoints.{Shards, AreFirm, AreHandedOut, HasCheckpoint, IsOldOrNew, IsPartOf, SavesCheckpoint, most_shards}
+use Rattle.lru_generations.specs.Loads.{IsFault}
+use Rattle.lru_generations.proofs.Lists.{get-below}
+use Rattle.lru_generations.proofs.Saved.{frame-apart-manifest, temp-apart-manifest, leaves_more, loses_more}
 use Rattle.lru_generations.specs.Saving.{IsUnfinished}
 
 -- a part has a name in the folder

@@ -6,18 +6,18 @@ use Rattle.lru_folder.specs.Files.{Files, Same}
 use Rattle.lru_folder.specs.Folder.{LeavesOnly, Passes}
 use Rattle.lru_folder.specs.Meaning.{Meaning}
 use Rattle.lru_folder.proofs.Moments.{goes_on, then_run}
-use Rattle.lru_manifests.specs.declared.manifest.Manifest as told
-use Rattle.lru_manifests.specs.declared.names.PartName.{PartName}
-use Rattle.lru_manifests.specs.declared.names.PartName.TheVariants.{Frame, Manifest, Temp}
-use Rattle.lru_manifests.specs.Listing.{IsAnyManifest, IsTemp}
-use Rattle.lru_manifests.specs.Names.{IsPart, generation_of, part_path, frame_path, manifest_path}
-use Rattle.lru_whole_files.specs.Touching.{IsSameBut, TouchesNothing, TouchesOnly}
-use Rattle.lru_checkpoints.specs.Checkpoints.{IsPartOf}
-use Rattle.lru_checkpoints.proofs.Saved.{one_part, leaves_more}
-use Rattle.lru_checkpoints.proofs.Taken.{taken_manifest}
-use Rattle.lru_manifests.specs.Manifests.{manifest_bytes}
+use Rattle.lru_generations.specs.declared.manifest.Manifest as told
+use Rattle.lru_generations.specs.declared.names.PartName.{PartName}
+use Rattle.lru_generations.specs.declared.names.PartName.TheVariants.{Frame, Manifest, Temp}
+use Rattle.lru_generations.specs.Listing.{IsAnyManifest, IsTemp}
+use Rattle.lru_generations.specs.Names.{IsPart, generation_of, part_path, frame_path, manifest_path}
+use Rattle.lru_generations.specs.Touching.{IsSameBut, TouchesNothing, TouchesOnly}
+use Rattle.lru_generations.specs.Checkpoints.{IsPartOf}
+use Rattle.lru_generations.proofs.Saved.{one_part, leaves_more}
+use Rattle.lru_generations.proofs.Taken.{taken_manifest}
+use Rattle.lru_generations.specs.Manifests.{manifest_bytes}
 use Rattle.lru_generations.specs.Newest.{HasManifest, IsHighestTaken}
-use Rattle.lru_checkpoints.specs.declared.errors.CheckpointError.{CheckpointError}
+use Rattle.lru_generations.specs.declared.errors.CheckpointError.{CheckpointError}
 use Rattle.lru_generations.specs.Removing.{IsPathOf, NamesOnly}
 use Rattle.lru_generations.specs.Saving.{IsLeft, IsOlder, IsSurveyed, KeepsFrames, NamesOlder}
 

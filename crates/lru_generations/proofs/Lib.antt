@@ -1,3 +1,17 @@
+pub mod Lists
+pub mod Saved
+pub mod Loaded
+pub mod Marked
+pub mod Taken
+pub mod NameLaws
+pub mod NumberLaws
+pub mod ManifestLaws
+pub mod Members
+pub mod ListingLaws
+pub mod FolderLaws
+pub mod Touched
+pub mod Replaced
+pub mod Removed
 pub mod ForGood
 pub mod SavedNext
 pub mod Passing

@@ -6,10 +6,10 @@ use Rattle.std.proofs.lemmas.List.{get_or_default, map-append, take-append-drop,
 use Rattle.std.proofs.lemmas.List.Elements.{Contains-push_cases}
 use Rattle.std.specs.Prelude.{◌↔◌, AllPairs, Contains, IfOk, Option, map}
 use Rattle.lru_folder.specs.Files.{Files}
-use Rattle.lru_manifests.specs.declared.names.PartName.{PartName}
-use Rattle.lru_manifests.specs.declared.names.PartName.TheVariants.{Manifest}
-use Rattle.lru_manifests.specs.Listing.{HasParts}
-use Rattle.lru_manifests.specs.Names.{generation_of}
+use Rattle.lru_generations.specs.declared.names.PartName.{PartName}
+use Rattle.lru_generations.specs.declared.names.PartName.TheVariants.{Manifest}
+use Rattle.lru_generations.specs.Listing.{HasParts}
+use Rattle.lru_generations.specs.Names.{generation_of}
 use Rattle.lru_generations.specs.declared.newest.Passed.{Passed}
 use Rattle.lru_generations.specs.Newest.{AreGenerations, AreGenerationsBelow, IsBelow, IsFront}
 

@@ -9,14 +9,14 @@ use Rattle.lru_frames.specs.declared.frame.Header.{Header}
 use Rattle.lru_frames.specs.declared.mark.Mark.{Mark}
 use Rattle.lru_frames.specs.Causes.{IsWrong}
 use Rattle.lru_frames.specs.Marks.{IsWrongFrame}
-use Rattle.lru_manifests.specs.Manifests.{manifest_bytes}
-use Rattle.lru_manifests.specs.Names.{manifest_path, frame_path}
-use Rattle.lru_whole_files.specs.declared.errors.CallFault.{CallFault}
-use Rattle.lru_whole_files.specs.Touching.{HasReason}
-use Rattle.lru_checkpoints.specs.declared.errors.CheckpointError.{CheckpointError}
-use Rattle.lru_checkpoints.specs.declared.errors.CheckpointError.TheVariants.{Memory, Folder, Missing, Damaged, Other, LastGeneration, InUse}
-use Rattle.lru_checkpoints.specs.Checkpoints.{IsWholeFrame}
-use Rattle.lru_checkpoints.specs.Loads.{IsCallFault, IsFault, IsOtherFrame, IsRefused, IsRefusedByCheck, IsRefusedFrame, IsRefusedManifest, IsRefusedShard}
+use Rattle.lru_generations.specs.Manifests.{manifest_bytes}
+use Rattle.lru_generations.specs.Names.{manifest_path, frame_path}
+use Rattle.lru_generations.specs.declared.file_errors.CallFault.{CallFault}
+use Rattle.lru_generations.specs.Touching.{HasReason}
+use Rattle.lru_generations.specs.declared.errors.CheckpointError.{CheckpointError}
+use Rattle.lru_generations.specs.declared.errors.CheckpointError.TheVariants.{Memory, Folder, Missing, Damaged, Other, LastGeneration, InUse}
+use Rattle.lru_generations.specs.Checkpoints.{IsWholeFrame}
+use Rattle.lru_generations.specs.Loads.{IsCallFault, IsFault, IsOtherFrame, IsRefused, IsRefusedByCheck, IsRefusedFrame, IsRefusedManifest, IsRefusedShard}
 use Rattle.std.specs.Prelude.{IsTrue}
 use Rattle.lru_folder.specs.Places.{can_list}
 use Rattle.lru_generations.specs.Faults.{IsFailed, IsUnlisted}

@@ -13,18 +13,18 @@ use Rattle.lru_folder.proofs.LossLemmas.{then_loses, loses_on}
 use Rattle.lru_folder.proofs.Moments.{then_run, goes_on}
 use Rattle.lru_frames.specs.declared.mark.Mark.{Mark}
 use Rattle.lru_frames.specs.declared.row.Row.{Row}
-use Rattle.lru_synced_folder.specs.Names.{IsIn}
-use Rattle.lru_manifests.specs.declared.manifest.Manifest as told
-use Rattle.lru_manifests.specs.declared.names.PartName.{PartName}
-use Rattle.lru_manifests.specs.declared.names.PartName.TheVariants.{Frame, Manifest}
-use Rattle.lru_manifests.specs.Listing.{IsTemp}
-use Rattle.lru_manifests.specs.Names.{IsPart, generation_of, part_path, part_text, manifest_path}
-use Rattle.lru_manifests.proofs.NameLaws.{has_slash-part_text}
-use Rattle.lru_whole_files.specs.Touching.{IsSameBut, TouchesNothing, TouchesOnly}
-use Rattle.lru_checkpoints.specs.Checkpoints.{Shards, AreHandedOut, HasCheckpoint, HasNew, IsOldOrNew, IsPartOf, IsWhole, SavesCheckpoint}
-use Rattle.lru_checkpoints.proofs.Lists.{get-below, never}
-use Rattle.lru_checkpoints.proofs.Saved.{one_part, leaves_more, loses_more}
-use Rattle.lru_checkpoints.proofs.Taken.{taken_manifest}
+use Rattle.lru_folder.specs.SyncedNames.{IsIn}
+use Rattle.lru_generations.specs.declared.manifest.Manifest as told
+use Rattle.lru_generations.specs.declared.names.PartName.{PartName}
+use Rattle.lru_generations.specs.declared.names.PartName.TheVariants.{Frame, Manifest}
+use Rattle.lru_generations.specs.Listing.{IsTemp}
+use Rattle.lru_generations.specs.Names.{IsPart, generation_of, part_path, part_text, manifest_path}
+use Rattle.lru_generations.proofs.NameLaws.{has_slash-part_text}
+use Rattle.lru_generations.specs.Touching.{IsSameBut, TouchesNothing, TouchesOnly}
+use Rattle.lru_generations.specs.Checkpoints.{Shards, AreHandedOut, HasCheckpoint, HasNew, IsOldOrNew, IsPartOf, IsWhole, SavesCheckpoint}
+use Rattle.lru_generations.proofs.Lists.{get-below, never}
+use Rattle.lru_generations.proofs.Saved.{one_part, leaves_more, loses_more}
+use Rattle.lru_generations.proofs.Taken.{taken_manifest}
 use Rattle.lru_generations.specs.Newest.{IsHighestTaken, IsTakenAt}
 use Rattle.lru_generations.specs.Saving.{AreNamed, IsForGood, IsLeft, IsNew, IsOld, IsOlder, IsSavedAfter, IsSurveyed, IsUnused, SavesAfter}
 

@@ -8,12 +8,12 @@ use Rattle.std.proofs.lemmas.List.Kept.{Contains-dedup_nat, Contains-from_dedup}
 use Rattle.std.proofs.lemmas.List.Sorted.{Contains-permutation, IsPermutation-sym}
 use Rattle.lru_folder.specs.Files.{Files}
 use Rattle.lru_folder.specs.Meaning.{Meaning}
-use Rattle.lru_manifests.specs.declared.names.PartName.{PartName}
-use Rattle.lru_manifests.specs.Listing.{HasParts}
-use Rattle.lru_manifests.specs.Names.{generation_of}
-use Rattle.lru_manifests.proofs.Members.{ComeBy}
-use Rattle.lru_checkpoints.specs.declared.errors.CheckpointError.{CheckpointError}
-use Rattle.lru_checkpoints.specs.Checkpoints.{IsWhole}
+use Rattle.lru_generations.specs.declared.names.PartName.{PartName}
+use Rattle.lru_generations.specs.Listing.{HasParts}
+use Rattle.lru_generations.specs.Names.{generation_of}
+use Rattle.lru_generations.proofs.Members.{ComeBy}
+use Rattle.lru_generations.specs.declared.errors.CheckpointError.{CheckpointError}
+use Rattle.lru_generations.specs.Checkpoints.{IsWhole}
 use Rattle.lru_generations.specs.Told.{AreAll, IsTold}
 use Rattle.lru_generations.proofs.Refusals.{check_again}
 

@@ -2,11 +2,11 @@
 use Rattle.std.specs.Prelude.{◌≡◌, ℕ, List, IsTrue}
 use Rattle.lru_folder.specs.Meaning.{Meaning}
 use Rattle.lru_folder.specs.Places.{can_list}
-use Rattle.lru_whole_files.specs.Touching.{HasReason}
-use Rattle.lru_checkpoints.specs.declared.errors.CheckpointFile.TheVariants as file
-use Rattle.lru_checkpoints.specs.declared.errors.CheckpointError.{CheckpointError}
-use Rattle.lru_checkpoints.specs.declared.errors.CheckpointError.TheVariants.{Memory, Folder, Missing, Damaged, Other, LastGeneration, InUse}
-use Rattle.lru_checkpoints.specs.Loads.{IsCallFault}
+use Rattle.lru_generations.specs.Touching.{HasReason}
+use Rattle.lru_generations.specs.declared.errors.CheckpointFile.TheVariants as file
+use Rattle.lru_generations.specs.declared.errors.CheckpointError.{CheckpointError}
+use Rattle.lru_generations.specs.declared.errors.CheckpointError.TheVariants.{Memory, Folder, Missing, Damaged, Other, LastGeneration, InUse}
+use Rattle.lru_generations.specs.Loads.{IsCallFault}
 
 module _ {F : Type 0} (meaning : Meaning F) where
   -- memory was refused and the device did not fail, or the last call failed, for the device or for memory

@@ -1,3 +1,13 @@
+pub mod Texts
+pub mod Checkpoints
+pub mod Causes
+pub mod Loads
+pub mod Names
+pub mod Manifests
+pub mod Listing
+pub mod Touching
+pub mod Reading
+pub mod Replacing
 pub mod Newest
 pub mod Faults
 pub mod Loaded

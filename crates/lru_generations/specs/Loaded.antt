@@ -1,9 +1,9 @@
 -- What a load answers.
 use Rattle.std.specs.Prelude.{◌≡◌, ◌<◌, ℕ, List, Option, Some, None}
 use Rattle.lru_folder.specs.Files.{Files}
-use Rattle.lru_checkpoints.specs.Checkpoints.{Shards, HasCheckpoint}
-use Rattle.lru_checkpoints.specs.Loads.{AreSameShards, rows_of}
-use Rattle.lru_generations.specs.declared.loading.Checkpoint.{Checkpoint}
+use Rattle.lru_generations.specs.Checkpoints.{Shards, HasCheckpoint}
+use Rattle.lru_generations.specs.Loads.{AreSameShards, rows_of}
+use Rattle.lru_generations.specs.declared.newest_loading.Checkpoint.{Checkpoint}
 use Rattle.lru_generations.specs.Newest.{IsBelow}
 
 -- the number of a checkpoint that was loaded

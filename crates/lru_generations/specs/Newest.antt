@@ -3,11 +3,11 @@ use Rattle.std.specs.Prelude.{◌≡◌, ◌↔◌, ◌<◌, ◌^◌, ℕ, List,
 use Rattle.std.specs.FinMap.{get}
 use Rattle.lru_folder.specs.Files.{Files}
 use Rattle.lru_frames.specs.declared.mark.Mark.{Mark}
-use Rattle.lru_manifests.specs.declared.manifest.Manifest.{Manifest}
-use Rattle.lru_manifests.specs.Names.{manifest_path}
-use Rattle.lru_checkpoints.specs.declared.errors.CheckpointError.{CheckpointError}
-use Rattle.lru_checkpoints.specs.Checkpoints.{IsTaken, IsWhole}
-use Rattle.lru_checkpoints.specs.Loads.{IsFault}
+use Rattle.lru_generations.specs.declared.manifest.Manifest.{Manifest}
+use Rattle.lru_generations.specs.Names.{manifest_path}
+use Rattle.lru_generations.specs.declared.errors.CheckpointError.{CheckpointError}
+use Rattle.lru_generations.specs.Checkpoints.{IsTaken, IsWhole}
+use Rattle.lru_generations.specs.Loads.{IsFault}
 use Rattle.lru_generations.specs.declared.newest.Passed.{Passed}
 
 -- below a bound, where there is one

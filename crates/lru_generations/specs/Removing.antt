@@ -1,12 +1,12 @@
 -- Files of a checkpoint that are removed.
 use Rattle.std.specs.Prelude.{◌≡◌, ℕ, List, Contains}
-use Rattle.lru_manifests.specs.declared.names.PartName.{PartName}
-use Rattle.lru_manifests.specs.declared.names.PartName.TheVariants as part
-use Rattle.lru_manifests.specs.Names.{part_path}
-use Rattle.lru_checkpoints.specs.declared.errors.CheckpointFile.{CheckpointFile}
-use Rattle.lru_checkpoints.specs.declared.errors.CheckpointFile.TheVariants.{Manifest, Shard}
-use Rattle.lru_checkpoints.specs.declared.errors.CheckpointError.{CheckpointError}
-use Rattle.lru_checkpoints.specs.declared.errors.CheckpointError.TheVariants.{Memory, Folder, Missing, Damaged, Other, LastGeneration, InUse}
+use Rattle.lru_generations.specs.declared.names.PartName.{PartName}
+use Rattle.lru_generations.specs.declared.names.PartName.TheVariants as part
+use Rattle.lru_generations.specs.Names.{part_path}
+use Rattle.lru_generations.specs.declared.errors.CheckpointFile.{CheckpointFile}
+use Rattle.lru_generations.specs.declared.errors.CheckpointFile.TheVariants.{Manifest, Shard}
+use Rattle.lru_generations.specs.declared.errors.CheckpointError.{CheckpointError}
+use Rattle.lru_generations.specs.declared.errors.CheckpointError.TheVariants.{Memory, Folder, Missing, Damaged, Other, LastGeneration, InUse}
 
 -- the file that an error tells of
 abbrev pub file_of : PartName → CheckpointFile

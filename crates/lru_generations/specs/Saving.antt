@@ -6,16 +6,16 @@ use Rattle.lru_folder.specs.Folder.{LeavesOnly}
 use Rattle.lru_folder.specs.Losses.{LosesOnly}
 use Rattle.lru_folder.specs.Meaning.{Meaning}
 use Rattle.lru_frames.specs.declared.row.Row.{Row}
-use Rattle.lru_manifests.specs.declared.manifest.Manifest.{Manifest}
-use Rattle.lru_manifests.specs.declared.names.PartName.{PartName}
-use Rattle.lru_manifests.specs.Listing.{HasParts, IsAbove, IsLeftover}
-use Rattle.lru_manifests.specs.Names.{IsPart, generation_of, part_path, frame_path, manifest_temp_path}
-use Rattle.lru_synced_folder.specs.Names.{IsIn}
-use Rattle.lru_checkpoints.specs.declared.errors.CheckpointError.{CheckpointError}
-use Rattle.lru_checkpoints.specs.declared.errors.CheckpointError.TheVariants.{InUse, LastGeneration}
-use Rattle.lru_checkpoints.specs.Checkpoints.{Shards, HasCheckpoint, HasNew, IsFrame}
-use Rattle.lru_checkpoints.specs.Causes.{HasSaveReason}
-use Rattle.lru_checkpoints.specs.Loads.{IsFault, IsRefused, IsRefusedByCheck}
+use Rattle.lru_generations.specs.declared.manifest.Manifest.{Manifest}
+use Rattle.lru_generations.specs.declared.names.PartName.{PartName}
+use Rattle.lru_generations.specs.Listing.{HasParts, IsAbove, IsLeftover}
+use Rattle.lru_generations.specs.Names.{IsPart, generation_of, part_path, frame_path, manifest_temp_path}
+use Rattle.lru_folder.specs.SyncedNames.{IsIn}
+use Rattle.lru_generations.specs.declared.errors.CheckpointError.{CheckpointError}
+use Rattle.lru_generations.specs.declared.errors.CheckpointError.TheVariants.{InUse, LastGeneration}
+use Rattle.lru_generations.specs.Checkpoints.{Shards, HasCheckpoint, HasNew, IsFrame}
+use Rattle.lru_generations.specs.Causes.{HasSaveReason}
+use Rattle.lru_generations.specs.Loads.{IsFault, IsRefused, IsRefusedByCheck}
 use Rattle.lru_generations.specs.declared.newest.Passed.{Passed}
 use Rattle.lru_generations.specs.Faults.{IsFailed}
 use Rattle.lru_generations.specs.Newest.{AreGenerations, ArePassed, HasManifest, IsHighestTaken}

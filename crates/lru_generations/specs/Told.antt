@@ -4,11 +4,11 @@ use Rattle.std.specs.FinMap.{get}
 use Rattle.lru_folder.specs.Files.{Files}
 use Rattle.lru_folder.specs.Meaning.{Meaning}
 use Rattle.lru_frames.specs.declared.mark.Mark.{Mark}
-use Rattle.lru_manifests.specs.declared.names.PartName.{PartName}
-use Rattle.lru_manifests.specs.Names.{IsPart, generation_of, part_path}
-use Rattle.lru_checkpoints.specs.declared.errors.CheckpointError.{CheckpointError}
-use Rattle.lru_checkpoints.specs.Checkpoints.{IsWhole}
-use Rattle.lru_checkpoints.specs.Loads.{IsFault, IsRefused, IsRefusedByCheck}
+use Rattle.lru_generations.specs.declared.names.PartName.{PartName}
+use Rattle.lru_generations.specs.Names.{IsPart, generation_of, part_path}
+use Rattle.lru_generations.specs.declared.errors.CheckpointError.{CheckpointError}
+use Rattle.lru_generations.specs.Checkpoints.{IsWhole}
+use Rattle.lru_generations.specs.Loads.{IsFault, IsRefused, IsRefusedByCheck}
 use Rattle.lru_generations.specs.Newest.{IsWholeAt}
 
 module _ (dir file_name : List ℕ) where

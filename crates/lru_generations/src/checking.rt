@@ -1,139 +1,184 @@
-//! Each generation of a folder: whole, or why it is not.
-ghost use Rattle.std.specs.Prelude.{◌≡◌, ◌↔◌, ◌⊎◌, ◌<◌, ℕ, false, map, AllPairs, Contains, IfErr, IfOk, OnOk};
-ghost use Rattle.lru_folder.specs.Names.{has_slash};
-ghost use Rattle.lru_manifests.specs.declared.names.PartName.{PartName};
-ghost use Rattle.lru_manifests.specs.Names.{generation_of};
-ghost use Rattle.lru_whole_files.specs.Touching.{TouchesNothing};
-ghost use Rattle.lru_checkpoints.specs.Loads.{IsFault};
-ghost use Rattle.lru_generations.specs.declared.checking.Told.{Told};
-ghost use Rattle.lru_generations.specs.Faults.{IsFailed, IsUnlisted};
-ghost use Rattle.lru_generations.specs.Told.{AreAll, IsTold};
+//! A checkpoint of any content, told whole by its checks.
+ghost use Rattle.std.specs.Prelude.{◌≡◌, ◌≢◌, ◌↔◌, ◌<◌, ◌≤◌, ◌^◌, ℕ, suc, List, length, slice_get, IfErr, IfOk, OnOk, Some, IsTrue, option_copied};
+ghost use Rattle.std.specs.FinMap.{get};
+ghost use Rattle.lru_frames.specs.declared.mark.Mark.{Mark};
+ghost use Rattle.lru_frames.specs.Frame.{IsHeader};
+ghost use Rattle.lru_generations.specs.Manifests.{IsManifest, part_header};
+ghost use Rattle.lru_generations.specs.Names.{frame_path};
+ghost use Rattle.lru_generations.specs.Touching.{TouchesNothing};
+ghost use Rattle.lru_generations.specs.Checkpoints.{IsKnown, IsTaken, IsWhole, IsWholeFrame};
+ghost use Rattle.lru_generations.specs.Loads.{IsFault, IsRefused, IsRefusedByCheck};
 
-use crate::listing::parts_of;
-use lru_checkpoints::checking::check_generation;
-use lru_checkpoints::errors::CheckpointError;
+use crate::errors::{CheckpointError, CheckpointFile};
+use crate::file_reading::{Found, read_file};
+use crate::manifest::Manifest;
+use crate::names::frame_path;
+use crate::reading::{load_manifest, unread};
 use lru_folder::folder::Folder;
-use lru_manifests::names::PartName;
-use std::alloc::{AllocError, Global};
+use lru_frames::frame::Header;
+use lru_frames::mark::Mark;
+use lru_frames::marked::inspect;
+use std::alloc::Global;
 
-/// A generation that a folder has a file of.
-#[derive(Clone, Copy, Debug, PartialEq, Eq)]
-pub struct Told {
-    /// Its number.
-    pub generation: u64,
-    /// How many shards it has where it is whole, and else what of it is not there, damaged or of another checkpoint.
-    pub shards: Result<u64, CheckpointError>,
-}
-
-// The generations of these parts, each once, the highest first.
-fn numbers_in(alloc: Global, parts: &[PartName]) -> Result<Vec<u64>, AllocError>
-    ensures found { IfOk result (λ generations. (generation : ℕ) → Contains generations.items generation
-        ↔ ((part : PartName) × (Contains parts.now part × (generation_of part ≡ generation)))) }
-    ensures falling { IfOk result (λ generations. AllPairs (λ first later. later < first) generations.items) }
+// Reads the frame of a shard, and compares it with its mark.
+fn check_frame<F: Folder>(
+    alloc: Global,
+    folder: &mut F,
+    dir: &str,
+    file_name: &str,
+    header: Header,
+    mark: Mark,
+) -> Result<(), CheckpointError>
+    ensures found { F.meaning.keeps folder.old → OnOk result ((bytes : List ℕ)
+        × ((get (F.meaning.files folder.old) (frame_path dir.now file_name.now header.generation header.shard) ≡ Some bytes) × IsWholeFrame header mark bytes)) }
+    ensures whole { F.meaning.keeps folder.old → (bytes : List ℕ) → get (F.meaning.files folder.old) (frame_path dir.now file_name.now header.generation header.shard) ≡ Some bytes
+        → IsWholeFrame header mark bytes → IsHeader header → IfErr result IsFault }
+    ensures refused { F.meaning.keeps folder.old → IfErr result (IsRefusedByCheck F.meaning dir.now file_name.now header mark folder.old folder.new) }
+    ensures touches { F.meaning.keeps folder.old → TouchesNothing F.meaning folder.old folder.new }
+    ensures files { F.meaning.keeps folder.old → F.meaning.files folder.new ≡ F.meaning.files folder.old }
+    ensures faults { F.meaning.keeps folder.old → OnOk result (F.meaning.faults folder.new ≡ F.meaning.faults folder.old) }
+    ensures quiet { F.meaning.keeps folder.old → IfErr result (λ error. ¬ IsFault error → F.meaning.faults folder.new ≡ F.meaning.faults folder.old) }
+    ensures places { F.meaning.keeps folder.old → F.meaning.folders folder.new ≡ F.meaning.folders folder.old }
+    ensures kept { F.meaning.keeps folder.old ↔ F.meaning.keeps folder.new }
 {
-    let mut generations = Vec::new(alloc);
-    for part in parts {
-        generations.push(part.generation())?;
+    let file = CheckpointFile::Shard(header.shard);
+    let Ok(path) = frame_path(alloc, dir, file_name, header.generation, header.shard) else {
+        return Err(CheckpointError::Memory);
+    };
+    let bytes = match read_file(alloc, folder, &path, mark.length) {
+        Err(error) => return Err(unread(file, error)),
+        Ok(Found::Nothing) => return Err(CheckpointError::Missing { file }),
+        Ok(Found::TooLong) => return Err(CheckpointError::Other { file }),
+        Ok(Found::Bytes(bytes)) => bytes,
+    };
+    let it = match inspect(&bytes) {
+        Err(part) => return Err(CheckpointError::Damaged { file, part }),
+        Ok(it) => it,
+    };
+    if it.header != header {
+        return Err(CheckpointError::Other { file });
     }
-    generations.sort_unstable();
-    generations.dedup();
-    generations.reverse();
-    Ok(generations)
+    if it.mark != mark {
+        return Err(CheckpointError::Other { file });
+    }
+    Ok(())
 }
 
-// Tells of one generation.
-fn tell<F: Folder>(
+// Reads each frame that this manifest tells of, and compares it with its mark.
+fn check_frames<F: Folder>(
+    alloc: Global,
+    folder: &mut F,
+    dir: &str,
+    file_name: &str,
+    manifest: &Manifest,
+) -> Result<(), CheckpointError>
+    requires { suc (length manifest.now.frames.items) < 2 ^ 64 }
+    ensures found { F.meaning.keeps folder.old → OnOk result ((shard : ℕ) (mark : Mark) → slice_get manifest.now.frames.items shard ≡ Some mark
+        → (bytes : List ℕ) × ((get (F.meaning.files folder.old) (frame_path dir.now file_name.now manifest.now.generation shard) ≡ Some bytes)
+        × IsWholeFrame (part_header manifest.now.generation (length manifest.now.frames.items) shard) mark bytes)) }
+    ensures whole { F.meaning.keeps folder.old → manifest.now.generation < 2 ^ 64 → ((shard : ℕ) (mark : Mark) → slice_get manifest.now.frames.items shard ≡ Some mark
+        → (bytes : List ℕ) × ((get (F.meaning.files folder.old) (frame_path dir.now file_name.now manifest.now.generation shard) ≡ Some bytes)
+        × IsWholeFrame (part_header manifest.now.generation (length manifest.now.frames.items) shard) mark bytes)) → IfErr result IsFault }
+    ensures refused { F.meaning.keeps folder.old → IfErr result (λ error. (shard : ℕ) × ((mark : Mark) × ((slice_get manifest.now.frames.items shard ≡ Some mark)
+        × IsRefusedByCheck F.meaning dir.now file_name.now (part_header manifest.now.generation (length manifest.now.frames.items) shard) mark folder.old folder.new error))) }
+    ensures touches { F.meaning.keeps folder.old → TouchesNothing F.meaning folder.old folder.new }
+    ensures files { F.meaning.keeps folder.old → F.meaning.files folder.new ≡ F.meaning.files folder.old }
+    ensures faults { F.meaning.keeps folder.old → OnOk result (F.meaning.faults folder.new ≡ F.meaning.faults folder.old) }
+    ensures quiet { F.meaning.keeps folder.old → IfErr result (λ error. ¬ IsFault error → F.meaning.faults folder.new ≡ F.meaning.faults folder.old) }
+    ensures places { F.meaning.keeps folder.old → F.meaning.folders folder.new ≡ F.meaning.folders folder.old }
+    ensures kept { F.meaning.keeps folder.old ↔ F.meaning.keeps folder.new }
+{
+    for shard in 0..manifest.frames.len() {
+        let header = manifest.part(shard as u64);
+        let mark = manifest.frames[shard];
+        if let Err(error) = check_frame(alloc, folder, dir, file_name, header, mark) {
+            return Err(error);
+        }
+    }
+    Ok(())
+}
+
+// Whether this is the manifest that is known.
+fn is_known(manifest: &Manifest, known: Option<&Manifest>) -> bool
+    ensures { IsTrue result ↔ IsKnown (option_copied known.entry) manifest.now }
+{
+    match known {
+        None => false,
+        Some(known) => {
+            known.generation == manifest.generation && known.frames == manifest.frames
+        }
+    }
+}
+
+/// Whether the checkpoint of a generation is whole, or is the one that is known to have been: its manifest.
+///
+/// Where the manifest is that of the known one, no frame is read: that it is whole rests on what was known. Else it is checked as
+/// by `check_generation`, whose errors it has. At every moment all files are as they were.
+pub fn check_unless_known<F: Folder>(
     alloc: Global,
     folder: &mut F,
     dir: &str,
     file_name: &str,
     generation: u64,
-) -> Result<Told, CheckpointError>
-    ensures number { IfOk result (λ told. told.generation ≡ generation) }
-    ensures told { F.meaning.keeps folder.old → IfOk result (λ told. IsTold dir.now file_name.now F.meaning folder.old folder.new generation told.shards) }
-    ensures error { IfErr result IsFault }
-    ensures reason { F.meaning.keeps folder.old → IfErr result (IsFailed F.meaning folder.old folder.new) }
+    known: Option<&Manifest>,
+) -> Result<Manifest, CheckpointError>
+    // What is taken for whole is whole, or has the manifest that was known; where none is known it is whole.
+    ensures found { F.meaning.keeps folder.old → IfOk result (λ manifest. IsTaken dir.now file_name.now (option_copied known.entry) generation manifest.frames.items (F.meaning.files folder.old)) }
+
+    // What is not is neither, unless memory or the device fails.
+    ensures whole { F.meaning.keeps folder.old → (marks : List Mark) → IsTaken dir.now file_name.now (option_copied known.entry) generation marks (F.meaning.files folder.old) → IfErr result IsFault }
+
+    // An error tells which file was refused, and why.
+    ensures refused { F.meaning.keeps folder.old → IfErr result (IsRefused F.meaning
+        (IsRefusedByCheck F.meaning dir.now file_name.now) dir.now file_name.now generation folder.old folder.new) }
+
     ensures touches { F.meaning.keeps folder.old → TouchesNothing F.meaning folder.old folder.new }
     ensures files { F.meaning.keeps folder.old → F.meaning.files folder.new ≡ F.meaning.files folder.old }
     ensures faults { F.meaning.keeps folder.old → OnOk result (F.meaning.faults folder.new ≡ F.meaning.faults folder.old) }
+    ensures quiet { F.meaning.keeps folder.old → IfErr result (λ error. ¬ IsFault error → F.meaning.faults folder.new ≡ F.meaning.faults folder.old) }
     ensures places { F.meaning.keeps folder.old → F.meaning.folders folder.new ≡ F.meaning.folders folder.old }
     ensures kept { F.meaning.keeps folder.old ↔ F.meaning.keeps folder.new }
 {
-    match check_generation(alloc, folder, dir, file_name, generation) {
-        Ok(manifest) => {
-            let shards = Ok(manifest.frames.len() as u64);
-            Ok(Told { generation, shards })
-        }
-        Err(error) => {
-            if error.is_fault() {
-                return Err(error);
-            }
-            let shards = Err(error);
-            Ok(Told { generation, shards })
-        }
+    let manifest = match load_manifest(alloc, folder, dir, file_name, generation) {
+        Err(error) => return Err(error),
+        Ok(manifest) => manifest,
+    };
+    if is_known(&manifest, known) {
+        return Ok(manifest);
+    }
+    match check_frames(alloc, folder, dir, file_name, &manifest) {
+        Err(error) => Err(error),
+        Ok(()) => Ok(manifest),
     }
 }
 
-// Tells of each of these generations.
-fn tell_each<F: Folder>(
-    alloc: Global,
-    folder: &mut F,
-    dir: &str,
-    file_name: &str,
-    generations: &[u64],
-) -> Result<Vec<Told>, CheckpointError>
-    ensures all { IfOk result (λ told. map (λ one. one.generation) told.items ≡ generations.now) }
-    ensures told { F.meaning.keeps folder.old → IfOk result (λ told. (one : Told) → Contains told.items one
-        → IsTold dir.now file_name.now F.meaning folder.old folder.new one.generation one.shards) }
-    ensures error { IfErr result IsFault }
-    ensures reason { F.meaning.keeps folder.old → IfErr result (IsFailed F.meaning folder.old folder.new) }
-    ensures touches { F.meaning.keeps folder.old → TouchesNothing F.meaning folder.old folder.new }
-    ensures files { F.meaning.keeps folder.old → F.meaning.files folder.new ≡ F.meaning.files folder.old }
-    ensures faults { F.meaning.keeps folder.old → OnOk result (F.meaning.faults folder.new ≡ F.meaning.faults folder.old) }
-    ensures places { F.meaning.keeps folder.old → F.meaning.folders folder.new ≡ F.meaning.folders folder.old }
-    ensures kept { F.meaning.keeps folder.old ↔ F.meaning.keeps folder.new }
-{
-    let mut told = Vec::new(alloc);
-    for generation in generations {
-        let one = tell(alloc, folder, dir, file_name, *generation)?;
-        let Ok(()) = told.push(one) else {
-            return Err(CheckpointError::Memory);
-        };
-    }
-    Ok(told)
-}
-
-/// Tells of each generation that the folder has a file of, the highest first, whether it is whole, by the checks of its files and
-/// whatever its rows hold. At every moment all files are as they were.
+/// Whether the checkpoint of a generation is whole, by the checks of its files and whatever its rows hold: its manifest. No more
+/// than one frame is held. At every moment all files are as they were.
 ///
-/// `Memory`: no memory was found. `Folder`: the folder was not listed or a file was not read, for which the device or memory is
-/// the reason, or the folder is not there. The other errors are never told.
-pub fn check_all<F: Folder>(
+/// The errors are those of `load_generation`; as no row is read, `Damaged` never tells of rows in a frame.
+pub fn check_generation<F: Folder>(
     alloc: Global,
     folder: &mut F,
     dir: &str,
     file_name: &str,
-) -> Result<Vec<Told>, CheckpointError>
-    requires { has_slash file_name.now ≡ false }
+    generation: u64,
+) -> Result<Manifest, CheckpointError>
+    // What is told to be whole is whole.
+    ensures found { F.meaning.keeps folder.old → IfOk result (λ manifest. IsWhole dir.now file_name.now generation manifest.frames.items (F.meaning.files folder.old)) }
 
-    // No generation is left out, and none is told of twice.
-    ensures all { F.meaning.keeps folder.old → IfOk result (λ told. AreAll dir.now file_name.now (F.meaning.files folder.old) (map (λ one. one.generation) told.items)) }
+    // What is not told to be whole is not, unless memory or the device fails.
+    ensures whole { F.meaning.keeps folder.old → (marks : List Mark) → IsWhole dir.now file_name.now generation marks (F.meaning.files folder.old) → IfErr result IsFault }
 
-    // Of each it is told whether it is whole.
-    ensures told { F.meaning.keeps folder.old → IfOk result (λ told. (one : Told) → Contains told.items one
-        → IsTold dir.now file_name.now F.meaning folder.old folder.new one.generation one.shards) }
-
-    ensures error { IfErr result IsFault }
-    ensures reason { F.meaning.keeps folder.old → IfErr result (λ error. IsUnlisted F.meaning dir.now folder.old folder.new error
-        ⊎ IsFailed F.meaning folder.old folder.new error) }
+    // An error tells which file was refused, and why.
+    ensures refused { F.meaning.keeps folder.old → IfErr result (IsRefused F.meaning
+        (IsRefusedByCheck F.meaning dir.now file_name.now) dir.now file_name.now generation folder.old folder.new) }
 
     ensures touches { F.meaning.keeps folder.old → TouchesNothing F.meaning folder.old folder.new }
     ensures files { F.meaning.keeps folder.old → F.meaning.files folder.new ≡ F.meaning.files folder.old }
     ensures faults { F.meaning.keeps folder.old → OnOk result (F.meaning.faults folder.new ≡ F.meaning.faults folder.old) }
+    ensures quiet { F.meaning.keeps folder.old → IfErr result (λ error. ¬ IsFault error → F.meaning.faults folder.new ≡ F.meaning.faults folder.old) }
     ensures places { F.meaning.keeps folder.old → F.meaning.folders folder.new ≡ F.meaning.folders folder.old }
     ensures kept { F.meaning.keeps folder.old ↔ F.meaning.keeps folder.new }
 {
-    let parts = parts_of(alloc, folder, dir, file_name)?;
-    let generations = numbers_in(alloc, &parts)?;
-    tell_each(alloc, folder, dir, file_name, &generations)
+    check_unless_known(alloc, folder, dir, file_name, generation, None)
 }

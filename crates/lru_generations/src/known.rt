@@ -1,7 +1,7 @@
 //! A checkpoint that is known to be whole.
 ghost use Rattle.std.specs.Prelude.{◌≡◌, option_copied};
 
-use lru_manifests::manifest::Manifest;
+use crate::manifest::Manifest;
 use std::marker::Model;
 
 /// A checkpoint that was whole when a load or a save of this process had it: what its manifest told then.
@@ -13,7 +13,7 @@ pub struct Known {
 }
 
 impl Model for Known {
-    ghost use Rattle.lru_manifests.specs.declared.manifest.Manifest.{Manifest};
+    ghost use Rattle.lru_generations.specs.declared.manifest.Manifest.{Manifest};
 
     ghost Value = { Manifest };
 

@@ -1,204 +1,162 @@
-//! The newest checkpoint loaded.
-ghost use Rattle.std.specs.Prelude.{◌≡◌, ◌↔◌, ◌⊎◌, ◌<◌, ℕ, List, Option, Some, false, AllPairs, Contains, IfErr, IfOk, IfSome, OnOk};
-ghost use Rattle.lru_folder.specs.Names.{has_slash};
-ghost use Rattle.lru_whole_files.specs.Touching.{TouchesNothing};
-ghost use Rattle.lru_checkpoints.specs.Checkpoints.{Shards, HasCheckpoint};
-ghost use Rattle.lru_checkpoints.specs.Loads.{IsFault, IsRefused, IsRefusedFrame};
-ghost use Rattle.lru_generations.specs.Faults.{IsFailed, IsUnlisted};
-ghost use Rattle.lru_generations.specs.Loaded.{IsLoaded, IsLoadedBelow, IsReadable, IsReadableBelow, IsSameCheckpoint, number_of};
-ghost use Rattle.lru_generations.specs.Newest.{AreGenerations, AreGenerationsBelow, ArePassed, IsAsKnown, IsBelow};
-ghost use Rattle.lru_manifests.specs.declared.names.PartName.{PartName};
-ghost use Rattle.lru_manifests.specs.Names.{generation_of};
+//! A checkpoint loaded.
+ghost use Rattle.std.specs.Prelude.{◌≡◌, ◌≢◌, ◌↔◌, ◌<◌, ◌≤◌, ◌^◌, ℕ, suc, List, length, slice_get, IfErr, IfOk, OnOk, MatchResult, Some};
+ghost use Rattle.std.specs.FinMap.{get};
+ghost use Rattle.lru_frames.specs.declared.mark.Mark.{Mark};
+ghost use Rattle.lru_frames.specs.declared.row.Row.{Row};
+ghost use Rattle.lru_frames.specs.Frame.{frame_of, Fits};
+ghost use Rattle.lru_frames.specs.Marks.{mark_of};
+ghost use Rattle.lru_frames.specs.Rows.{AreSame, IsSameRow};
+ghost use Rattle.lru_generations.specs.Manifests.{IsManifest, part_header};
+ghost use Rattle.lru_generations.specs.Names.{frame_path};
+ghost use Rattle.lru_generations.specs.Touching.{TouchesNothing};
+ghost use Rattle.lru_generations.specs.Checkpoints.{Shards, AreMarked, FitsEach, HasCheckpoint, HasFrames, IsWhole, most_shards};
+ghost use Rattle.lru_generations.specs.Loads.{AreSameShards, IsFault, IsRefused, IsRefusedFrame, rows_of};
 
-use crate::known::Known;
-use crate::listing::parts_of;
-use crate::newest::{Passed, pass_over};
-use lru_checkpoints::errors::CheckpointError;
-use lru_checkpoints::loading::load_generation;
+use crate::errors::{CheckpointError, CheckpointFile};
+use crate::file_reading::{Found, read_file};
+use crate::manifest::Manifest;
+use crate::names::frame_path;
+use crate::reading::{load_manifest, refused, unread};
 use lru_folder::folder::Folder;
+use lru_frames::frame::{Frame, Header};
+use lru_frames::mark::Mark;
+use lru_frames::marked::decode_marked;
 use lru_frames::row::Row;
 use lru_frames::stored::Stored;
-use lru_manifests::listing::{generations_of, older_than};
-use lru_manifests::names::PartName;
-use std::alloc::{AllocError, Global};
+use std::alloc::Global;
 
-/// A checkpoint that was loaded.
-#[derive(Debug, Drop)]
-pub struct Checkpoint<K, V> {
-    /// Its number.
-    pub generation: u64,
-    /// The rows of each shard, from shard 0 on.
-    pub shards: Vec<Vec<Row<K, V>>>,
-    /// That it was whole: a save that is handed it need not read it again.
-    pub known: Known,
-}
-
-/// What a load found.
-#[derive(Debug, Drop)]
-pub struct Loaded<K, V> {
-    /// The newest checkpoint that can be read, where there is one.
-    pub newest: Option<Checkpoint<K, V>>,
-    /// The generations above it that have a manifest, the highest first.
-    pub passed: Vec<Passed>,
-}
-
-// Loads the first of these generations that can be read.
-fn load_newest<F: Folder, K: Stored, V: Stored>(
+// The rows of a shard of so many, read from the frame that has this mark.
+fn load_frame<F: Folder, K: Stored, V: Stored>(
     alloc: Global,
     folder: &mut F,
     dir: &str,
     file_name: &str,
-    generations: &[u64],
-) -> Result<Loaded<K, V>, CheckpointError>
-    requires falling { AllPairs (λ first later. later < first) generations.now }
-    ensures loaded { F.meaning.keeps folder.old → (bound : Option ℕ) → AreGenerationsBelow dir.now file_name.now (F.meaning.files folder.old) bound generations.now
-        → IfOk result (λ loaded. IsLoadedBelow K.bytes_of K.is_value V.bytes_of V.is_value dir.now file_name.now (F.meaning.files folder.old) bound loaded.newest) }
-    ensures written { F.meaning.keeps folder.old → (bound : Option ℕ) → AreGenerationsBelow dir.now file_name.now (F.meaning.files folder.old) bound generations.now
-        → (generation : ℕ) (shards : Shards K V)
-        → HasCheckpoint K.bytes_of K.is_value V.bytes_of V.is_value dir.now file_name.now generation shards (F.meaning.files folder.old) → IsBelow bound generation
-        → ((higher : ℕ) → generation < higher → ¬ IsReadableBelow K.bytes_of K.is_value V.bytes_of V.is_value dir.now file_name.now (F.meaning.files folder.old) bound higher)
-        → IfOk result (λ loaded. IsSameCheckpoint K.is_same V.is_same generation shards loaded.newest) }
-    ensures passed { F.meaning.keeps folder.old → IfOk result (λ loaded. ArePassed
-        (λ generation error. IsRefused F.meaning (IsRefusedFrame F.meaning K.bytes_of K.is_value V.bytes_of V.is_value dir.now file_name.now)
-        dir.now file_name.now generation folder.old folder.new error)
-        generations.now (number_of loaded.newest) loaded.passed.items) }
-    ensures known { F.meaning.keeps folder.old → IfOk result (λ loaded. IfSome loaded.newest (λ checkpoint. (checkpoint.known.generation ≡ checkpoint.generation)
-        × IsAsKnown dir.now file_name.now (F.meaning.files folder.old) (Some checkpoint.known))) }
-    ensures error { IfErr result IsFault }
-    ensures reason { F.meaning.keeps folder.old → IfErr result (IsFailed F.meaning folder.old folder.new) }
+    header: Header,
+    mark: Mark,
+) -> Result<Vec<Row<K, V>>, CheckpointError>
+    ensures found { F.meaning.keeps folder.old → IfOk result (λ rows. get (F.meaning.files folder.old) (frame_path dir.now file_name.now header.generation header.shard)
+        ≡ Some (frame_of K.bytes_of V.bytes_of header rows.items)) }
+    ensures fits { IfOk result (λ rows. Fits K.is_value V.is_value header rows.items) }
+    ensures marked { IfOk result (λ rows. mark ≡ mark_of K.bytes_of V.bytes_of header rows.items) }
+    ensures written { F.meaning.keeps folder.old → (rows : List (Row K V)) → Fits K.is_value V.is_value header rows → mark ≡ mark_of K.bytes_of V.bytes_of header rows
+        → get (F.meaning.files folder.old) (frame_path dir.now file_name.now header.generation header.shard) ≡ Some (frame_of K.bytes_of V.bytes_of header rows)
+        → MatchResult result (λ found. AreSame (IsSameRow K.is_same V.is_same) found.items rows) IsFault }
+    ensures refused { F.meaning.keeps folder.old → IfErr result (IsRefusedFrame F.meaning K.bytes_of K.is_value V.bytes_of V.is_value dir.now file_name.now header mark folder.old folder.new) }
     ensures touches { F.meaning.keeps folder.old → TouchesNothing F.meaning folder.old folder.new }
     ensures files { F.meaning.keeps folder.old → F.meaning.files folder.new ≡ F.meaning.files folder.old }
     ensures faults { F.meaning.keeps folder.old → OnOk result (F.meaning.faults folder.new ≡ F.meaning.faults folder.old) }
+    ensures quiet { F.meaning.keeps folder.old → IfErr result (λ error. ¬ IsFault error → F.meaning.faults folder.new ≡ F.meaning.faults folder.old) }
     ensures places { F.meaning.keeps folder.old → F.meaning.folders folder.new ≡ F.meaning.folders folder.old }
     ensures kept { F.meaning.keeps folder.old ↔ F.meaning.keeps folder.new }
 {
-    let mut passed = Vec::new(alloc);
-    for generation in generations {
-        let generation = *generation;
-        match load_generation(alloc, folder, dir, file_name, generation) {
-            Ok((manifest, shards)) => {
-                let known = Known::new(manifest);
-                let newest = Some(Checkpoint {
-                    generation,
-                    shards,
-                    known,
-                });
-                return Ok(Loaded { newest, passed });
-            }
-            Err(error) => pass_over(&mut passed, generation, error)?,
-        }
+    let file = CheckpointFile::Shard(header.shard);
+    let Ok(path) = frame_path(alloc, dir, file_name, header.generation, header.shard) else {
+        return Err(CheckpointError::Memory);
+    };
+    let bytes = match read_file(alloc, folder, &path, mark.length) {
+        Err(error) => return Err(unread(file, error)),
+        Ok(Found::Nothing) => return Err(CheckpointError::Missing { file }),
+        Ok(Found::TooLong) => return Err(CheckpointError::Other { file }),
+        Ok(Found::Bytes(bytes)) => bytes,
+    };
+    let (frame, found): (Frame<K, V>, Mark) = match decode_marked(alloc, &bytes) {
+        Err(error) => return Err(refused(file, error)),
+        Ok(decoded) => decoded,
+    };
+    if frame.header != header {
+        return Err(CheckpointError::Other { file });
     }
-    let newest = None;
-    Ok(Loaded { newest, passed })
+    if found != mark {
+        return Err(CheckpointError::Other { file });
+    }
+    Ok(frame.rows)
 }
 
-// The parts of the generations below the bound.
-fn parts_below(
-    alloc: Global,
-    parts: Vec<PartName>,
-    bound: Option<u64>,
-) -> Result<Vec<PartName>, AllocError>
-    ensures { IfOk result (λ below. (part : PartName) → Contains below.items part ↔ (Contains parts.items part × IsBelow bound (generation_of part))) }
-{
-    match bound {
-        None => Ok(parts),
-        Some(bound) => older_than(alloc, &parts, bound),
-    }
-}
-
-/// Loads the newest checkpoint below a bound, or the newest of all where there is none: as `load` does, as if the generations
-/// from the bound on were not there.
-///
-/// The errors are those of `load`.
-pub fn load_below<F: Folder, K: Stored, V: Stored>(
+// The rows of each shard that this manifest tells of, from shard 0 on.
+fn load_frames<F: Folder, K: Stored, V: Stored>(
     alloc: Global,
     folder: &mut F,
     dir: &str,
     file_name: &str,
-    bound: Option<u64>,
-) -> Result<Loaded<K, V>, CheckpointError>
-    requires { has_slash file_name.now ≡ false }
-
-    // Whatever the files are, what is loaded stands there whole, and nothing between it and the bound does.
-    ensures loaded { F.meaning.keeps folder.old → IfOk result (λ loaded.
-        IsLoadedBelow K.bytes_of K.is_value V.bytes_of V.is_value dir.now file_name.now (F.meaning.files folder.old) bound loaded.newest) }
-
-    // The newest checkpoint that stands there whole below the bound is loaded.
-    ensures written { F.meaning.keeps folder.old → (generation : ℕ) (shards : Shards K V)
-        → HasCheckpoint K.bytes_of K.is_value V.bytes_of V.is_value dir.now file_name.now generation shards (F.meaning.files folder.old) → IsBelow bound generation
-        → ((higher : ℕ) → generation < higher → ¬ IsReadableBelow K.bytes_of K.is_value V.bytes_of V.is_value dir.now file_name.now (F.meaning.files folder.old) bound higher)
-        → IfOk result (λ loaded. IsSameCheckpoint K.is_same V.is_same generation shards loaded.newest) }
-
-    // Of the generations below the bound that have a manifest, those above it are passed over.
-    ensures passed { F.meaning.keeps folder.old → IfOk result (λ loaded. (generations : List ℕ)
-        × (AreGenerationsBelow dir.now file_name.now (F.meaning.files folder.old) bound generations
-        × ArePassed (λ generation error. IsRefused F.meaning (IsRefusedFrame F.meaning K.bytes_of K.is_value V.bytes_of V.is_value dir.now file_name.now)
-        dir.now file_name.now generation folder.old folder.new error)
-        generations (number_of loaded.newest) loaded.passed.items)) }
-
-    // It is known to be whole.
-    ensures known { F.meaning.keeps folder.old → IfOk result (λ loaded. IfSome loaded.newest (λ checkpoint. (checkpoint.known.generation ≡ checkpoint.generation)
-        × IsAsKnown dir.now file_name.now (F.meaning.files folder.old) (Some checkpoint.known))) }
-
-    ensures error { IfErr result IsFault }
-    ensures reason { F.meaning.keeps folder.old → IfErr result (λ error. IsUnlisted F.meaning dir.now folder.old folder.new error
-        ⊎ IsFailed F.meaning folder.old folder.new error) }
-
+    manifest: &Manifest,
+) -> Result<Vec<Vec<Row<K, V>>>, CheckpointError>
+    requires { suc (length manifest.now.frames.items) < 2 ^ 64 }
+    ensures marked { IfOk result (λ shards. AreMarked K.bytes_of V.bytes_of manifest.now.generation (length manifest.now.frames.items) (rows_of shards.items) manifest.now.frames.items) }
+    ensures found { F.meaning.keeps folder.old → IfOk result (λ shards. HasFrames K.bytes_of V.bytes_of
+        dir.now file_name.now manifest.now.generation (length manifest.now.frames.items) (rows_of shards.items) (F.meaning.files folder.old)) }
+    ensures fits { IfOk result (λ shards. FitsEach K.is_value V.is_value manifest.now.generation (length manifest.now.frames.items) (rows_of shards.items)) }
+    ensures written { F.meaning.keeps folder.old → (shards : Shards K V)
+        → AreMarked K.bytes_of V.bytes_of manifest.now.generation (length manifest.now.frames.items) shards manifest.now.frames.items
+        → FitsEach K.is_value V.is_value manifest.now.generation (length manifest.now.frames.items) shards
+        → HasFrames K.bytes_of V.bytes_of dir.now file_name.now manifest.now.generation (length manifest.now.frames.items) shards (F.meaning.files folder.old) → IfErr result IsFault }
+    ensures refused { F.meaning.keeps folder.old → IfErr result (λ error. (shard : ℕ) × ((mark : Mark) × ((slice_get manifest.now.frames.items shard ≡ Some mark)
+        × IsRefusedFrame F.meaning K.bytes_of K.is_value V.bytes_of V.is_value dir.now file_name.now
+        (part_header manifest.now.generation (length manifest.now.frames.items) shard) mark folder.old folder.new error))) }
     ensures touches { F.meaning.keeps folder.old → TouchesNothing F.meaning folder.old folder.new }
     ensures files { F.meaning.keeps folder.old → F.meaning.files folder.new ≡ F.meaning.files folder.old }
     ensures faults { F.meaning.keeps folder.old → OnOk result (F.meaning.faults folder.new ≡ F.meaning.faults folder.old) }
+    ensures quiet { F.meaning.keeps folder.old → IfErr result (λ error. ¬ IsFault error → F.meaning.faults folder.new ≡ F.meaning.faults folder.old) }
     ensures places { F.meaning.keeps folder.old → F.meaning.folders folder.new ≡ F.meaning.folders folder.old }
     ensures kept { F.meaning.keeps folder.old ↔ F.meaning.keeps folder.new }
 {
-    let listed = parts_of(alloc, folder, dir, file_name)?;
-    let parts = parts_below(alloc, listed, bound)?;
-    let generations = generations_of(alloc, &parts)?;
-    load_newest(alloc, folder, dir, file_name, &generations)
+    let mut shards = Vec::new(alloc);
+    for shard in 0..manifest.frames.len() {
+        let header = manifest.part(shard as u64);
+        let mark = manifest.frames[shard];
+        let rows = match load_frame(alloc, folder, dir, file_name, header, mark) {
+            Err(error) => return Err(error),
+            Ok(rows) => rows,
+        };
+        let Ok(()) = shards.push(rows) else {
+            return Err(CheckpointError::Memory);
+        };
+    }
+    Ok(shards)
 }
 
-/// Loads the newest checkpoint: the whole one of the highest generation that can be read as such rows, or none where none can.
-/// A generation above it, which is not whole or not of such rows, is passed over. At every moment all files are as they were.
+/// Loads the checkpoint of a generation: its manifest, and the rows of each of its shards, read from the frames that the manifest
+/// tells of; or an error and no rows. At every moment all files are as they were.
 ///
-/// `Memory`: no memory was found. `Folder`: the folder was not listed or a file was not read, for which the device or memory is
-/// the reason, or the folder is not there. The other errors are never told.
-pub fn load<F: Folder, K: Stored, V: Stored>(
+/// `Memory`: no memory was found. `Folder`: a file was not read, for which the device or memory is the reason.
+/// `Missing`, `Damaged`, `Other`: a file is not there, is damaged, or is another one than the manifest tells of; each names the
+/// file. The other errors are never told.
+pub fn load_generation<F: Folder, K: Stored, V: Stored>(
     alloc: Global,
     folder: &mut F,
     dir: &str,
     file_name: &str,
-) -> Result<Loaded<K, V>, CheckpointError>
-    requires { has_slash file_name.now ≡ false }
+    generation: u64,
+) -> Result<(Manifest, Vec<Vec<Row<K, V>>>), CheckpointError>
+    // What is loaded stands there whole, and so does what its manifest tells.
+    ensures found { F.meaning.keeps folder.old → IfOk result (λ loaded. HasCheckpoint K.bytes_of K.is_value V.bytes_of V.is_value
+        dir.now file_name.now generation (rows_of loaded.1.items) (F.meaning.files folder.old)) }
+    ensures told { F.meaning.keeps folder.old → IfOk result (λ loaded. (loaded.0.generation ≡ generation)
+        × IsWhole dir.now file_name.now generation loaded.0.frames.items (F.meaning.files folder.old)) }
 
-    // Whatever the files are, what is loaded stands there whole, and nothing above it does; or nothing stands there whole.
-    ensures loaded { F.meaning.keeps folder.old → IfOk result (λ loaded.
-        IsLoaded K.bytes_of K.is_value V.bytes_of V.is_value dir.now file_name.now (F.meaning.files folder.old) loaded.newest) }
-
-    // The newest checkpoint that stands there whole is loaded.
-    ensures written { F.meaning.keeps folder.old → (generation : ℕ) (shards : Shards K V)
+    // What stands there whole is loaded, unless memory or the device fails.
+    ensures written { F.meaning.keeps folder.old → (shards : Shards K V)
         → HasCheckpoint K.bytes_of K.is_value V.bytes_of V.is_value dir.now file_name.now generation shards (F.meaning.files folder.old)
-        → ((higher : ℕ) → generation < higher → ¬ IsReadable K.bytes_of K.is_value V.bytes_of V.is_value dir.now file_name.now (F.meaning.files folder.old) higher)
-        → IfOk result (λ loaded. IsSameCheckpoint K.is_same V.is_same generation shards loaded.newest) }
+        → MatchResult result (λ found. AreSameShards K.is_same V.is_same (rows_of found.1.items) shards) IsFault }
 
-    // Of the generations that have a manifest, those above it are passed over.
-    ensures passed { F.meaning.keeps folder.old → IfOk result (λ loaded. (generations : List ℕ)
-        × (AreGenerations dir.now file_name.now (F.meaning.files folder.old) generations
-        × ArePassed (λ generation error. IsRefused F.meaning (IsRefusedFrame F.meaning K.bytes_of K.is_value V.bytes_of V.is_value dir.now file_name.now)
-        dir.now file_name.now generation folder.old folder.new error)
-        generations (number_of loaded.newest) loaded.passed.items)) }
-
-    // It is known to be whole.
-    ensures known { F.meaning.keeps folder.old → IfOk result (λ loaded. IfSome loaded.newest (λ checkpoint. (checkpoint.known.generation ≡ checkpoint.generation)
-        × IsAsKnown dir.now file_name.now (F.meaning.files folder.old) (Some checkpoint.known))) }
-
-    ensures error { IfErr result IsFault }
-    ensures reason { F.meaning.keeps folder.old → IfErr result (λ error. IsUnlisted F.meaning dir.now folder.old folder.new error
-        ⊎ IsFailed F.meaning folder.old folder.new error) }
+    // An error tells which file was refused, and why.
+    ensures refused { F.meaning.keeps folder.old → IfErr result (IsRefused F.meaning
+        (IsRefusedFrame F.meaning K.bytes_of K.is_value V.bytes_of V.is_value dir.now file_name.now)
+        dir.now file_name.now generation folder.old folder.new) }
 
     ensures touches { F.meaning.keeps folder.old → TouchesNothing F.meaning folder.old folder.new }
     ensures files { F.meaning.keeps folder.old → F.meaning.files folder.new ≡ F.meaning.files folder.old }
     ensures faults { F.meaning.keeps folder.old → OnOk result (F.meaning.faults folder.new ≡ F.meaning.faults folder.old) }
+    ensures quiet { F.meaning.keeps folder.old → IfErr result (λ error. ¬ IsFault error → F.meaning.faults folder.new ≡ F.meaning.faults folder.old) }
     ensures places { F.meaning.keeps folder.old → F.meaning.folders folder.new ≡ F.meaning.folders folder.old }
     ensures kept { F.meaning.keeps folder.old ↔ F.meaning.keeps folder.new }
 {
-    load_below(alloc, folder, dir, file_name, None)
+    let manifest = match load_manifest(alloc, folder, dir, file_name, generation) {
+        Err(error) => return Err(error),
+        Ok(manifest) => manifest,
+    };
+    let shards = match load_frames(alloc, folder, dir, file_name, &manifest) {
+        Err(error) => return Err(error),
+        Ok(shards) => shards,
+    };
+    Ok((manifest, shards))
 }

@@ -1,13 +1,13 @@
 //! The newest checkpoint that is whole.
 ghost use Rattle.std.specs.Prelude.{◌≡◌, ◌↔◌, ◌⊎◌, ◌<◌, ◌∷◌, ◌++◌, [], AllPairs, IfErr, IfOk, OnOk, option_copied};
-ghost use Rattle.lru_whole_files.specs.Touching.{TouchesNothing};
-ghost use Rattle.lru_checkpoints.specs.Loads.{IsFault, IsRefused, IsRefusedByCheck};
+ghost use Rattle.lru_generations.specs.Touching.{TouchesNothing};
+ghost use Rattle.lru_generations.specs.Loads.{IsFault, IsRefused, IsRefusedByCheck};
 ghost use Rattle.lru_generations.specs.Faults.{IsFailed};
 ghost use Rattle.lru_generations.specs.Newest.{ArePassed, HasAllManifests, IsHighestTaken};
 
+use crate::checking::check_unless_known;
+use crate::errors::CheckpointError;
 use crate::known::{Known, manifest_of};
-use lru_checkpoints::checking::check_unless_known;
-use lru_checkpoints::errors::CheckpointError;
 use lru_folder::folder::Folder;
 use std::alloc::Global;
 

@@ -1,60 +1,84 @@
-//! A generation saved for good.
-ghost use Rattle.std.specs.Prelude.{◌≡◌, ◌↔◌, ◌<◌, ◌≤◌, ◌^◌, ℕ, suc, List, false, length, IfErr, IfOk, OnOk, IsTrue};
-ghost use Rattle.lru_folder.specs.Files.{Files};
-ghost use Rattle.lru_folder.specs.Names.{has_slash};
-ghost use Rattle.lru_whole_files.specs.Touching.{TouchesOnly};
-ghost use Rattle.lru_checkpoints.specs.Checkpoints.{Shards, AreFirm, AreHandedOut, AreMarked, FitsEach, HasCheckpoint, HasFrames, IsFrame, IsWhole, SavesCheckpoint, most_shards};
-ghost use Rattle.lru_checkpoints.specs.Causes.{HasSaveReason, IsUnnamed};
-ghost use Rattle.lru_checkpoints.specs.Loads.{IsFault};
-ghost use Rattle.lru_generations.specs.Saving.{IsUnfinished};
+//! The parts of a checkpoint saved.
+ghost use Rattle.std.specs.Prelude.{◌≡◌, ◌↔◌, ◌<◌, ◌≤◌, ◌^◌, ℕ, suc, List, length, IfErr, IfOk, OnOk};
+ghost use Rattle.lru_folder.specs.Losses.{firmed};
+ghost use Rattle.lru_frames.specs.declared.row.Row.{Row};
+ghost use Rattle.lru_frames.specs.Frame.{frame_of, Fits};
+ghost use Rattle.lru_frames.specs.Marks.{mark_of};
+ghost use Rattle.lru_generations.specs.Manifests.{IsManifest, part_header, manifest_bytes};
+ghost use Rattle.lru_generations.specs.Names.{frame_path, manifest_path, manifest_temp_path};
+ghost use Rattle.lru_generations.specs.Touching.{IsWritten, TouchesOnly};
+ghost use Rattle.lru_generations.specs.Replacing.{IsReplaced, Replaces};
+ghost use Rattle.lru_generations.specs.Checkpoints.{Shards, AreFirm, AreHandedOut, AreMarked, FitsEach, HasFrames, IsFrame, most_shards};
+ghost use Rattle.lru_generations.specs.Causes.{HasSaveReason, IsToldOf, IsUnnamed};
 
-use crate::removing::remove_part;
-use crate::syncing::sync_names;
-use lru_checkpoints::errors::CheckpointError;
-use lru_checkpoints::saving::{save_frames, save_manifest};
+use crate::errors::{CheckpointError, CheckpointFile};
+use crate::file_replacing::replace_file;
+use crate::file_writing::write_file;
+use crate::manifest::{Manifest, encode_manifest};
+use crate::names::{frame_path, manifest_path, manifest_temp_path};
 use lru_folder::folder::Folder;
-use lru_folder::folder_call::FolderCall;
+use lru_frames::frame::Header;
 use lru_frames::mark::Mark;
 use lru_frames::source::Source;
 use lru_frames::stored::Stored;
-use lru_manifests::manifest::Manifest;
-use lru_manifests::names::PartName;
-use lru_synced_folder::synced_folder::SyncedFolder;
 use std::alloc::Global;
 
-// Whether the renaming of a manifest failed: it may have been done.
-fn is_unnamed(error: &CheckpointError) -> bool
-    ensures { IsTrue result ↔ IsUnnamed error.now }
-{
-    match error {
-        CheckpointError::Folder { fault, .. } => fault.call == FolderCall::Rename,
-        _ => false,
-    }
-}
+/// The most shards that a checkpoint may have.
+pub const MOST_SHARDS: usize = 1_048_576;
 
-// Takes away the frames of so many shards and the file that a manifest is first written to, as far as that can be done.
-fn clear<F: Folder>(
+// Writes the frame of one shard of so many to its file.
+fn save_frame<F: Folder, K: Stored, V: Stored, S: Source<K, V>>(
     alloc: Global,
     folder: &mut F,
     dir: &str,
     file_name: &str,
     generation: u64,
     count: u64,
-)
-    ensures touches { F.meaning.keeps folder.old → TouchesOnly F.meaning (IsUnfinished dir.now file_name.now generation) folder.old folder.new }
+    shard: u64,
+    source: &S,
+) -> Result<Mark, CheckpointError>
+    requires shard { shard < count }
+    requires count { count ≡ S.count source.now }
+    requires few { count ≤ most_shards }
+
+    ensures saved { IfOk result (λ mark. (rows : List (Row K V)) × (S.hands_out source.now shard rows × (Fits K.is_value V.is_value (part_header generation count shard) rows
+        × ((mark ≡ mark_of K.bytes_of V.bytes_of (part_header generation count shard) rows)
+        × (F.meaning.keeps folder.old → IsWritten F.meaning (frame_path dir.now file_name.now generation shard)
+        (frame_of K.bytes_of V.bytes_of (part_header generation count shard) rows) folder.old folder.new))))) }
+    ensures touches { F.meaning.keeps folder.old → TouchesOnly F.meaning (λ q. q ≡ frame_path dir.now file_name.now generation shard) folder.old folder.new }
+    ensures named { IfErr result (IsToldOf (λ file. file ≡ CheckpointFile.Shard shard)) }
+    ensures reason { F.meaning.keeps folder.old → IfErr result (HasSaveReason F.meaning dir.now file_name.now generation folder.old folder.new) }
+    ensures faults { F.meaning.keeps folder.old → OnOk result (F.meaning.faults folder.new ≡ F.meaning.faults folder.old) }
     ensures places { F.meaning.keeps folder.old → F.meaning.folders folder.new ≡ F.meaning.folders folder.old }
     ensures kept { F.meaning.keeps folder.old ↔ F.meaning.keeps folder.new }
 {
-    for shard in 0..count {
-        let part = PartName::Frame { generation, shard };
-        let _ = remove_part(alloc, folder, dir, file_name, part);
+    let Ok(path) = frame_path(alloc, dir, file_name, generation, shard) else {
+        return Err(CheckpointError::Memory);
+    };
+    let shards = count + 1;
+    let header = Header {
+        shards,
+        shard,
+        generation,
+    };
+    let Ok((bytes, mark)) = source.frame(alloc, header) else {
+        return Err(CheckpointError::Memory);
+    };
+    match write_file(folder, &path, &bytes) {
+        Ok(()) => Ok(mark),
+        Err(fault) => {
+            let file = CheckpointFile::Shard(shard);
+            Err(CheckpointError::Folder { file, fault })
+        }
     }
-    let part = PartName::Temp { generation };
-    let _ = remove_part(alloc, folder, dir, file_name, part);
 }
 
-// Writes the frame of each shard to its file, and syncs the files and their names; their marks.
-fn save_parts<F: SyncedFolder, K: Stored, V: Stored, S: Source<K, V>>(
+/// Writes the frame of each shard that the source hands out to its file, and syncs it, one after the other; their marks.
+/// At every moment no path but those of the frames of this generation changes.
+///
+/// `Memory`: no memory was found for a name or for bytes. `Folder`: a call failed on the file that is named. The other
+/// errors are never told.
+pub fn save_frames<F: Folder, K: Stored, V: Stored, S: Source<K, V>>(
     alloc: Global,
     folder: &mut F,
     dir: &str,
@@ -63,85 +87,77 @@ fn save_parts<F: SyncedFolder, K: Stored, V: Stored, S: Source<K, V>>(
     source: &S,
 ) -> Result<Vec<Mark>, CheckpointError>
     requires { S.count source.now ≤ most_shards }
-    ensures saved { IfOk result (λ frames. (shards : Shards K V) × (AreHandedOut (S.hands_out source.now) (S.count source.now) shards
-        × (AreMarked K.bytes_of V.bytes_of generation (S.count source.now) shards frames.items × (FitsEach K.is_value V.is_value generation (S.count source.now) shards
+    ensures saved { IfOk result (λ marks. (shards : Shards K V) × (AreHandedOut (S.hands_out source.now) (S.count source.now) shards
+        × (AreMarked K.bytes_of V.bytes_of generation (S.count source.now) shards marks.items × (FitsEach K.is_value V.is_value generation (S.count source.now) shards
         × (F.meaning.keeps folder.old → HasFrames K.bytes_of V.bytes_of dir.now file_name.now generation (S.count source.now) shards (F.meaning.files folder.new)
         × AreFirm dir.now file_name.now generation (S.count source.now) (F.meaning.loose folder.new)))))) }
     ensures touches { F.meaning.keeps folder.old → TouchesOnly F.meaning (IsFrame dir.now file_name.now generation) folder.old folder.new }
-    ensures reason { F.meaning.keeps folder.old → IfErr result (λ error. (mid : F) × HasSaveReason F.meaning dir.now file_name.now generation mid folder.new error) }
-    ensures places { F.meaning.keeps folder.old → F.meaning.folders folder.new ≡ F.meaning.folders folder.old }
-    ensures kept { F.meaning.keeps folder.old ↔ F.meaning.keeps folder.new }
-{
-    let frames = match save_frames(alloc, folder, dir, file_name, generation, source) {
-        Err(error) => return Err(error),
-        Ok(frames) => frames,
-    };
-    match sync_names(folder, dir) {
-        Err(error) => Err(error),
-        Ok(()) => Ok(frames),
-    }
-}
-
-// Saves the shards that the source hands out as the checkpoint of this generation, for good: once it answers Ok, each loss of
-// power from then on leaves the whole new checkpoint. It answers what the manifest tells.
-//
-// Each shard's frame is written to its own file and synced, and so is its name. Then the manifest is written and synced, and
-// gets its name, which is synced. A stop or a loss of power at any moment leaves the manifest as it was, and with it all files
-// but those of this generation; or it leaves the whole new checkpoint. Where it fails before the manifest may have its name, what
-// was written is taken away again, as far as that can be done.
-//
-// `Memory`: no memory was found for a name or for bytes. `Folder`: a call failed on the file that is named. The other errors are
-// never told.
-pub(crate) fn save_for_good<F: SyncedFolder, K: Stored, V: Stored, S: Source<K, V>>(
-    alloc: Global,
-    folder: &mut F,
-    dir: &str,
-    file_name: &str,
-    generation: u64,
-    source: &S,
-) -> Result<Manifest, CheckpointError>
-    requires few { S.count source.now ≤ most_shards }
-    requires name { has_slash file_name.now ≡ false }
-
-    // After an Ok the new checkpoint is there, and each loss of power leaves it.
-    ensures saved { F.meaning.keeps folder.old → OnOk result ((shards : Shards K V) × (AreHandedOut (S.hands_out source.now) (S.count source.now) shards
-        × (HasCheckpoint K.bytes_of K.is_value V.bytes_of V.is_value dir.now file_name.now generation shards (F.meaning.files folder.new)
-        × ((m : Files) → F.meaning.lost_since folder.new (F.meaning.clock folder.new) m
-        → HasCheckpoint K.bytes_of K.is_value V.bytes_of V.is_value dir.now file_name.now generation shards m)))) }
-
-    // What its manifest tells is whole.
-    ensures told { F.meaning.keeps folder.old → IfOk result (λ manifest. (manifest.generation ≡ generation)
-        × IsWhole dir.now file_name.now generation manifest.frames.items (F.meaning.files folder.new)) }
-
-    // A stop, and a loss of power, at any moment leaves the files as they were, or the whole new checkpoint.
-    ensures saves { F.meaning.keeps folder.old → SavesCheckpoint K.bytes_of K.is_value V.bytes_of V.is_value
-        dir.now file_name.now (S.hands_out source.now) (S.count source.now) F.meaning generation folder.old folder.new }
-
-    // An error names the file and the call that failed, and it has its reason.
-    ensures reason { F.meaning.keeps folder.old → IfErr result (λ error. (mid : F) × ((now : F) × HasSaveReason F.meaning dir.now file_name.now generation mid now error)) }
-
-    ensures error { F.meaning.keeps folder.old → IfErr result IsFault }
+    ensures named { IfErr result (IsToldOf (λ file. (shard : ℕ) × ((shard < S.count source.now) × (file ≡ CheckpointFile.Shard shard)))) }
+    ensures reason { F.meaning.keeps folder.old → IfErr result (HasSaveReason F.meaning dir.now file_name.now generation folder.old folder.new) }
+    ensures faults { F.meaning.keeps folder.old → OnOk result (F.meaning.faults folder.new ≡ F.meaning.faults folder.old) }
     ensures places { F.meaning.keeps folder.old → F.meaning.folders folder.new ≡ F.meaning.folders folder.old }
     ensures kept { F.meaning.keeps folder.old ↔ F.meaning.keeps folder.new }
 {
     let count = source.shards() as u64;
-    let frames = match save_parts(alloc, folder, dir, file_name, generation, source) {
-        Err(error) => {
-            clear(alloc, folder, dir, file_name, generation, count);
-            return Err(error);
-        }
-        Ok(frames) => frames,
-    };
-    let manifest = Manifest { generation, frames };
-    if let Err(error) = save_manifest(alloc, folder, dir, file_name, &manifest) {
-        if is_unnamed(&error) {
-            return Err(error);
-        }
-        clear(alloc, folder, dir, file_name, generation, count);
-        return Err(error);
+    let mut marks = Vec::new(alloc);
+    for shard in 0..count {
+        let mark = save_frame(
+            alloc, folder, dir, file_name, generation, count, shard, source,
+        )?;
+        let Ok(()) = marks.push(mark) else {
+            return Err(CheckpointError::Memory);
+        };
     }
-    match sync_names(folder, dir) {
-        Err(error) => Err(error),
-        Ok(()) => Ok(manifest),
+    Ok(marks)
+}
+
+/// Replaces the manifest of its generation by this one. A stop or a loss of power at any moment leaves the manifest as it
+/// was, or this one, and with this one each file that was synced before.
+///
+/// `Memory`: no memory was found for a name or for bytes. `Folder`: a call failed on the file that a manifest is first
+/// written to. After both the manifest is as it was, unless the call that failed is its renaming, which may have been done.
+/// The other errors are never told.
+pub fn save_manifest<F: Folder>(
+    alloc: Global,
+    folder: &mut F,
+    dir: &str,
+    file_name: &str,
+    manifest: &Manifest,
+) -> Result<(), CheckpointError>
+    requires { suc (length manifest.now.frames.items) < 2 ^ 64 }
+    ensures done { F.meaning.keeps folder.old → OnOk result (IsReplaced (manifest_temp_path dir.now file_name.now manifest.now.generation)
+        (manifest_path dir.now file_name.now manifest.now.generation) (manifest_bytes manifest.now.generation manifest.now.frames.items)
+        (F.meaning.files folder.old) (F.meaning.loose folder.old) (F.meaning.files folder.old) (F.meaning.files folder.new)) }
+    ensures fits { OnOk result (IsManifest manifest.now.generation manifest.now.frames.items) }
+    ensures told { IfErr result (λ error. IsUnnamed error → IsManifest manifest.now.generation manifest.now.frames.items) }
+    ensures replaces { F.meaning.keeps folder.old → Replaces F.meaning (manifest_temp_path dir.now file_name.now manifest.now.generation)
+        (manifest_path dir.now file_name.now manifest.now.generation) (manifest_bytes manifest.now.generation manifest.now.frames.items) folder.old folder.new }
+    ensures firm { F.meaning.keeps folder.old → OnOk result ((q : List ℕ) → F.meaning.loose folder.new q
+        → firmed (manifest_temp_path dir.now file_name.now manifest.now.generation) (firmed (manifest_path dir.now file_name.now manifest.now.generation) (F.meaning.loose folder.old)) q) }
+    // Where another call failed than the renaming, no path but the temporary one has changed at any moment.
+    ensures unnamed { F.meaning.keeps folder.old → IfErr result (λ error. ¬ IsUnnamed error
+        → TouchesOnly F.meaning (λ q. q ≡ manifest_temp_path dir.now file_name.now manifest.now.generation) folder.old folder.new) }
+
+    ensures named { IfErr result (IsToldOf (λ file. file ≡ CheckpointFile.Manifest)) }
+    ensures reason { F.meaning.keeps folder.old → IfErr result (HasSaveReason F.meaning dir.now file_name.now manifest.now.generation folder.old folder.new) }
+    ensures faults { F.meaning.keeps folder.old → OnOk result (F.meaning.faults folder.new ≡ F.meaning.faults folder.old) }
+    ensures places { F.meaning.keeps folder.old → F.meaning.folders folder.new ≡ F.meaning.folders folder.old }
+    ensures kept { F.meaning.keeps folder.old ↔ F.meaning.keeps folder.new }
+{
+    let Ok(temp) = manifest_temp_path(alloc, dir, file_name, manifest.generation) else {
+        return Err(CheckpointError::Memory);
+    };
+    let Ok(path) = manifest_path(alloc, dir, file_name, manifest.generation) else {
+        return Err(CheckpointError::Memory);
+    };
+    let Ok(bytes) = encode_manifest(alloc, manifest) else {
+        return Err(CheckpointError::Memory);
+    };
+    match replace_file(folder, &temp, &path, &bytes) {
+        Ok(()) => Ok(()),
+        Err(fault) => {
+            let file = CheckpointFile::Manifest;
+            Err(CheckpointError::Folder { file, fault })
+        }
     }
 }

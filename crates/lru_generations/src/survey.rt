@@ -2,17 +2,17 @@
 ghost use Rattle.std.specs.Prelude.{◌≡◌, ◌↔◌, ◌<◌, ◌^◌, ℕ, List, false, IfErr, IfOk, OnOk, option_copied};
 ghost use Rattle.lru_folder.specs.Files.{Files};
 ghost use Rattle.lru_folder.specs.Names.{has_slash};
-ghost use Rattle.lru_whole_files.specs.Touching.{TouchesNothing};
+ghost use Rattle.lru_generations.specs.Touching.{TouchesNothing};
 ghost use Rattle.lru_generations.specs.Saving.{AreNamed, IsSurveyed, IsUnsaved, TellsPassed};
 
+use crate::errors::CheckpointError;
+use crate::folder_listing::parts_of;
 use crate::known::Known;
-use crate::listing::parts_of;
+use crate::listing::{generation_above, generations_of};
+use crate::names::PartName;
 use crate::newest::{Newest, newest_whole};
 use crate::syncing::{claim, sync_names};
-use lru_checkpoints::errors::CheckpointError;
-use lru_manifests::listing::{generation_above, generations_of};
-use lru_manifests::names::PartName;
-use lru_synced_folder::synced_folder::SyncedFolder;
+use lru_folder::synced_folder::SyncedFolder;
 use std::alloc::Global;
 
 // What a save finds.

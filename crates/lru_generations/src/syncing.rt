@@ -3,14 +3,14 @@ ghost use Rattle.std.specs.Prelude.{◌≡◌, ◌↔◌, ℕ, List, IfErr, OnOk
 ghost use Rattle.lru_folder.specs.Files.{Same};
 ghost use Rattle.lru_folder.specs.Folder.{Passes};
 ghost use Rattle.lru_folder.specs.Losses.{Loses, looking};
-ghost use Rattle.lru_synced_folder.specs.Names.{AreSynced};
-ghost use Rattle.lru_checkpoints.specs.Causes.{HasSaveReason};
+ghost use Rattle.lru_folder.specs.SyncedNames.{AreSynced};
+ghost use Rattle.lru_generations.specs.Causes.{HasSaveReason};
 ghost use Rattle.lru_generations.specs.Saving.{HasReasonOrIsInUse};
 
-use lru_checkpoints::errors::{CheckpointError, CheckpointFile};
+use crate::errors::{CheckpointError, CheckpointFile};
+use crate::file_errors::CallFault;
 use lru_folder::folder_call::FolderCall;
-use lru_synced_folder::synced_folder::SyncedFolder;
-use lru_whole_files::errors::CallFault;
+use lru_folder::synced_folder::SyncedFolder;
 
 // Syncs the names in the folder.
 pub(crate) fn sync_names<F: SyncedFolder>(folder: &mut F, dir: &str) -> Result<(), CheckpointError>

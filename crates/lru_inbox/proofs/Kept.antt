@@ -8,11 +8,11 @@ use Rattle.std.proofs.lemmas.Bool.{cond-false}
 use Rattle.lru_mailbox.specs.Mail.{Post, served, counted, posted, posted_or_lost}
 use Rattle.lru_actors.specs.declared.message.LruMsg.{LruMsg}
 use Rattle.lru_actors.specs.declared.letter.Letter.{Letter}
-use Rattle.lru_logs.specs.declared.hand.Log.{Log}
-use Rattle.lru_logs.specs.declared.hand.Front.{Front}
-use Rattle.lru_logs.specs.declared.hand.Hand.{Hand}
-use Rattle.lru_logs.specs.Logs.{of_log, log_of, accepted, put_in, taken_from, front, hand, of_fronts, of_taker, begun, joined, seen_of, Shows}
-use Rattle.lru_logs.proofs.Moves.{put_whole, take_same}
+use Rattle.lru_inbox.specs.declared.hand.Log.{Log}
+use Rattle.lru_inbox.specs.declared.hand.Front.{Front}
+use Rattle.lru_inbox.specs.declared.hand.LogHand.{LogHand}
+use Rattle.lru_inbox.specs.Logs.{of_log, log_of, accepted, put_in, taken_from, front, hand, of_fronts, of_taker, begun, joined, seen_of, Shows}
+use Rattle.lru_inbox.proofs.Moves.{put_whole, take_same}
 use Rattle.lru_inbox.specs.Inboxes.{messages_of, IsInbox, Sends}
 use Rattle.lru_inbox.proofs.Lists.{seen_begins, seen_first}
 
@@ -35,9 +35,9 @@ module _ {K T : Type 0} where
   next_messages (suc n) [] ms h = refl
   next_messages (suc n) (l ∷ ls) ms h = first_messages (suc n) (l ∷ ls) ∙ ap (take (length (take (suc n) (l ∷ ls)))) (h (omega arith))
 
-  pub inbox_served : (shard max count : ℕ) (p : Post (Letter K T)) (me me' : Me (Unit {0}) (Hand (LruMsg K))) → IsInbox shard p me → p.pushed < 2 ^ 64 → count ≡ length (take max p.waiting)
+  pub inbox_served : (shard max count : ℕ) (p : Post (Letter K T)) (me me' : Me (Unit {0}) (LogHand (LruMsg K))) → IsInbox shard p me → p.pushed < 2 ^ 64 → count ≡ length (take max p.waiting)
       → me' ≡ (of_log (taken_from (log_of me.0) count), []) → IsInbox shard (served max p) me'
-  inbox_served shard max count p me me' kept fits is after = subst (λ (m : Me (Unit {0}) (Hand (LruMsg K))). IsInbox shard (served max p) m) (sym after) (record {
+  inbox_served shard max count p me me' kept fits is after = subst (λ (m : Me (Unit {0}) (LogHand (LruMsg K))). IsInbox shard (served max p) m) (sym after) (record {
     speaks = refl;
     shard_is = kept.shard_is;
     waits = λ o. other_messages max p.waiting ∙ ap (λ n. drop n (messages_of p.waiting)) (sym is) ∙ ap (drop count) (kept.waits o);
@@ -73,10 +73,10 @@ module _ {K T : Type 0} where
           map_length (x ∷ xs) = let ih = map_length xs in omega (arith, ih)
 
   -- a letter more, in an open mailbox
-  pub inbox_put : (shard : ℕ) (p p' : Post (Letter K T)) (letter : Letter K T) (me me' : Me (Unit {0}) (Hand (LruMsg K))) → IsInbox shard p me → p.closed ≡ false → p.pushed + 1 < 2 ^ 64
+  pub inbox_put : (shard : ℕ) (p p' : Post (Letter K T)) (letter : Letter K T) (me me' : Me (Unit {0}) (LogHand (LruMsg K))) → IsInbox shard p me → p.closed ≡ false → p.pushed + 1 < 2 ^ 64
       → p'.waiting ≡ p.waiting ++ letter ∷ [] → p'.pushed ≡ counted (p.pushed + 1) → p'.taken ≡ p.taken
       → me' ≡ (of_log (put_in (log_of me.0) (letter.message ∷ [])), []) → IsInbox shard p' me'
-  inbox_put shard p p' letter me me' kept is_open fits waiting pushed taken after = subst (λ (m : Me (Unit {0}) (Hand (LruMsg K))). IsInbox shard p' m) (sym after) (record {
+  inbox_put shard p p' letter me me' kept is_open fits waiting pushed taken after = subst (λ (m : Me (Unit {0}) (LogHand (LruMsg K))). IsInbox shard p' m) (sym after) (record {
     speaks = refl;
     shard_is = kept.shard_is;
     waits = λ _. more;
@@ -89,7 +89,7 @@ module _ {K T : Type 0} where
       more = ap messages_of waiting ∙ map-append (λ (x : Letter K T). x.message) p.waiting (letter ∷ []) ∙ ap (λ ms. ms ++ letter.message ∷ []) (kept.waits is_open)
 
 -- what was told is seen beside what was seen before
-pub learned : {E : Type 0} (n m : ℕ) (xs : List E) (fs : List (Front E)) (told before after : Me (Unit {0}) (Hand E)) → told ≡ (of_fronts (front m xs ∷ []), []) → before ≡ (of_fronts fs, []) → m ≡ n
+pub learned : {E : Type 0} (n m : ℕ) (xs : List E) (fs : List (Front E)) (told before after : Me (Unit {0}) (LogHand E)) → told ≡ (of_fronts (front m xs ∷ []), []) → before ≡ (of_fronts fs, []) → m ≡ n
     → after ≡ (joined told.0 before.0, []) → after ≡ (of_fronts (front n xs ∷ fs), [])
 learned n m xs fs told before after of_told of_before same both = both ∙ (λ i. (joined (of_told i).0 (of_before i).0, [])) ∙ (λ i. (of_fronts (front (same i) xs ∷ fs), []))
 
@@ -99,7 +99,7 @@ pub sends : {K : Type 0} (shard : ℕ) (m m' : LruMsg K) (l : Log (LruMsg K)) (f
 sends shard m m' l fs new its same shows is = (accepted l, seen_begins l shard fs its shows, is ∙ (λ i. front (its i) (accepted l ++ same i ∷ []) ∷ fs))
 
 -- the first so many that one who takes had, as they are shown
-pub shown_is : {E : Type 0} (shard count : ℕ) (xs : List E) (me r : Me (Unit {0}) (Hand E)) → me ≡ (of_taker shard xs, []) → r ≡ (of_fronts (map (begun count) me.0.takers), []) → r ≡ (of_fronts (front shard (take count xs) ∷ []), [])
+pub shown_is : {E : Type 0} (shard count : ℕ) (xs : List E) (me r : Me (Unit {0}) (LogHand E)) → me ≡ (of_taker shard xs, []) → r ≡ (of_fronts (map (begun count) me.0.takers), []) → r ≡ (of_fronts (front shard (take count xs) ∷ []), [])
 shown_is shard count xs me r of_me of_r = of_r ∙ (λ i. (of_fronts (map (begun count) (of_me i).0.takers), []))
 
 pub length_take : {A : Type 0} (n : ℕ) (xs : List A) → n ≤ length xs → length (take n xs) ≡ n

@@ -2,10 +2,10 @@
 use Rattle.std.proofs.Common.{◌≡◌, ◌⊎◌, ℕ, suc, ◌≤◌, Bool, cond, List, [], ◌∷◌, ◌++◌, length, sym, refl, ap, ◌∙◌, subst, inl, inr, ⊎_elim, arith}
 use Rattle.std.proofs.lemmas.Bool.{eq-eqb, ne_eqb}
 use native.Mathlib.Decide.{ℕ_discrete}
-use Rattle.lru_hands.specs.Hands.{Among}
-use Rattle.lru_logs.specs.declared.hand.Log.{Log}
-use Rattle.lru_logs.specs.declared.hand.Front.{Front}
-use Rattle.lru_logs.specs.Logs.{Begins, front, hand, seen_of, Shows, accepted}
+use Rattle.lru_short_locks.specs.Hands.{Among}
+use Rattle.lru_inbox.specs.declared.hand.Log.{Log}
+use Rattle.lru_inbox.specs.declared.hand.Front.{Front}
+use Rattle.lru_inbox.specs.Logs.{Begins, front, hand, seen_of, Shows, accepted}
 
 -- the shorter of two beginnings begins the longer
 pub shorter_begins : {A : Type 0} (xs ys ws : List A) → Begins xs ws → Begins ys ws → length xs ≤ length ys → Begins xs ys

@@ -8,16 +8,16 @@ use Rattle.lru_actors.specs.declared.message.LruMsg.{LruMsg}
 use Rattle.lru_actors.specs.declared.message.LruMsg.TheVariants.{Evict}
 use Rattle.lru_actors.specs.declared.effect.Reply.{Reply}
 use Rattle.lru_actors.specs.declared.letter.Letter.{Letter}
-use Rattle.lru_logs.specs.declared.voice.Voice.{Voice}
-use Rattle.lru_logs.specs.declared.tie.Archive.{Ghosts}
-use Rattle.lru_logs.specs.declared.hand.Log.{Log}
-use Rattle.lru_logs.specs.declared.hand.Front.{Front}
-use Rattle.lru_logs.specs.declared.hand.Hand.{Hand}
+use Rattle.lru_inbox.specs.declared.voice.Voice.{Voice}
+use Rattle.lru_inbox.specs.declared.tie.Archive.{Ghosts}
+use Rattle.lru_inbox.specs.declared.hand.Log.{Log}
+use Rattle.lru_inbox.specs.declared.hand.Front.{Front}
+use Rattle.lru_inbox.specs.declared.hand.LogHand.{LogHand}
 use Rattle.lru_inbox.specs.Replies.{IsReply}
-use Rattle.lru_logs.specs.Logs.{Begins, front, of_log, log_of, accepted, put_in, taken_by, seen_of, first_seen}
+use Rattle.lru_inbox.specs.Logs.{Begins, front, of_log, log_of, accepted, put_in, taken_by, seen_of, first_seen}
 
 -- what was seen first of all that a hand has seen
-abbrev pub shown : {E : Type 0} → Hand E → List E
+abbrev pub shown : {E : Type 0} → LogHand E → List E
 shown v = first_seen v.fronts
 
 module _ {K T : Type 0} where
@@ -25,7 +25,7 @@ module _ {K T : Type 0} where
   messages_of letters = map (λ l. l.message) letters
 
   -- a mailbox, and the log that its token speaks for
-  pub record IsInbox (shard : ℕ) (p : Post (Letter K T)) (me : Me (Unit {0}) (Hand (LruMsg K))) : Type 0 where
+  pub record IsInbox (shard : ℕ) (p : Post (Letter K T)) (me : Me (Unit {0}) (LogHand (LruMsg K))) : Type 0 where
     pub speaks : me ≡ (of_log (log_of me.0), [])
     pub shard_is : (log_of me.0).shard ≡ shard
     -- what was put and not taken waits, or it was left behind

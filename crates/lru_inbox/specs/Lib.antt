@@ -1,3 +1,4 @@
 pub mod Replies
 pub mod Inboxes
 pub mod Taking
+pub mod Logs

@@ -1,14 +1,14 @@
 //! Who sends messages.
 ghost use Rattle.std.specs.Prelude.{◌≡◌, ◌≤◌, [], length, IsSome};
 ghost use Rattle.lru_shard.specs.Limits.{cap_of};
-ghost use Rattle.lru_logs.specs.Logs.{of_fronts, seen_of};
+ghost use Rattle.lru_inbox.specs.Logs.{of_fronts, seen_of};
 ghost use Rattle.lru_inbox.specs.Inboxes.{Learns};
 
+use crate::tie::Archive;
 use crate::told::Told;
+use crate::voice::Voice;
 use lru_actors::effect::Reply;
 use lru_actors::message::LruMsg;
-use lru_logs::tie::Archive;
-use lru_logs::voice::Voice;
 
 /// What one who sends messages has seen of the logs: of each shard a beginning.
 #[derive(Drop)]

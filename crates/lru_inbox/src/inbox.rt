@@ -2,16 +2,16 @@
 ghost use Rattle.std.specs.Prelude.{◌≡◌, ◌+◌, ◌%◌, ◌^◌, ◌≤◌, false, [], ◌∷◌, ◌++◌, length, take, map, option_map, vec_len, vec_capacity, IfOk, IfErr, OnErr, IsSome, IfSome, is_some};
 ghost use Rattle.std.specs.Option.{ForSome};
 ghost use Rattle.lru_mailbox.specs.Mail.{empty, served, shut, left};
-ghost use Rattle.lru_logs.specs.Logs.{log, of_log, log_of, seen_of, taken_from};
+ghost use Rattle.lru_inbox.specs.Logs.{log, of_log, log_of, seen_of, taken_from};
 ghost use Rattle.lru_inbox.specs.Inboxes.{IsInbox, messages_of, log_in, taken_in, Sends, PutsLetter, PutsEvict, Refuses};
 
 use crate::caller::Caller;
 use crate::taker::Taker;
+use crate::tie::Archive;
 use crate::told::Told;
+use crate::voice::Voice;
 use lru_actors::Letter;
 use lru_actors::message::LruMsg;
-use lru_logs::tie::Archive;
-use lru_logs::voice::Voice;
 use lru_mailbox::{MailError, MailState};
 use std::alloc::{AllocError, Global};
 use std::collections::VecDeque;

@@ -2,16 +2,16 @@
 ghost use Rattle.std.specs.Prelude.{◌≡◌, ◌+◌, ◌≤◌, [], length, vec_len, vec_capacity, IfOk, IfErr, OnErr, IsSome, is_some};
 ghost use Rattle.std.specs.Option.{ForSome};
 ghost use Rattle.std.specs.Sync.Mutex.{mutex_guard_value};
-ghost use Rattle.lru_logs.specs.Logs.{log, of_log, seen_of};
+ghost use Rattle.lru_inbox.specs.Logs.{log, of_log, seen_of};
 ghost use Rattle.lru_inbox.specs.Inboxes.{Sends, taken_in};
 ghost use Rattle.lru_mailbox.specs.Sending.{HandsBack};
 ghost use Rattle.lru_inbox.specs.Taking.{IsHandedBack, Takes};
 
+use crate::tie::Archive;
+use crate::voice::Voice;
 use crate::{Caller, Inbox, Taker, Told};
 use lru_actors::Letter;
 use lru_actors::message::LruMsg;
-use lru_logs::tie::Archive;
-use lru_logs::voice::Voice;
 use lru_mailbox::{MailError, Queued, Shared};
 use std::alloc::{AllocError, Global};
 use std::collections::VecDeque;
@@ -24,6 +24,10 @@ struct Held<K: Clone + Drop, B: Archive> {
 }
 
 impl<K: Clone + Drop, B: Archive> Queued for Held<K, B> {
+    ghost waits = { λ s. length s.inbox.state.post.waiting };
+
+    ghost shut = { λ s. s.inbox.state.post.closed };
+
     fn waiting(&self) -> usize {
         self.inbox.state.len()
     }

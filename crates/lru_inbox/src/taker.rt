@@ -2,15 +2,15 @@
 ghost use Rattle.std.specs.Prelude.{◌≡◌, ◌≤◌, [], length, take, is_some};
 ghost use Rattle.std.specs.Option.{ForSome};
 ghost use Rattle.lru_shard.specs.Limits.{cap_of};
-ghost use Rattle.lru_logs.specs.Logs.{of_taker, taken_by};
+ghost use Rattle.lru_inbox.specs.Logs.{of_taker, taken_by};
 ghost use Rattle.lru_inbox.specs.Replies.{IsReply};
 ghost use Rattle.lru_inbox.specs.Inboxes.{taken_in};
 
+use crate::tie::Archive;
 use crate::told::Told;
+use crate::voice::Voice;
 use lru_actors::effect::Reply;
 use lru_actors::message::LruMsg;
-use lru_logs::tie::Archive;
-use lru_logs::voice::Voice;
 
 /// What one who takes messages took: of one shard, all that was taken. What it took is known where there is a log.
 #[derive(Drop)]

@@ -2,13 +2,13 @@
 ghost use Rattle.std.specs.Prelude.{◌≡◌, [], ◌∷◌, length};
 ghost use Rattle.std.specs.Option.{ForSome};
 ghost use Rattle.lru_shard.specs.Limits.{cap_of};
-ghost use Rattle.lru_logs.specs.Logs.{front, of_fronts};
+ghost use Rattle.lru_inbox.specs.Logs.{front, of_fronts};
 ghost use Rattle.lru_inbox.specs.Replies.{IsReply};
 ghost use Rattle.lru_inbox.specs.Inboxes.{shown};
 
+use crate::tie::{Archive, LogToken};
 use lru_actors::effect::Reply;
 use lru_actors::message::LruMsg;
-use lru_logs::tie::{Archive, Token};
 use std::marker::PhantomData;
 
 /// A reply, and where there is a log, of what it tells: of the rows that the first so many messages of the shard's log leave.
@@ -23,7 +23,7 @@ pub struct Told<K: Clone + Drop, B: Archive> {
     /// How many of those were refused, modulo 2^64. Where none was, it tells of the rows that all of them leave.
     pub refused: u64,
     /// Speaks for those messages, where there is a log.
-    pub seen: Option<Token<LruMsg<K>>>,
+    pub seen: Option<LogToken<LruMsg<K>>>,
     brand: PhantomData<B>,
     pub ghost here: { ForSome seen (λ t. t.table_id ≡ B.log) },
     pub ghost told: { ForSome seen (λ t. t.me ≡ (of_fronts (front shard (shown t.me.0) ∷ []), [])) },
@@ -37,7 +37,7 @@ impl<K: Clone + Drop, B: Archive> Told<K, B> {
         shard: usize,
         count: u64,
         refused: u64,
-        seen: Option<Token<LruMsg<K>>>,
+        seen: Option<LogToken<LruMsg<K>>>,
     ) -> Self
         requires here { ForSome seen (λ t. t.table_id ≡ B.log) }
         requires told { ForSome seen (λ t. t.me ≡ (of_fronts (front shard (shown t.me.0) ∷ []), [])) }

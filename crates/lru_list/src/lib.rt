@@ -4,4 +4,5 @@
 //! Rows and pairs stand on it; it stands on nothing but std.
 #![tactic(auto)]
 
+pub mod iter;
 pub mod linked_list;

@@ -3,19 +3,17 @@
 //! The nodes lie in one vector and are joined by 32-bit links. Index 0 is the head sentinel, index 1 the tail
 //! sentinel, and items have the indices from 2 on. The slot of a removed item is used again: the one that was
 //! freed last comes first.
-ghost use Rattle.std.specs.Prelude.{◌≡◌, ◌≢◌, ◌⊎◌, ◌<◌, ◌≤◌, ◌==◌, not, [], length, take, vec_len, slice_set, get_or, IfOk, IsSome, is_some, IfSome, option_copied};
+ghost use Rattle.std.specs.Prelude.{◌≡◌, ◌≢◌, ◌⊎◌, ◌<◌, ◌≤◌, ◌==◌, not, [], length, take, vec_len, slice_set, get_or, IfOk, IsSome, is_some, option_copied};
 ghost use Rattle.std.specs.List.{list_any};
 ghost use Rattle.std.specs.Option.{option_copied_mut};
 ghost use Rattle.std.specs.Borrow.{sem};
-ghost use Rattle.std.specs.Iterator.{at_most, UpTo};
-ghost use Rattle.std.specs.Iterator.SizeHint.{IsWithinCount};
-ghost use Rattle.std.specs.Map.Iter.{TakesFirst, TakesLast, ShowsInOrder, ShowsInReverse, deref};
-ghost use Rattle.lru_list.specs.Linked.{Linked, linked, no_slot, items_of, indices_of, itself, IsNumbered, IsLive, IsPlace, head_of, tail_of, next_of, prev_of, item_at, pushed_head, pushed_tail, promoted, demoted, with_its_item, Pushes, Removes, PopsTail, item_of, number_of};
+ghost use Rattle.std.specs.Map.Iter.{ShowsInOrder, ShowsInReverse, deref};
+ghost use Rattle.lru_list.specs.Linked.{Linked, linked, no_slot, items_of, indices_of, IsNumbered, IsLive, IsPlace, head_of, tail_of, next_of, prev_of, item_at, pushed_head, pushed_tail, promoted, demoted, Pushes, Removes, PopsTail, item_of, number_of};
 ghost use Rattle.lru_list.specs.Insertions.{inserted};
 ghost use Rattle.lru_list.specs.Representation.Nodes.{nexts, prevs, items, at as link_at, TakesSlot};
 
+pub use crate::iter::{LinkedListEntries, LinkedListIndices, LinkedListIter};
 use std::alloc::{AllocError, Global};
-use std::iter::FusedIterator;
 use std::marker::Model;
 use std::mem;
 
@@ -39,10 +37,10 @@ const NULL: u32 = 4294967295;
 
 // A freed slot's `prev` leads to the slot that was freed before it.
 #[derive(Drop)]
-struct Node<K> {
-    prev: u32,
-    next: u32,
-    item: K,
+pub(crate) struct Node<K> {
+    pub(crate) prev: u32,
+    pub(crate) next: u32,
+    pub(crate) item: K,
 }
 
 // A node of a number takes 16 bytes: the two links and the number.
@@ -557,223 +555,3 @@ impl<K> LinkedList<K> {
         }
     }
 }
-
-/// An iterator over the items of a list, from head to tail.
-#[derive(Drop)]
-pub struct LinkedListIter<'a, K> {
-    nodes: &'a [Node<K>],
-    head: u32,
-    tail: u32,
-    left: u32,
-}
-
-impl<'a, K> Model for LinkedListIter<'a, K> {
-    ghost use Rattle.std.specs.Prelude.{List};
-
-    ghost Value = { List K };
-
-    ghost use Rattle.lru_list.specs.Representation.Nodes.{rest_of, IsSpan};
-
-    ghost view = { λ it. rest_of it.nodes.now it.head it.left };
-
-    ghost invariant = { λ it. IsSpan it.nodes.now it.head it.tail it.left };
-}
-
-impl<'a, K> Iterator for LinkedListIter<'a, K> {
-    type Item = &'a K;
-
-    ghost next_gives = { TakesFirst deref };
-
-    ghost remaining = { λ rest. at_most (length rest) };
-
-    fn next(&mut self) -> Option<&'a K> {
-        if self.left == 0 {
-            return None;
-        }
-        let nodes = self.nodes;
-        let node = &nodes[self.head as usize];
-        self.head = node.next;
-        self.left -= 1;
-        Some(&node.item)
-    }
-
-    fn size_hint(&self) -> (usize, Option<usize>)
-        ensures lower { IsWithinCount result.0 (at_most (length self.now)) }
-        ensures upper { IfSome result.1 (UpTo (at_most (length self.now))) }
-        ensures exact { result ≡ (length self.now, Some (length self.now)) }
-    {
-        let len = self.len();
-        (len, Some(len))
-    }
-}
-
-impl<'a, K> DoubleEndedIterator for LinkedListIter<'a, K> {
-    ghost next_back_gives = { TakesLast deref };
-
-    fn next_back(&mut self) -> Option<&'a K> {
-        if self.left == 0 {
-            return None;
-        }
-        let nodes = self.nodes;
-        let node = &nodes[self.tail as usize];
-        self.tail = node.prev;
-        self.left -= 1;
-        Some(&node.item)
-    }
-}
-
-impl<'a, K> ExactSizeIterator for LinkedListIter<'a, K> {
-    fn len(&self) -> usize {
-        self.left as usize
-    }
-}
-
-impl<'a, K> FusedIterator for LinkedListIter<'a, K> {}
-
-/// An iterator over the indices of a list's items, from head to tail.
-#[derive(Drop)]
-pub struct LinkedListIndices<'a, K> {
-    nodes: &'a [Node<K>],
-    first: u32,
-    last: u32,
-    count: u32,
-}
-
-impl<'a, K> Model for LinkedListIndices<'a, K> {
-    ghost use Rattle.std.specs.Prelude.{List, ℕ};
-
-    ghost Value = { List ℕ };
-
-    ghost use Rattle.lru_list.specs.Representation.Nodes.{places_of, IsSpan};
-
-    ghost view = { λ it. places_of it.nodes.now it.first it.count };
-
-    ghost invariant = { λ it. IsSpan it.nodes.now it.first it.last it.count };
-}
-
-impl<'a, K> Iterator for LinkedListIndices<'a, K> {
-    type Item = Index;
-
-    ghost next_gives = { TakesFirst itself };
-
-    ghost remaining = { λ rest. at_most (length rest) };
-
-    fn next(&mut self) -> Option<Index> {
-        if self.count == 0 {
-            return None;
-        }
-        let nodes = self.nodes;
-        let index = self.first;
-        let node = &nodes[index as usize];
-        self.first = node.next;
-        self.count -= 1;
-        Some(index as usize)
-    }
-
-    fn size_hint(&self) -> (usize, Option<usize>)
-        ensures lower { IsWithinCount result.0 (at_most (length self.now)) }
-        ensures upper { IfSome result.1 (UpTo (at_most (length self.now))) }
-        ensures exact { result ≡ (length self.now, Some (length self.now)) }
-    {
-        let len = self.len();
-        (len, Some(len))
-    }
-}
-
-impl<'a, K> DoubleEndedIterator for LinkedListIndices<'a, K> {
-    ghost next_back_gives = { TakesLast itself };
-
-    fn next_back(&mut self) -> Option<Index> {
-        if self.count == 0 {
-            return None;
-        }
-        let nodes = self.nodes;
-        let place = self.last;
-        let node = &nodes[place as usize];
-        self.last = node.prev;
-        self.count -= 1;
-        Some(place as usize)
-    }
-}
-
-impl<'a, K> ExactSizeIterator for LinkedListIndices<'a, K> {
-    fn len(&self) -> usize {
-        self.count as usize
-    }
-}
-
-impl<'a, K> FusedIterator for LinkedListIndices<'a, K> {}
-
-/// An iterator over the indices of a list's items, each with its item, from head to tail.
-#[derive(Drop)]
-pub struct LinkedListEntries<'a, K> {
-    nodes: &'a [Node<K>],
-    front: u32,
-    back: u32,
-    left: u32,
-}
-
-impl<'a, K> Model for LinkedListEntries<'a, K> {
-    ghost use Rattle.std.specs.Prelude.{List, ℕ};
-
-    ghost Value = { List (ℕ × K) };
-
-    ghost use Rattle.lru_list.specs.Representation.Nodes.{pairs_of, IsSpan};
-
-    ghost view = { λ it. pairs_of it.nodes.now it.front it.left };
-
-    ghost invariant = { λ it. IsSpan it.nodes.now it.front it.back it.left };
-}
-
-impl<'a, K> Iterator for LinkedListEntries<'a, K> {
-    type Item = (Index, &'a K);
-
-    ghost next_gives = { TakesFirst with_its_item };
-
-    ghost remaining = { λ rest. at_most (length rest) };
-
-    fn next(&mut self) -> Option<(Index, &'a K)> {
-        if self.left == 0 {
-            return None;
-        }
-        let nodes = self.nodes;
-        let index = self.front;
-        let node = &nodes[index as usize];
-        self.front = node.next;
-        self.left -= 1;
-        Some((index as usize, &node.item))
-    }
-
-    fn size_hint(&self) -> (usize, Option<usize>)
-        ensures lower { IsWithinCount result.0 (at_most (length self.now)) }
-        ensures upper { IfSome result.1 (UpTo (at_most (length self.now))) }
-        ensures exact { result ≡ (length self.now, Some (length self.now)) }
-    {
-        let len = self.len();
-        (len, Some(len))
-    }
-}
-
-impl<'a, K> DoubleEndedIterator for LinkedListEntries<'a, K> {
-    ghost next_back_gives = { TakesLast with_its_item };
-
-    fn next_back(&mut self) -> Option<(Index, &'a K)> {
-        if self.left == 0 {
-            return None;
-        }
-        let nodes = self.nodes;
-        let place = self.back;
-        let node = &nodes[place as usize];
-        self.back = node.prev;
-        self.left -= 1;
-        Some((place as usize, &node.item))
-    }
-}
-
-impl<'a, K> ExactSizeIterator for LinkedListEntries<'a, K> {
-    fn len(&self) -> usize {
-        self.left as usize
-    }
-}
-
-impl<'a, K> FusedIterator for LinkedListEntries<'a, K> {}

@@ -4,7 +4,7 @@ use Rattle.std.specs.Prelude.{OnOk}
 use Rattle.std.specs.FinMap.{from_entries}
 use Rattle.lru_folder.specs.declared.fault.FolderFault.{FolderFault}
 use Rattle.lru_folder.specs.Files.{Files}
-use Rattle.lru_synced_folder.specs.Names.{AreSynced, HasNames}
+use Rattle.lru_folder.specs.SyncedNames.{AreSynced, HasNames}
 use Rattle.lru_folder.specs.Losses.{IsSpread, IsSynced, Loses, at_opening, firmed, handed_on, loss_of}
 use Rattle.lru_memory_folder.specs.declared.calls.End.{End}
 use Rattle.lru_memory_folder.specs.declared.calls.End.TheVariants.{Done}

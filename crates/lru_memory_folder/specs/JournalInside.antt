@@ -1,6 +1,6 @@
 -- What the program keeps of the calls of a folder in memory.
 use Rattle.std.specs.Prelude.{◌≡◌, map}
-use Rattle.lru_memory_folder.specs.declared.journal.Journal.TheInside.{Inside}
+use Rattle.lru_memory_folder.specs.declared.journal.CallJournal.TheInside.{Inside}
 use Rattle.lru_memory_folder.specs.Calls.{after}
 use Rattle.lru_memory_folder.specs.DeedInside.{noted_of}
 use Rattle.lru_memory_folder.specs.HeldInside.{entries_of, files_in}

@@ -4,7 +4,7 @@ ghost use Rattle.lru_memory_folder.specs.History.{end_of};
 
 /// A call, with what it was given to do to the files.
 #[derive(Drop)]
-pub(crate) enum Call {
+pub(crate) enum FileCall {
     Create(String),
     Write(String, Vec<u8>),
     Rename(String, String),
@@ -28,8 +28,8 @@ pub enum End {
 
 /// A call with how it ended.
 #[derive(Drop)]
-pub(crate) struct Ended {
-    pub(crate) call: Call,
+pub(crate) struct EndedCall {
+    pub(crate) call: FileCall,
     pub(crate) end: End,
 }
 

@@ -14,10 +14,10 @@ use std::alloc::{AllocError, Global};
 use std::collections::BTreeMap;
 
 /// The bytes of each path.
-pub(crate) type Held = BTreeMap<String, Vec<u8>>;
+pub(crate) type PathBytes = BTreeMap<String, Vec<u8>>;
 
 /// The bytes of the path.
-pub(crate) fn find<'a>(held: &'a Held, path: &str) -> Option<&'a [u8]>
+pub(crate) fn find<'a>(held: &'a PathBytes, path: &str) -> Option<&'a [u8]>
     ensures { MatchOption result (get (files_in held.now.entries) path.now ≡ None)
         (λ bytes. get (files_in held.now.entries) path.now ≡ Some bytes.now) }
 {
@@ -30,7 +30,7 @@ pub(crate) fn find<'a>(held: &'a Held, path: &str) -> Option<&'a [u8]>
 /// Gives the path these bytes. Where a new path finds no memory, nothing changes.
 pub(crate) fn put(
     alloc: Global,
-    held: &mut Held,
+    held: &mut PathBytes,
     path: &str,
     bytes: Vec<u8>,
 ) -> Result<(), AllocError>
@@ -42,21 +42,21 @@ pub(crate) fn put(
 }
 
 /// Takes the path away.
-pub(crate) fn take_out(held: &mut Held, path: &str)
+pub(crate) fn take_out(held: &mut PathBytes, path: &str)
     ensures { files_in held.new.entries ≡ remove (files_in held.old.entries) path.now }
 {
     let _ = held.remove(path);
 }
 
 /// Whether the path is there.
-pub(crate) fn holds(held: &Held, path: &str) -> bool
+pub(crate) fn holds(held: &PathBytes, path: &str) -> bool
     ensures { result ≡ is_some (get (files_in held.now.entries) path.now) }
 {
     find(held, path).is_some()
 }
 
 /// The bytes of the path, none where it is not there.
-pub(crate) fn bytes_of<'a>(held: &'a Held, path: &str) -> &'a [u8]
+pub(crate) fn bytes_of<'a>(held: &'a PathBytes, path: &str) -> &'a [u8]
     ensures { result.now ≡ bytes_at (files_in held.now.entries) path.now }
 {
     match find(held, path) {
@@ -66,7 +66,7 @@ pub(crate) fn bytes_of<'a>(held: &'a Held, path: &str) -> &'a [u8]
 }
 
 /// Takes the path away, and gives its bytes, none where it was not there.
-fn take_bytes(alloc: Global, held: &mut Held, path: &str) -> Vec<u8>
+fn take_bytes(alloc: Global, held: &mut PathBytes, path: &str) -> Vec<u8>
     ensures bytes { result.items ≡ bytes_at (files_in held.old.entries) path.now }
     ensures gone { files_in held.new.entries ≡ remove (files_in held.old.entries) path.now }
 {
@@ -77,7 +77,7 @@ fn take_bytes(alloc: Global, held: &mut Held, path: &str) -> Vec<u8>
 }
 
 /// Gives a path that is there these bytes.
-fn set(held: &mut Held, path: &str, bytes: Vec<u8>)
+fn set(held: &mut PathBytes, path: &str, bytes: Vec<u8>)
     requires { IsTrue (is_some (get (files_in held.old.entries) path.now)) }
     ensures { files_in held.new.entries ≡ insert (files_in held.old.entries) path.now bytes.items }
 {
@@ -87,7 +87,7 @@ fn set(held: &mut Held, path: &str, bytes: Vec<u8>)
 }
 
 /// Gives the bytes of a path to another, which takes its place. Where that finds no memory, nothing changes.
-fn give(alloc: Global, held: &mut Held, from: &str, to: &str) -> Result<(), AllocError>
+fn give(alloc: Global, held: &mut PathBytes, from: &str, to: &str) -> Result<(), AllocError>
     requires { from.now ≢ to.now }
     ensures ok { OnOk result (files_in held.new.entries ≡ insert (remove (files_in held.old.entries) from.now) to.now (bytes_at (files_in held.old.entries) from.now)) }
     ensures err { OnErr result (files_in held.new.entries ≡ files_in held.old.entries) }
@@ -100,7 +100,7 @@ fn give(alloc: Global, held: &mut Held, from: &str, to: &str) -> Result<(), Allo
 }
 
 /// Puts a piece behind the bytes of a path that is there. Where that finds no memory, nothing changes.
-fn extend(held: &mut Held, path: &str, piece: &[u8]) -> Result<(), AllocError>
+fn extend(held: &mut PathBytes, path: &str, piece: &[u8]) -> Result<(), AllocError>
     requires { IsTrue (is_some (get (files_in held.old.entries) path.now)) }
     ensures ok { OnOk result (files_in held.new.entries ≡ appended path.now piece.now (files_in held.old.entries)) }
     ensures err { OnErr result (files_in held.new.entries ≡ files_in held.old.entries) }
@@ -114,7 +114,7 @@ fn extend(held: &mut Held, path: &str, piece: &[u8]) -> Result<(), AllocError>
 /// Puts a piece behind the bytes of the path. Where that finds no memory, nothing changes.
 pub(crate) fn append(
     alloc: Global,
-    held: &mut Held,
+    held: &mut PathBytes,
     path: &str,
     piece: &[u8],
 ) -> Result<(), AllocError>
@@ -131,7 +131,7 @@ pub(crate) fn append(
 /// Gives the file of a path, if it is there, another path. Where that finds no memory, nothing changes.
 pub(crate) fn give_name(
     alloc: Global,
-    held: &mut Held,
+    held: &mut PathBytes,
     from: &str,
     to: &str,
 ) -> Result<(), AllocError>
@@ -161,7 +161,7 @@ pub(crate) fn front(piece: &[u8], max: usize) -> &[u8]
 /// A copy of the bytes of the path from a place on, at most so many.
 pub(crate) fn piece_at(
     alloc: Global,
-    held: &Held,
+    held: &PathBytes,
     path: &str,
     at: usize,
     max: usize,
@@ -178,7 +178,7 @@ pub(crate) fn piece_at(
 }
 
 /// The paths, in byte order.
-pub(crate) fn paths_of(alloc: Global, held: &Held) -> Result<Vec<String>, AllocError>
+pub(crate) fn paths_of(alloc: Global, held: &PathBytes) -> Result<Vec<String>, AllocError>
     ensures { IfOk result (λ paths. map string_bytes paths.items ≡ keys (files_in held.now.entries)) }
 {
     let mut paths = Vec::new(alloc);
@@ -189,7 +189,11 @@ pub(crate) fn paths_of(alloc: Global, held: &Held) -> Result<Vec<String>, AllocE
 }
 
 /// The names of the files in a folder, in byte order.
-pub(crate) fn names_of(alloc: Global, held: &Held, dir: &str) -> Result<Vec<Listed>, AllocError>
+pub(crate) fn names_of(
+    alloc: Global,
+    held: &PathBytes,
+    dir: &str,
+) -> Result<Vec<Listed>, AllocError>
     ensures { IfOk result (λ listed. map name_of listed.items ≡ listing dir.now (files_in held.now.entries)) }
 {
     let front = path_of(alloc, dir, "")?;
@@ -217,7 +221,7 @@ fn list_name(
 }
 
 /// A copy of all files.
-pub(crate) fn copy_all(held: &Held) -> Result<Held, AllocError>
+pub(crate) fn copy_all(held: &PathBytes) -> Result<PathBytes, AllocError>
     ensures { IfOk result (λ copy. files_in copy.entries ≡ files_in held.now.entries) }
 {
     let copy = held.clone()?;

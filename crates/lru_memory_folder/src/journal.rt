@@ -8,8 +8,8 @@ ghost use Rattle.lru_memory_folder.specs.History.{end_of, files_left, with_call,
 ghost use Rattle.lru_memory_folder.specs.Kept.{IsMarked};
 ghost use Rattle.lru_memory_folder.specs.ReplayInside.{kept_of, loss_in};
 
-use crate::calls::{Call, End, Ended, end_of};
-use crate::held::{Held, append, copy_all, front, give_name, put, take_out};
+use crate::calls::{End, EndedCall, FileCall, end_of};
+use crate::held::{PathBytes, append, copy_all, front, give_name, put, take_out};
 use crate::replay::Replay;
 use lru_folder::fault::FolderFault;
 use std::alloc::{AllocError, Global};
@@ -18,13 +18,13 @@ use std::marker::Model;
 
 /// The files that a folder began with, its calls since, and the files that these left.
 #[derive(Drop)]
-pub(crate) struct Journal {
-    begun: Held,
-    calls: Vec<Ended>,
-    held: Held,
+pub(crate) struct CallJournal {
+    begun: PathBytes,
+    calls: Vec<EndedCall>,
+    held: PathBytes,
 }
 
-impl Model for Journal {
+impl Model for CallJournal {
     ghost use Rattle.lru_memory_folder.specs.History.{History};
 
     ghost Value = { History };
@@ -36,12 +36,12 @@ impl Model for Journal {
     ghost invariant = { IsReplayed };
 }
 
-impl Journal {
+impl CallJournal {
     /// A journal that begins without files.
     pub(crate) fn new(alloc: Global) -> Self
         ensures { result ≡ record { begun = []; calls = [] } }
     {
-        Journal {
+        CallJournal {
             begun: BTreeMap::new(alloc),
             calls: Vec::new(alloc),
             held: BTreeMap::new(alloc),
@@ -49,11 +49,11 @@ impl Journal {
     }
 
     /// A journal that begins with these files.
-    pub(crate) fn begin(alloc: Global, held: Held) -> Result<Self, AllocError>
+    pub(crate) fn begin(alloc: Global, held: PathBytes) -> Result<Self, AllocError>
         ensures files { IfOk result (λ journal. files_left journal ≡ files_in held.entries) }
         ensures begins { IfOk result (λ journal. journal.calls ≡ []) }
     {
-        Ok(Journal {
+        Ok(CallJournal {
             begun: copy_all(&held)?,
             calls: Vec::new(alloc),
             held,
@@ -61,7 +61,7 @@ impl Journal {
     }
 
     /// The files now.
-    pub(crate) fn held(&self) -> &Held
+    pub(crate) fn held(&self) -> &PathBytes
         ensures { files_in result.now.entries ≡ files_left self.now }
     {
         &self.held
@@ -75,7 +75,7 @@ impl Journal {
     }
 
     /// The files, without the calls that led to them.
-    pub(crate) fn into_held(self) -> Held
+    pub(crate) fn into_held(self) -> PathBytes
         ensures { files_in result.entries ≡ files_left self }
     {
         self.held
@@ -88,7 +88,7 @@ impl Journal {
     {
         let mut held = self.into_held();
         put(alloc, &mut held, path, bytes.to_vec(alloc)?)?;
-        Journal::begin(alloc, held)
+        CallJournal::begin(alloc, held)
     }
 
     /// The files that a loss of power leaves which keeps the first `names` name changes since the last sync, and puts one
@@ -98,7 +98,7 @@ impl Journal {
         alloc: Global,
         names: usize,
         byte: u8,
-    ) -> Result<Held, AllocError>
+    ) -> Result<PathBytes, AllocError>
         ensures { IfOk result (λ held. IsMarked byte (loss_in (kept_of names self.now)) (files_in held.entries)) }
     {
         let mut replay = Replay::new(&self.begun, names)?;
@@ -109,7 +109,7 @@ impl Journal {
     }
 
     /// Does what a call does that ends so, and notes it. Where memory is refused, nothing changes.
-    pub(crate) fn note(&mut self, alloc: Global, call: Call, end: End) -> Result<(), AllocError>
+    pub(crate) fn note(&mut self, alloc: Global, call: FileCall, end: End) -> Result<(), AllocError>
         ensures ok { OnOk result (self.new ≡ with_call self.old (deed_of call) end) }
         ensures err { OnErr result (self.new ≡ self.old) }
     {
@@ -122,7 +122,7 @@ impl Journal {
     pub(crate) fn conclude(
         &mut self,
         alloc: Global,
-        call: Call,
+        call: FileCall,
         fate: Option<usize>,
         found: bool,
     ) -> Result<(), FolderFault>
@@ -141,9 +141,9 @@ impl Journal {
 /// Does a call, and makes room for it behind the others. Where memory is refused, nothing changes.
 fn make_ready(
     alloc: Global,
-    calls: &mut Vec<Ended>,
-    held: &mut Held,
-    call: &Call,
+    calls: &mut Vec<EndedCall>,
+    held: &mut PathBytes,
+    call: &FileCall,
     end: End,
 ) -> Result<(), AllocError>
     ensures calls { calls.new.items ≡ calls.old.items }
@@ -156,15 +156,20 @@ fn make_ready(
 }
 
 /// Puts a call behind the others, for which there is room.
-fn push(calls: &mut Vec<Ended>, call: Call, end: End)
+fn push(calls: &mut Vec<EndedCall>, call: FileCall, end: End)
     requires { vec_len calls.old < vec_capacity calls.old }
     ensures { calls.new.items ≡ calls.old.items ++ record { call = call; end = end } ∷ [] }
 {
-    calls.push(Ended { call, end }).unwrap();
+    calls.push(EndedCall { call, end }).unwrap();
 }
 
 /// Does to the files what a call does that ends so. Where memory is refused, nothing changes.
-pub(crate) fn apply(alloc: Global, held: &mut Held, call: &Call, end: End) -> Result<(), AllocError>
+pub(crate) fn apply(
+    alloc: Global,
+    held: &mut PathBytes,
+    call: &FileCall,
+    end: End,
+) -> Result<(), AllocError>
     ensures ok { OnOk result (files_in held.new.entries ≡ ended (deed_of call.now) end (files_in held.old.entries)) }
     ensures err { OnErr result (files_in held.new.entries ≡ files_in held.old.entries) }
 {
@@ -176,36 +181,41 @@ pub(crate) fn apply(alloc: Global, held: &mut Held, call: &Call, end: End) -> Re
 }
 
 /// Does to the files what the whole of a call does.
-fn apply_whole(alloc: Global, held: &mut Held, call: &Call) -> Result<(), AllocError>
+fn apply_whole(alloc: Global, held: &mut PathBytes, call: &FileCall) -> Result<(), AllocError>
     ensures ok { OnOk result (files_in held.new.entries ≡ whole (deed_of call.now) (files_in held.old.entries)) }
     ensures err { OnErr result (files_in held.new.entries ≡ files_in held.old.entries) }
 {
     match call {
-        Call::Create(path) => put(alloc, held, path.as_str(), Vec::new(alloc)),
-        Call::Write(path, piece) => append(alloc, held, path.as_str(), piece),
-        Call::Rename(from, to) => give_name(alloc, held, from.as_str(), to.as_str()),
-        Call::Remove(path) => {
+        FileCall::Create(path) => put(alloc, held, path.as_str(), Vec::new(alloc)),
+        FileCall::Write(path, piece) => append(alloc, held, path.as_str(), piece),
+        FileCall::Rename(from, to) => give_name(alloc, held, from.as_str(), to.as_str()),
+        FileCall::Remove(path) => {
             take_out(held, path.as_str());
             Ok(())
         }
-        Call::Sync(_) => Ok(()),
-        Call::SyncDir(_) => Ok(()),
-        Call::Look => Ok(()),
+        FileCall::Sync(_) => Ok(()),
+        FileCall::SyncDir(_) => Ok(()),
+        FileCall::Look => Ok(()),
     }
 }
 
 /// Does to the files what is left of a call that failed, after so many bytes of a piece.
-fn apply_front(alloc: Global, held: &mut Held, call: &Call, part: usize) -> Result<(), AllocError>
+fn apply_front(
+    alloc: Global,
+    held: &mut PathBytes,
+    call: &FileCall,
+    part: usize,
+) -> Result<(), AllocError>
     ensures ok { OnOk result (files_in held.new.entries ≡ begun (deed_of call.now) part (files_in held.old.entries)) }
     ensures err { OnErr result (files_in held.new.entries ≡ files_in held.old.entries) }
 {
     match call {
-        Call::Write(path, piece) => append(alloc, held, path.as_str(), front(piece, part)),
-        Call::Create(_) => Ok(()),
-        Call::Rename(_, _) => Ok(()),
-        Call::Remove(_) => Ok(()),
-        Call::Sync(_) => Ok(()),
-        Call::SyncDir(_) => Ok(()),
-        Call::Look => Ok(()),
+        FileCall::Write(path, piece) => append(alloc, held, path.as_str(), front(piece, part)),
+        FileCall::Create(_) => Ok(()),
+        FileCall::Rename(_, _) => Ok(()),
+        FileCall::Remove(_) => Ok(()),
+        FileCall::Sync(_) => Ok(()),
+        FileCall::SyncDir(_) => Ok(()),
+        FileCall::Look => Ok(()),
     }
 }

@@ -12,7 +12,7 @@ ghost use Rattle.lru_memory_folder.specs.Kept.{IsMarked};
 ghost use Rattle.lru_memory_folder.specs.Memory.{files_of, folders_of, clock_of, faults_of, stopped_since_of, lost_since_of, loose_of, loss_kept, has_another};
 ghost use Rattle.lru_memory_folder.specs.MemoryLaws.{memory_meaning};
 ghost use Rattle.lru_folder.specs.Places.{folder_of, is_there, can_list, listing, MakesAll, MakesSome};
-ghost use Rattle.lru_synced_folder.specs.Names.{AreSynced};
+ghost use Rattle.lru_folder.specs.SyncedNames.{AreSynced};
 ghost use Rattle.lru_memory_folder.specs.Plans.{front_of, nothing, GoesAsPlanned};
 
 use crate::calls::Plan;
@@ -24,7 +24,7 @@ use lru_folder::fault::FolderFault;
 use lru_folder::folder::Folder;
 use lru_folder::folder_call::FolderCall;
 use lru_folder::listed::Listed;
-use lru_synced_folder::synced_folder::SyncedFolder;
+use lru_folder::synced_folder::SyncedFolder;
 use std::alloc::{AllocError, Global};
 use std::marker::Model;
 

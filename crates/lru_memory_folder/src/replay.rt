@@ -8,25 +8,31 @@ ghost use Rattle.lru_memory_folder.specs.Kept.{changes_names, is_synced, IsMarke
 ghost use Rattle.lru_memory_folder.specs.ReplayInside.{Counts, IsReplay, kept_of, loss_in};
 ghost use Rattle.lru_memory_folder.specs.MarksInside.{lost_after, lost_done, lost_failed, marked, put_some};
 
-use crate::calls::{Call, End, Ended};
-use crate::held::{Held, copy_all, find, give_name, put, take_out};
+use crate::calls::{End, EndedCall, FileCall};
+use crate::held::{PathBytes, copy_all, find, give_name, put, take_out};
 use crate::journal::apply;
 use std::alloc::{AllocError, Global};
 
 /// The files that the calls so far left, and what a loss of power may leave of them.
 #[derive(Drop)]
 pub(crate) struct Replay {
-    pub(crate) held: Held,
+    pub(crate) held: PathBytes,
     /// The same files, with the one byte in each loose path.
-    pub(crate) lost: Held,
+    pub(crate) lost: PathBytes,
     /// What `lost` was before the first name change that is not kept, if there was one since the last sync.
-    pub(crate) chosen: Option<Held>,
+    pub(crate) chosen: Option<PathBytes>,
     /// How many name changes are still to be kept.
     pub(crate) names_left: usize,
 }
 
 /// Puts the one byte into a path that is there.
-fn mark(alloc: Global, lost: &mut Held, held: &Held, path: &str, byte: u8) -> Result<(), AllocError>
+fn mark(
+    alloc: Global,
+    lost: &mut PathBytes,
+    held: &PathBytes,
+    path: &str,
+    byte: u8,
+) -> Result<(), AllocError>
     ensures { OnOk result (files_in lost.new.entries ≡ marked path.now byte (files_in held.now.entries) (files_in lost.old.entries)) }
 {
     match find(held, path) {
@@ -36,7 +42,12 @@ fn mark(alloc: Global, lost: &mut Held, held: &Held, path: &str, byte: u8) -> Re
 }
 
 /// Gives a path that was synced its bytes back.
-fn restore(alloc: Global, lost: &mut Held, held: &Held, path: &str) -> Result<(), AllocError>
+fn restore(
+    alloc: Global,
+    lost: &mut PathBytes,
+    held: &PathBytes,
+    path: &str,
+) -> Result<(), AllocError>
     ensures { OnOk result (files_in lost.new.entries ≡ put_some path.now (get (files_in held.now.entries) path.now) (files_in lost.old.entries)) }
 {
     match find(held, path) {
@@ -48,54 +59,54 @@ fn restore(alloc: Global, lost: &mut Held, held: &Held, path: &str) -> Result<()
 /// Does to what a loss leaves what the whole of a call does, which left these files.
 fn lose_whole(
     alloc: Global,
-    lost: &mut Held,
-    held: &Held,
-    call: &Call,
+    lost: &mut PathBytes,
+    held: &PathBytes,
+    call: &FileCall,
     byte: u8,
 ) -> Result<(), AllocError>
     ensures { OnOk result (files_in lost.new.entries ≡ lost_done (deed_of call.now) byte (files_in held.now.entries) (files_in lost.old.entries)) }
 {
     match call {
-        Call::Create(path) => mark(alloc, lost, held, path.as_str(), byte),
-        Call::Write(path, _) => mark(alloc, lost, held, path.as_str(), byte),
-        Call::Rename(from, to) => give_name(alloc, lost, from.as_str(), to.as_str()),
-        Call::Remove(path) => {
+        FileCall::Create(path) => mark(alloc, lost, held, path.as_str(), byte),
+        FileCall::Write(path, _) => mark(alloc, lost, held, path.as_str(), byte),
+        FileCall::Rename(from, to) => give_name(alloc, lost, from.as_str(), to.as_str()),
+        FileCall::Remove(path) => {
             take_out(lost, path.as_str());
             Ok(())
         }
-        Call::Sync(path) => restore(alloc, lost, held, path.as_str()),
-        Call::SyncDir(_) => Ok(()),
-        Call::Look => Ok(()),
+        FileCall::Sync(path) => restore(alloc, lost, held, path.as_str()),
+        FileCall::SyncDir(_) => Ok(()),
+        FileCall::Look => Ok(()),
     }
 }
 
 /// The same of a call that failed.
 fn lose_part(
     alloc: Global,
-    lost: &mut Held,
-    held: &Held,
-    call: &Call,
+    lost: &mut PathBytes,
+    held: &PathBytes,
+    call: &FileCall,
     byte: u8,
 ) -> Result<(), AllocError>
     ensures { OnOk result (files_in lost.new.entries ≡ lost_failed (deed_of call.now) byte (files_in held.now.entries) (files_in lost.old.entries)) }
 {
     match call {
-        Call::Create(path) => mark(alloc, lost, held, path.as_str(), byte),
-        Call::Write(path, _) => mark(alloc, lost, held, path.as_str(), byte),
-        Call::Rename(_, _) => Ok(()),
-        Call::Remove(_) => Ok(()),
-        Call::Sync(_) => Ok(()),
-        Call::SyncDir(_) => Ok(()),
-        Call::Look => Ok(()),
+        FileCall::Create(path) => mark(alloc, lost, held, path.as_str(), byte),
+        FileCall::Write(path, _) => mark(alloc, lost, held, path.as_str(), byte),
+        FileCall::Rename(_, _) => Ok(()),
+        FileCall::Remove(_) => Ok(()),
+        FileCall::Sync(_) => Ok(()),
+        FileCall::SyncDir(_) => Ok(()),
+        FileCall::Look => Ok(()),
     }
 }
 
 /// What a call does that ended so.
 fn lose(
     alloc: Global,
-    lost: &mut Held,
-    held: &Held,
-    ended: &Ended,
+    lost: &mut PathBytes,
+    held: &PathBytes,
+    ended: &EndedCall,
     byte: u8,
 ) -> Result<(), AllocError>
     ensures { OnOk result (files_in lost.new.entries ≡ lost_after (deed_of ended.now.call) ended.now.end byte (files_in held.now.entries) (files_in lost.old.entries)) }
@@ -108,23 +119,23 @@ fn lose(
 }
 
 /// Whether the call was the whole of a sync, of a file or of a folder's names.
-fn is_sync(ended: &Ended) -> bool
+fn is_sync(ended: &EndedCall) -> bool
     ensures { result ≡ is_synced (noted_of ended.now) }
 {
     matches!(
         (&ended.call, ended.end),
-        (Call::Sync(_) | Call::SyncDir(_), End::Done)
+        (FileCall::Sync(_) | FileCall::SyncDir(_), End::Done)
     )
 }
 
 /// Whether the call was the whole of a change of names.
-fn changes_names(ended: &Ended) -> bool
+fn changes_names(ended: &EndedCall) -> bool
     ensures { result ≡ changes_names (noted_of ended.now) }
 {
     matches!(
         (&ended.call, ended.end),
         (
-            Call::Create(_) | Call::Rename(_, _) | Call::Remove(_),
+            FileCall::Create(_) | FileCall::Rename(_, _) | FileCall::Remove(_),
             End::Done
         )
     )
@@ -132,7 +143,7 @@ fn changes_names(ended: &Ended) -> bool
 
 impl Replay {
     /// Before the first call. `names`: how many name changes are kept.
-    pub(crate) fn new(begun: &Held, names: usize) -> Result<Self, AllocError>
+    pub(crate) fn new(begun: &PathBytes, names: usize) -> Result<Self, AllocError>
         ensures { IfOk result (λ replay. (byte : ℕ) → IsReplay names byte (record { begun = entries_of begun.now.entries; calls = [] }) replay) }
     {
         Ok(Replay {
@@ -159,7 +170,7 @@ impl Replay {
     }
 
     /// Before a call: a sync makes all that came before it safe, and of the name changes after it `names` are kept.
-    fn choose(&mut self, ended: &Ended, names: usize) -> Result<(), AllocError>
+    fn choose(&mut self, ended: &EndedCall, names: usize) -> Result<(), AllocError>
         ensures held { self.new.held ≡ self.old.held }
         ensures lost { self.new.lost ≡ self.old.lost }
         ensures sync { OnOk result (is_synced (noted_of ended.now) ≡ true → (self.new.chosen ≡ None) × (self.new.names_left ≡ names)) }
@@ -184,7 +195,7 @@ impl Replay {
     pub(crate) fn step(
         &mut self,
         alloc: Global,
-        ended: &Ended,
+        ended: &EndedCall,
         names: usize,
         byte: u8,
     ) -> Result<(), AllocError>
@@ -197,7 +208,7 @@ impl Replay {
     }
 
     /// What a loss of power leaves, once all calls were made.
-    pub(crate) fn into_lost(self) -> Held
+    pub(crate) fn into_lost(self) -> PathBytes
         ensures { (h : History) (names byte : ℕ) → IsReplay names byte h self → IsMarked byte (loss_in (kept_of names h)) (files_in result.entries) }
     {
         let Replay { lost, chosen, .. } = self;

@@ -14,9 +14,9 @@ ghost use Rattle.lru_memory_folder.specs.OpenInside.{opened_in};
 ghost use Rattle.lru_memory_folder.specs.Kept.{IsMarked};
 ghost use Rattle.lru_memory_folder.specs.ReplayInside.{kept_of, loss_in};
 
-use crate::calls::Call;
-use crate::held::{Held, bytes_of, holds, names_of, paths_of, piece_at};
-use crate::journal::Journal;
+use crate::calls::FileCall;
+use crate::held::{PathBytes, bytes_of, holds, names_of, paths_of, piece_at};
+use crate::journal::CallJournal;
 use crate::open::{Open, set, shut};
 use crate::places::{folder_of, is_there, make_all};
 use lru_folder::fault::FolderFault;
@@ -27,7 +27,7 @@ use std::alloc::{AllocError, Global};
 #[derive(Drop)]
 pub(crate) struct Store {
     alloc: Global,
-    pub(crate) journal: Journal,
+    pub(crate) journal: CallJournal,
     pub(crate) made: Vec<Vec<u8>>,
     pub(crate) file: Open,
 }
@@ -41,7 +41,7 @@ impl Store {
     {
         Store {
             alloc,
-            journal: Journal::new(alloc),
+            journal: CallJournal::new(alloc),
             made: Vec::new(alloc),
             file: Open::Closed,
         }
@@ -81,7 +81,7 @@ impl Store {
         let held = self.journal.after_loss(self.alloc, names, byte)?;
         Ok(Store {
             alloc: self.alloc,
-            journal: Journal::begin(self.alloc, held)?,
+            journal: CallJournal::begin(self.alloc, held)?,
             made,
             file: Open::Closed,
         })
@@ -95,7 +95,7 @@ impl Store {
     }
 
     /// The files now.
-    pub(crate) fn held(&self) -> &Held
+    pub(crate) fn held(&self) -> &PathBytes
         ensures { files_in result.now.entries ≡ files_left self.now.journal }
     {
         self.journal.held()
@@ -112,7 +112,8 @@ impl Store {
         if fate.is_none() {
             make_all(self.alloc, &mut self.made, dir.as_bytes())?;
         }
-        self.journal.conclude(self.alloc, Call::Look, fate, true)
+        self.journal
+            .conclude(self.alloc, FileCall::Look, fate, true)
     }
 
     pub(crate) fn create(&mut self, path: &str, fate: Option<usize>) -> Result<(), FolderFault>
@@ -122,7 +123,7 @@ impl Store {
     {
         shut(&mut self.file);
         let name = String::from_str(self.alloc, path)?;
-        let call = Call::Create(String::from_str(self.alloc, path)?);
+        let call = FileCall::Create(String::from_str(self.alloc, path)?);
         let found = is_there(&self.made, folder_of(path));
         self.journal.conclude(self.alloc, call, fate, found)?;
         set(&mut self.file, Open::Writing(name));
@@ -139,7 +140,7 @@ impl Store {
             unreachable!()
         };
         let path = String::from_str(self.alloc, path.as_str())?;
-        let call = Call::Write(path, piece.to_vec(self.alloc)?);
+        let call = FileCall::Write(path, piece.to_vec(self.alloc)?);
         self.journal.conclude(self.alloc, call, fate, true)
     }
 
@@ -148,7 +149,8 @@ impl Store {
         ensures goes { Goes Looks (end_of fate true) self.old.journal self.new.journal result }
         ensures made { self.new.made ≡ self.old.made }
     {
-        self.journal.conclude(self.alloc, Call::Look, fate, true)
+        self.journal
+            .conclude(self.alloc, FileCall::Look, fate, true)
     }
 
     pub(crate) fn sync(&mut self, fate: Option<usize>) -> Result<(), FolderFault>
@@ -160,7 +162,7 @@ impl Store {
         let Open::Writing(path) = &self.file else {
             unreachable!()
         };
-        let call = Call::Sync(String::from_str(self.alloc, path.as_str())?);
+        let call = FileCall::Sync(String::from_str(self.alloc, path.as_str())?);
         self.journal.conclude(self.alloc, call, fate, true)
     }
 
@@ -169,7 +171,7 @@ impl Store {
         ensures goes { Goes (SyncsNames dir.now) (end_of fate (is_there (folders_in self.old.made.items) dir.now)) self.old.journal self.new.journal result }
         ensures made { self.new.made ≡ self.old.made }
     {
-        let call = Call::SyncDir(String::from_str(self.alloc, dir)?);
+        let call = FileCall::SyncDir(String::from_str(self.alloc, dir)?);
         let found = is_there(&self.made, dir.as_bytes());
         self.journal.conclude(self.alloc, call, fate, found)
     }
@@ -186,7 +188,8 @@ impl Store {
         ensures made { self.new.made ≡ self.old.made }
     {
         let found = is_there(&self.made, dir.as_bytes());
-        self.journal.conclude(self.alloc, Call::Look, fate, found)?;
+        self.journal
+            .conclude(self.alloc, FileCall::Look, fate, found)?;
         Ok(alone)
     }
 
@@ -202,7 +205,7 @@ impl Store {
     {
         shut(&mut self.file);
         let noted = String::from_str(self.alloc, from)?;
-        let call = Call::Rename(noted, String::from_str(self.alloc, to)?);
+        let call = FileCall::Rename(noted, String::from_str(self.alloc, to)?);
         let found = holds(self.journal.held(), from);
         self.journal.conclude(self.alloc, call, fate, found)
     }
@@ -217,7 +220,8 @@ impl Store {
         let name = String::from_str(self.alloc, path)?;
         let found = holds(self.journal.held(), path);
         let len = bytes_of(self.journal.held(), path).len() as u64;
-        self.journal.conclude(self.alloc, Call::Look, fate, found)?;
+        self.journal
+            .conclude(self.alloc, FileCall::Look, fate, found)?;
         set(&mut self.file, Open::Reading(name, 0));
         Ok(len)
     }
@@ -235,7 +239,8 @@ impl Store {
             unreachable!()
         };
         let piece = piece_at(self.alloc, self.journal.held(), path.as_str(), *at, max)?;
-        self.journal.conclude(self.alloc, Call::Look, fate, true)?;
+        self.journal
+            .conclude(self.alloc, FileCall::Look, fate, true)?;
         *at += piece.len();
         Ok(piece)
     }
@@ -253,7 +258,8 @@ impl Store {
         shut(&mut self.file);
         let found = !dir.is_empty() && is_there(&self.made, dir.as_bytes());
         let listed = names_of(self.alloc, self.journal.held(), dir)?;
-        self.journal.conclude(self.alloc, Call::Look, fate, found)?;
+        self.journal
+            .conclude(self.alloc, FileCall::Look, fate, found)?;
         Ok(listed)
     }
 
@@ -263,7 +269,7 @@ impl Store {
         ensures made { self.new.made ≡ self.old.made }
     {
         shut(&mut self.file);
-        let call = Call::Remove(String::from_str(self.alloc, path)?);
+        let call = FileCall::Remove(String::from_str(self.alloc, path)?);
         let found = holds(self.journal.held(), path);
         self.journal.conclude(self.alloc, call, fate, found)
     }

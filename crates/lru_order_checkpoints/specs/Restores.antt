@@ -4,15 +4,15 @@ use Rattle.lru_folder.specs.Files.{Files}
 use Rattle.lru_frames.specs.declared.row.Row.{Row}
 use Rattle.lru_shard.specs.declared.unit.Refused as row
 use Rattle.lru_cores.specs.Core.{Core, list_at}
-use Rattle.lru_checkpoints.specs.declared.errors.CheckpointError.{CheckpointError}
-use Rattle.lru_checkpoints.specs.Checkpoints.{Shards, HasCheckpoint}
-use Rattle.lru_checkpoints.specs.Loads.{IsFault}
-use Rattle.lru_generations.specs.declared.loading.Checkpoint.{Checkpoint}
+use Rattle.lru_generations.specs.declared.errors.CheckpointError.{CheckpointError}
+use Rattle.lru_generations.specs.Checkpoints.{Shards, HasCheckpoint}
+use Rattle.lru_generations.specs.Loads.{IsFault}
+use Rattle.lru_generations.specs.declared.newest_loading.Checkpoint.{Checkpoint}
 use Rattle.lru_generations.specs.Loaded.{IsLoaded, IsReadable, IsSameCheckpoint, number_of}
-use Rattle.lru_order_captures.specs.Captures.{AreCopies, PutsShards, MayPutShards}
-use Rattle.lru_order_checkpoints.specs.declared.restored.Restored.{Restored}
-use Rattle.lru_order_checkpoints.specs.declared.restored.RestoreError.{RestoreError}
-use Rattle.lru_order_checkpoints.specs.declared.restored.RestoreError.TheVariants.{Unloaded, Refused}
+use Rattle.lru_order_checkpoints.specs.Captures.{AreCopies, PutsShards, MayPutShards}
+use Rattle.lru_order_checkpoints.specs.declared.restored.RestoredOrder.{RestoredOrder}
+use Rattle.lru_order_checkpoints.specs.declared.restored.OrderRestoreError.{OrderRestoreError}
+use Rattle.lru_order_checkpoints.specs.declared.restored.OrderRestoreError.TheVariants.{Unloaded, Refused}
 
 -- what a key is, and when two are the same
 abbrev pub IsWord : ℕ → Type 0
@@ -22,7 +22,7 @@ abbrev pub IsSameWord : ℕ → ℕ → Type 0
 IsSameWord m n = m ≡ n
 
 -- so it is of the error where none was loaded
-abbrev pub IfUnloaded : {V : Type 0} → (CheckpointError → Type 0) → RestoreError V → Type 0
+abbrev pub IfUnloaded : {V : Type 0} → (CheckpointError → Type 0) → OrderRestoreError V → Type 0
 IfUnloaded P (Unloaded error) = P error
 IfUnloaded P (Refused refused) = Unit {0}
 
@@ -44,7 +44,7 @@ module _ {V : Type 0} (key_bytes : ℕ → List ℕ) (IsKey : ℕ → Type 0) (I
   PutsNewest (Some checkpoint) old answer new = PutsShards old checkpoint.shards.items answer new
 
   -- the newest checkpoint is put back, or nothing was loaded
-  abbrev pub Restores : Core (ℕ × V) → Result Restored (RestoreError V) → Core (ℕ × V) → Type 0
+  abbrev pub Restores : Core (ℕ × V) → Result RestoredOrder (OrderRestoreError V) → Core (ℕ × V) → Type 0
   Restores old (Ok restored) new = (newest : Option (Checkpoint ℕ V)) × (IsFound newest × ((restored.generation ≡ number_of newest) × PutsNewest newest old (Ok tt) new))
   Restores old (Err (Unloaded error)) new = IsFault error × (new ≡ old)
   Restores old (Err (Refused refused)) new = (newest : Option (Checkpoint ℕ V)) × (IsFound newest × PutsNewest newest old (Err refused) new)
@@ -54,7 +54,7 @@ module _ {V : Type 0} (key_bytes : ℕ → List ℕ) (IsKey : ℕ → Type 0) (I
   MayPutNewest n None answer = answer ≡ Ok tt
   MayPutNewest n (Some checkpoint) answer = MayPutShards n checkpoint.shards.items answer
 
-  abbrev pub MayRestore : ℕ → Result Restored (RestoreError V) → Type 0
+  abbrev pub MayRestore : ℕ → Result RestoredOrder (OrderRestoreError V) → Type 0
   MayRestore n (Ok restored) = (newest : Option (Checkpoint ℕ V)) × (IsFound newest × ((restored.generation ≡ number_of newest) × MayPutNewest n newest (Ok tt)))
   MayRestore n (Err (Unloaded error)) = IsFault error
   MayRestore n (Err (Refused refused)) = (newest : Option (Checkpoint ℕ V)) × (IsFound newest × MayPutNewest n newest (Err refused))

@@ -3,26 +3,26 @@ ghost use Rattle.std.specs.Prelude.{◌≡◌, ◌↔◌, ◌⊎◌, ◌≤◌, 
 ghost use Rattle.std.specs.FinMap.{get};
 ghost use Rattle.lru_folder.specs.Names.{has_slash};
 ghost use Rattle.lru_frames.specs.Words.{word};
-ghost use Rattle.lru_manifests.specs.declared.names.PartName.{PartName};
-ghost use Rattle.lru_manifests.specs.Names.{IsPart, part_path};
-ghost use Rattle.lru_whole_files.specs.Touching.{TouchesNothing};
-ghost use Rattle.lru_checkpoints.specs.Checkpoints.{Shards, AreHandedOut, most_shards};
-ghost use Rattle.lru_checkpoints.specs.Loads.{IsFault, IsRefused, IsRefusedFrame};
+ghost use Rattle.lru_generations.specs.declared.names.PartName.{PartName};
+ghost use Rattle.lru_generations.specs.Names.{IsPart, part_path};
+ghost use Rattle.lru_generations.specs.Touching.{TouchesNothing};
+ghost use Rattle.lru_generations.specs.Checkpoints.{Shards, AreHandedOut, most_shards};
+ghost use Rattle.lru_generations.specs.Loads.{IsFault, IsRefused, IsRefusedFrame};
 ghost use Rattle.lru_generations.specs.Faults.{IsFailed, IsUnlisted};
 ghost use Rattle.lru_generations.specs.Newest.{AreGenerations, ArePassed, IsAsKnown, IsHighestTaken, IsNewest};
 ghost use Rattle.lru_generations.specs.Saving.{IsForGood, IsOlder, IsUnsaved, IsUnused, SavesAfter, SavesNext, TellsPassed};
 ghost use Rattle.lru_order_checkpoints.specs.Restores.{IfUnloaded, IsCopyOf, IsSameWord, IsWord, Restores};
 
-use crate::restored::{RestoreError, Restored};
-use lru_checkpoints::errors::CheckpointError;
+use crate::core_captures::{CoreSource, restore_shards};
+use crate::restored::{OrderRestoreError, RestoredOrder};
 use lru_cores::lru_core::LruCore;
 use lru_folder::folder::Folder;
+use lru_folder::synced_folder::SyncedFolder;
 use lru_frames::stored::Stored;
+use lru_generations::errors::CheckpointError;
 use lru_generations::generations::{Saved, save, save_after};
 use lru_generations::known::Known;
-use lru_generations::loading::{Loaded, load};
-use lru_order_captures::cores::{CoreSource, restore_shards};
-use lru_synced_folder::synced_folder::SyncedFolder;
+use lru_generations::newest_loading::{Loaded, load};
 use std::alloc::Global;
 
 /// Saves the rows of a core as the next checkpoint, of N shards, as `save` of `lru_generations` does.
@@ -121,7 +121,7 @@ pub fn load_core<F: Folder, V: Stored, const N: usize>(
     dir: &str,
     file_name: &str,
     core: &mut LruCore<(u64, V), N>,
-) -> Result<Restored, RestoreError<V>>
+) -> Result<RestoredOrder, OrderRestoreError<V>>
     requires { has_slash file_name.now ≡ false }
     ensures restores { F.meaning.keeps folder.old → Restores word IsWord IsSameWord V.bytes_of V.is_value V.is_same
         dir.now file_name.now (F.meaning.files folder.old) core.old result core.new }
@@ -149,14 +149,14 @@ pub fn load_core<F: Folder, V: Stored, const N: usize>(
 {
     let Loaded { newest, passed } = load(alloc, folder, dir, file_name)?;
     let Some(checkpoint) = newest else {
-        return Ok(Restored {
+        return Ok(RestoredOrder {
             generation: None,
             known: None,
             passed,
         });
     };
     restore_shards(core, checkpoint.shards)?;
-    Ok(Restored {
+    Ok(RestoredOrder {
         generation: Some(checkpoint.generation),
         known: Some(checkpoint.known),
         passed,

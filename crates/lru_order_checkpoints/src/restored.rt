@@ -1,15 +1,15 @@
 //! What a load put back, or why it did not.
 ghost use Rattle.std.specs.Prelude.{◌≡◌};
-ghost use Rattle.lru_order_checkpoints.specs.declared.restored.RestoreError.TheVariants as why;
+ghost use Rattle.lru_order_checkpoints.specs.declared.restored.OrderRestoreError.TheVariants as why;
 
-use lru_checkpoints::errors::CheckpointError;
+use lru_generations::errors::CheckpointError;
 use lru_generations::known::Known;
 use lru_generations::newest::Passed;
 use lru_shard::unit::Refused;
 
 /// What a load put back.
 #[derive(Debug, Drop)]
-pub struct Restored {
+pub struct RestoredOrder {
     /// The number of the checkpoint that was loaded, where there is one.
     pub generation: Option<u64>,
     /// That it was whole: a save that is handed it need not read it again.
@@ -20,7 +20,7 @@ pub struct Restored {
 
 /// Why a checkpoint was not put back.
 #[derive(Debug, Drop)]
-pub enum RestoreError<V> {
+pub enum OrderRestoreError<V> {
     /// None was loaded, and the order is as it was.
     Unloaded(CheckpointError),
     /// A row was refused, as `insert_tail` refuses. It is handed back; those that were put before it are there, and the others
@@ -28,18 +28,18 @@ pub enum RestoreError<V> {
     Refused(Refused<(u64, V)>),
 }
 
-impl<V> From<CheckpointError> for RestoreError<V> {
+impl<V> From<CheckpointError> for OrderRestoreError<V> {
     ghost from_gives = { λ error made. made ≡ why.Unloaded error };
 
     fn from(error: CheckpointError) -> Self {
-        RestoreError::Unloaded(error)
+        OrderRestoreError::Unloaded(error)
     }
 }
 
-impl<V> From<Refused<(u64, V)>> for RestoreError<V> {
+impl<V> From<Refused<(u64, V)>> for OrderRestoreError<V> {
     ghost from_gives = { λ refused made. made ≡ why.Refused refused };
 
     fn from(refused: Refused<(u64, V)>) -> Self {
-        RestoreError::Refused(refused)
+        OrderRestoreError::Refused(refused)
     }
 }

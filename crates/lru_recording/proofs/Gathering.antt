@@ -6,13 +6,13 @@ use Rattle.atomic_table.specs.Table.{Me}
 use Rattle.lru_recording.specs.declared.entry.Stamp.{Stamp}
 use Rattle.lru_recording.specs.declared.entry.Hand.{Hand}
 use Rattle.lru_recording.specs.declared.entry.Entry.{Entry}
-use Rattle.lru_hands.specs.Hands.{Among, times, total, up}
+use Rattle.lru_short_locks.specs.Hands.{Among, times, total, up}
 use Rattle.lru_recording.specs.Ties.{hand, Shows, joined}
 use Rattle.lru_recording.specs.Stamps.{stamps_in, slips_in}
-use Rattle.lru_hands.proofs.Hands.{among_left, among_right, among_either, among_times, times_up, total_append}
+use Rattle.lru_short_locks.proofs.Hands.{among_left, among_right, among_either, among_times, times_up, total_append}
 use Rattle.lru_recording.specs.declared.entry.Receipt.{Receipt}
 use Rattle.lru_recording.specs.Tied.{IsBook, AreTied}
-use Rattle.lru_hands.proofs.Hands.{some_same, none_some}
+use Rattle.lru_short_locks.proofs.Hands.{some_same, none_some}
 use Rattle.lru_recording.proofs.Kept.{get_map, map_get, are_tied}
 use Rattle.lru_recording.specs.Gathered.{empty_in, IsGathered, EachRises}
 

@@ -4,11 +4,11 @@ use Rattle.std.specs.Prelude.{slice_get}
 use Rattle.lru_recording.specs.declared.entry.Stamp.{Stamp}
 use Rattle.lru_recording.specs.declared.entry.Entry.{Entry}
 use Rattle.lru_recording.specs.declared.entry.Receipt.{Receipt}
-use Rattle.lru_hands.specs.Hands.{up, Among}
+use Rattle.lru_short_locks.specs.Hands.{up, Among}
 use Rattle.lru_recording.specs.Ties.{hand, Shows}
 use Rattle.lru_recording.specs.Stamps.{entry, receipt, stamp, slip, stamps_in, slips_in, TurnsRise}
 use Rattle.lru_recording.specs.Tied.{AreKept, AreHeld, PlacesRise, AreTied, IsBook}
-use Rattle.lru_hands.proofs.Hands.{some_same, none_some, up_get, up_some}
+use Rattle.lru_short_locks.proofs.Hands.{some_same, none_some, up_get, up_some}
 use Rattle.lru_recording.proofs.Lists.{find_stamp, find_slip, at_stamp, at_slip}
 
 module _ {A B : Type 0} where

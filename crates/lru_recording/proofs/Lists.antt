@@ -4,8 +4,8 @@ use Rattle.std.specs.Prelude.{slice_get}
 use Rattle.lru_recording.specs.declared.entry.Stamp.{Stamp}
 use Rattle.lru_recording.specs.declared.entry.Entry.{Entry}
 use Rattle.lru_recording.specs.declared.entry.Receipt.{Receipt}
-use Rattle.lru_hands.specs.Hands.{Among}
-use Rattle.lru_hands.proofs.Hands.{some_same, none_some}
+use Rattle.lru_short_locks.specs.Hands.{Among}
+use Rattle.lru_short_locks.proofs.Hands.{some_same, none_some}
 use Rattle.lru_recording.specs.Stamps.{stamp, slip, stamps_in, slips_in, TurnsRise}
 
 pub stamps_snoc : (s p : ℕ) (es : List Entry) (e : Entry) → stamps_in s p (es ++ e ∷ []) ≡ stamps_in s p es ++ stamp s (p + length es) e ∷ []

@@ -9,8 +9,8 @@ use Rattle.atomic_table.proofs.Lists.{at_set, at_snoc, set_else, set_again}
 use Rattle.lru_recording.specs.declared.entry.Stamp.{Stamp}
 use Rattle.lru_recording.specs.declared.entry.Hand.{Hand}
 use Rattle.lru_recording.specs.declared.entry.Names.{Names}
-use Rattle.lru_hands.specs.Hands.{total, times, up, Among, Held}
-use Rattle.lru_hands.proofs.Hands.{among_left, among_right, among_either, set_at, at_most, two_within, total_append, among_times, times_up, up_below, held_at, held_find, held_to, held_from, split_to, split_from, join_to, join_from, total_split, total_join, total_same, take_drop, none_in, one_of}
+use Rattle.lru_short_locks.specs.Hands.{total, times, up, Among, Held}
+use Rattle.lru_short_locks.proofs.Hands.{among_left, among_right, among_either, set_at, at_most, two_within, total_append, among_times, times_up, up_below, held_at, held_find, held_to, held_from, split_to, split_from, join_to, join_from, total_split, total_join, total_same, take_drop, none_in, one_of}
 use Rattle.lru_recording.specs.Ties.{hand, Owns, AllOwn, Ties, HasSlips, stamped, Stamps, Shows, Looks, joined}
 
 own_set : (vs : List Hand) (i : ℕ) (w : Hand) → Owns w → AllOwn vs → AllOwn (set vs i w)

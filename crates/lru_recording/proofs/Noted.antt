@@ -1,7 +1,7 @@
 -- A call that is made and noted keeps the history legal.
 use Rattle.std.proofs.Common.{◌≡◌, ℕ, ◌%◌, ◌<◌, List, [], ◌∷◌, ◌++◌, map, Option, Some, None, refl, sym, ap, ◌∙◌, subst}
 use Rattle.lru_shard.specs.Limits.{cap_of}
-use Rattle.lru_hands.proofs.Hands.{map_snoc}
+use Rattle.lru_short_locks.proofs.Hands.{map_snoc}
 use Rattle.lru_recording.specs.declared.entry.Entry.{Entry}
 use Rattle.lru_recording.specs.declared.entry.Call.{Call}
 use Rattle.lru_recording.specs.declared.entry.Reply.{Reply}

@@ -4,7 +4,7 @@ use Rattle.std.specs.Prelude.{slice_get}
 use Rattle.lru_shard.specs.Limits.{cap_of}
 use Rattle.lru_recording.specs.declared.entry.Entry.{Entry}
 use Rattle.lru_recording.specs.declared.entry.Reply.{Reply}
-use Rattle.lru_hands.proofs.Hands.{some_same, none_some}
+use Rattle.lru_short_locks.proofs.Hands.{some_same, none_some}
 use Rattle.lru_recording.specs.Histories.{replies, answers, home, homes_from, shards_from, IsLegal, AreLegal}
 
 pub homes_snoc : (n s : ℕ) (hs : List (List Entry)) (h : List Entry) → homes_from n s (hs ++ h ∷ []) ≡ homes_from n s hs ++ map (λ (e : Entry). home n (s + length hs) e.call) h ∷ []

@@ -4,7 +4,7 @@ use Rattle.atomic_table.specs.Table.{Me}
 use Rattle.lru_recording.specs.declared.entry.Stamp.{Stamp}
 use Rattle.lru_recording.specs.declared.entry.Hand.{Hand}
 use Rattle.lru_recording.specs.declared.entry.Entry.{Entry}
-use Rattle.lru_hands.specs.Hands.{Among}
+use Rattle.lru_short_locks.specs.Hands.{Among}
 use Rattle.lru_recording.specs.Ties.{hand}
 use Rattle.lru_recording.specs.Stamps.{stamps_in, TurnsRise}
 

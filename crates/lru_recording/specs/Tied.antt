@@ -3,7 +3,7 @@ use Rattle.std.specs.Prelude.{◌≡◌, ℕ, ◌<◌, List, Some, slice_get}
 use Rattle.lru_recording.specs.declared.entry.Entry.{Entry}
 use Rattle.lru_recording.specs.declared.entry.Receipt.{Receipt}
 use Rattle.lru_recording.specs.declared.entry.Stamp.{Stamp}
-use Rattle.lru_hands.specs.Hands.{Among}
+use Rattle.lru_short_locks.specs.Hands.{Among}
 use Rattle.lru_recording.specs.Stamps.{entry, receipt, stamps_in}
 
 -- receipt t of seat i, which names a shard and a place, is the entry at that place of that shard's history, with seat i

@@ -3,7 +3,7 @@ use Rattle.std.specs.Prelude.{◌≡◌, ℕ, zero, suc, ◌+◌, ◌<◌, ◌�
 use mathlib.Core.Option.{Option, some, none}
 use lib.ListN.{get_elem?}
 use Rattle.atomic_table.specs.Table.{Me, Step}
-use Rattle.lru_hands.specs.Hands.{total, times, up, Among, Held}
+use Rattle.lru_short_locks.specs.Hands.{total, times, up, Among, Held}
 use Rattle.lru_recording.specs.declared.entry.Stamp.{Stamp}
 use Rattle.lru_recording.specs.declared.entry.Hand.{Hand}
 use Rattle.lru_recording.specs.declared.entry.Names.{Names}

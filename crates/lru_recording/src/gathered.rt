@@ -19,7 +19,7 @@ use std::sync::Mutex;
 
 /// A shard and its history, out of its lock.
 #[derive(Drop)]
-pub struct Kept<T, const N: usize> {
+pub struct KeptShard<T, const N: usize> {
     /// Its number.
     pub number: usize,
     /// The shard.
@@ -49,7 +49,7 @@ pub struct Gathered<T, const N: usize> {
 }
 
 impl<T: Drop, const N: usize> Gathered<T, N> {
-    /// Room for all shards, and none of them.
+    /// GatheringRoom for all shards, and none of them.
     pub fn with_room(alloc: Global) -> Result<Self, AllocError>
         ensures { IfOk result (λ all. (all.units.items ≡ []) × ((all.histories.items ≡ []) × ((N ≤ vec_capacity all.units) × (N ≤ vec_capacity all.histories)))) }
     {
@@ -60,14 +60,14 @@ impl<T: Drop, const N: usize> Gathered<T, N> {
     }
 
     /// Takes the next shard in.
-    pub fn add(&mut self, kept: Kept<T, N>)
+    pub fn add(&mut self, kept: KeptShard<T, N>)
         requires number { kept.number ≡ vec_len self.old.histories }
         requires room { (vec_len self.old.units < vec_capacity self.old.units) × (vec_len self.old.histories < vec_capacity self.old.histories) }
         ensures histories { self.new.histories.items ≡ self.old.histories.items ++ kept.history ∷ [] }
         ensures units { vec_len self.new.units ≡ vec_len self.old.units + 1 }
         ensures room { (vec_capacity self.new.units ≡ vec_capacity self.old.units) × (vec_capacity self.new.histories ≡ vec_capacity self.old.histories) }
     {
-        let Kept {
+        let KeptShard {
             number: _,
             unit,
             history,
@@ -82,7 +82,7 @@ fn place<T: Drop, B: Registry, const N: usize>(
     tie: &Tie,
     names: Names,
     book: &mut Token,
-    slots: &mut Vec<Option<Kept<T, N>>>,
+    slots: &mut Vec<Option<KeptShard<T, N>>>,
     recording: Recording<T, B, N>,
 )
     requires tie { (tie.now.table.shared.table_id ≡ B.table) × (tie.now.table.shared.key ≡ names) }
@@ -104,7 +104,7 @@ fn place<T: Drop, B: Registry, const N: usize>(
     tie.look(book, names);
     // Read for the proof alone, which learns from it what the type says of itself.
     let _weight = unit.used_weight();
-    let kept = Kept {
+    let kept = KeptShard {
         number,
         unit,
         history,
@@ -117,7 +117,7 @@ fn gather<T: Drop, B: Registry, const N: usize>(
     tie: &Tie,
     names: Names,
     book: &mut Token,
-    slots: &mut Vec<Option<Kept<T, N>>>,
+    slots: &mut Vec<Option<KeptShard<T, N>>>,
     shards: Vec<Mutex<Recording<T, B, N>>>,
 )
     requires tie { (tie.now.table.shared.table_id ≡ B.table) × (tie.now.table.shared.key ≡ names) }
@@ -137,7 +137,7 @@ fn gather<T: Drop, B: Registry, const N: usize>(
 
 // Takes the shards out of their places, in order.
 fn in_order<T: Drop, const N: usize>(
-    slots: Vec<Option<Kept<T, N>>>,
+    slots: Vec<Option<KeptShard<T, N>>>,
     room: Gathered<T, N>,
 ) -> Gathered<T, N>
     requires len { vec_len slots ≡ N }
@@ -156,10 +156,10 @@ fn in_order<T: Drop, const N: usize>(
     all
 }
 
-/// Room for all shards, made before they are taken out.
+/// GatheringRoom for all shards, made before they are taken out.
 #[derive(Drop)]
-pub struct Room<T, const N: usize> {
-    slots: Vec<Option<Kept<T, N>>>,
+pub struct GatheringRoom<T, const N: usize> {
+    slots: Vec<Option<KeptShard<T, N>>>,
     all: Gathered<T, N>,
     ghost places: { vec_len slots ≡ N },
     ghost empty: { empty_in slots.items ≡ N },
@@ -169,7 +169,7 @@ pub struct Room<T, const N: usize> {
 
 fn empty_slots<T: Drop, const N: usize>(
     alloc: Global,
-) -> Result<Vec<Option<Kept<T, N>>>, AllocError>
+) -> Result<Vec<Option<KeptShard<T, N>>>, AllocError>
     ensures { IfOk result (λ slots. (vec_len slots ≡ N) × (empty_in slots.items ≡ N)) }
 {
     let mut slots = Vec::with_capacity(alloc, N)?;
@@ -179,10 +179,10 @@ fn empty_slots<T: Drop, const N: usize>(
     Ok(slots)
 }
 
-impl<T: Drop, const N: usize> Room<T, N> {
-    /// Room for N shards.
-    pub fn new(alloc: Global) -> Result<Self, AllocError> {
-        Ok(Room {
+impl<T: Drop, const N: usize> GatheringRoom<T, N> {
+    /// GatheringRoom for N shards.
+    pub(crate) fn new(alloc: Global) -> Result<Self, AllocError> {
+        Ok(GatheringRoom {
             slots: empty_slots(alloc)?,
             all: Gathered::with_room(alloc)?,
         })
@@ -204,7 +204,7 @@ impl<T: Drop, const N: usize> Room<T, N> {
         ensures book { (book.new.table_id ≡ B.table) × (book.new.me ≡ (hand book.new.me.0.shards [] book.new.me.0.book [], [])) }
         ensures is_book { IsBook N (lists_of result.histories.items) book.new.me.0.shards book.new.me.0.book }
     {
-        let Room { slots, all } = self;
+        let GatheringRoom { slots, all } = self;
         let mut slots = slots;
         gather(tie, names, book, &mut slots, shards);
         in_order(slots, all)

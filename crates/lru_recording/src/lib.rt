@@ -2,10 +2,12 @@
 //!
 //! It holds the order `RecordedLru`. A history is legal: its calls have the replies of a plain list, and its end has the shard's rows.
 //! Each receipt is an entry of its shard's journal, and each entry has its receipt. It stands on one shard (`lru_shard`), and on the
-//! table of `atomic_table` by the words of `lru_hands`.
+//! table of `atomic_table` by the words of `lru_short_locks`.
 #![tactic(auto)]
 
+mod dealing;
 pub mod entry;
+mod evicting;
 pub mod gathered;
 pub mod journal;
 pub mod recorded;

@@ -1,31 +1,29 @@
 //! N shards for many threads, each behind a lock of its own with its history.
-ghost use Rattle.std.specs.Prelude.{◌≡◌, ◌+◌, ◌-◌, ◌%◌, ◌<◌, ◌≤◌, [], vec_len, map, All, IfOk, IfErr, OnOk, OnErr, Some, Ok, None};
+ghost use Rattle.std.specs.Prelude.{◌≡◌, ◌%◌, ◌<◌, ◌≤◌, [], vec_len, map, All, IfOk, IfErr, OnOk, OnErr, Some, Ok, None};
 ghost use Rattle.std.specs.Sync.Mutex.{mutex_guard_value};
 ghost use Rattle.lru_recording.specs.declared.entry.Reply.TheVariants.{Flag, Weight};
 ghost use Rattle.lru_recording.specs.Stamps.{GetsReceipt};
-ghost use Rattle.lru_hands.specs.Hands.{up};
+ghost use Rattle.lru_short_locks.specs.Hands.{up};
 ghost use Rattle.lru_recording.specs.Ties.{hand};
 ghost use Rattle.lru_recording.specs.Tied.{AreTied};
 ghost use Rattle.lru_shard.specs.Limits.{cap_of};
 ghost use Rattle.lru_shard.specs.Shards.{AreOwn};
 ghost use Rattle.lru_recording.specs.Plain.{forget};
-ghost use Rattle.lru_recording.specs.Histories.{IsEviction, left_by, AreLegal, lists_of};
-ghost use Rattle.lru_recording.specs.Probes.{Adds, AreProbes, FindsNone, IsRound};
+ghost use Rattle.lru_recording.specs.Histories.{left_by, AreLegal, lists_of};
 ghost use Rattle.lru_recording.specs.Replies.{refused, weighed, paired, increments, IsGiven, IsMade};
 ghost use Rattle.lru_shard.specs.Unit.{Updates};
 
+use crate::dealing::{deal_seats, deal_shards, zeros};
 pub use crate::entry::{Call, Entry, Names, Receipt, Reply};
-use crate::gathered::{Gathered, Room};
+use crate::gathered::{Gathered, GatheringRoom};
 pub use crate::journal::Seat;
 use crate::journal::compare_all;
 use crate::recording::Recording;
 pub use crate::tie::{Blank, Registry};
 use crate::tie::{Tie, Token};
 use lru_shard::counters::shift;
-use lru_shard::eviction::{EvictError, Readings, drawn_shards, longer_of, shard_after};
 use lru_shard::totals::{Totals, Units};
 use lru_shard::unit::{Cause, LruUnit, Refused};
-use rand_core::Rng;
 use std::alloc::{AllocError, Global};
 use std::marker::PhantomData;
 use std::sync::atomic::{AtomicUsize, Ordering};
@@ -36,7 +34,7 @@ use std::sync::{Mutex, MutexGuard, Wait};
 #[derive(Drop)]
 struct Rest<T, B: Registry, const N: usize> {
     token: Token,
-    room: Room<T, N>,
+    room: GatheringRoom<T, N>,
     brand: PhantomData<B>,
     ghost here: { token.table_id ≡ B.table },
     ghost empty: { token.me ≡ (hand [] [] [] [], []) },
@@ -46,17 +44,17 @@ struct Rest<T, B: Registry, const N: usize> {
 /// the key modulo N.
 ///
 /// It answers as an `Lru` does. Each call takes a seat, and leaves an entry in its shard's history and a receipt with
-/// the seat. Room for both comes first: where that is refused, nothing happened, and nothing is noted.
+/// the seat. GatheringRoom for both comes first: where that is refused, nothing happened, and nothing is noted.
 #[derive(Drop)]
 pub struct RecordedLru<T, B: Registry, const N: usize> {
-    tie: Tie,
-    shards: Vec<Mutex<Recording<T, B, N>>>,
+    pub(crate) tie: Tie,
+    pub(crate) shards: Vec<Mutex<Recording<T, B, N>>>,
     // how many rows each shard has
-    lens: Vec<AtomicUsize>,
-    weight: AtomicUsize,
-    len: AtomicUsize,
-    weight_limit: usize,
-    watermark: Option<usize>,
+    pub(crate) lens: Vec<AtomicUsize>,
+    pub(crate) weight: AtomicUsize,
+    pub(crate) len: AtomicUsize,
+    pub(crate) weight_limit: usize,
+    pub(crate) watermark: Option<usize>,
     rest: Mutex<Rest<T, B, N>>,
     names: Names,
     ghost some: { 0 < N },
@@ -66,56 +64,6 @@ pub struct RecordedLru<T, B: Registry, const N: usize> {
     ghost has_lens: { vec_len lens ≡ N },
     ghost names_are: { names.shards ≡ N },
     ghost seats_are: { names.seats ≡ B.seats },
-}
-
-fn zeros(alloc: Global, count: usize) -> Result<Vec<AtomicUsize>, AllocError>
-    ensures { IfOk result (λ zeros. vec_len zeros ≡ count) }
-{
-    let mut zeros = Vec::with_capacity(alloc, count)?;
-    for _ in 0..count {
-        zeros.push(AtomicUsize::new(0))?;
-    }
-    Ok(zeros)
-}
-
-fn deal_shards<T: Drop, B: Registry, const N: usize>(
-    alloc: Global,
-    capacity: usize,
-    tie: &Tie,
-    rest: &mut Token,
-    seats: u64,
-) -> Result<Vec<Mutex<Recording<T, B, N>>>, AllocError>
-    requires tie { tie.now.table.shared.table_id ≡ B.table }
-    requires rest { (rest.old.table_id ≡ B.table) × (rest.old.me ≡ (hand (up 0 N) (up 0 seats) [] [], [])) }
-    ensures all { IfOk result (λ shards. vec_len shards ≡ N) }
-    ensures rest { OnOk result ((rest.new.table_id ≡ B.table) × (rest.new.me ≡ (hand [] (up 0 seats) [] [], []))) }
-{
-    let mut shards = Vec::with_capacity(alloc, N)?;
-    for number in 0..N {
-        let token = tie.next_shard(rest);
-        shards.push(Mutex::new(Recording::new(alloc, capacity, number, token)?))?;
-    }
-    Ok(shards)
-}
-
-fn deal_seats<B: Registry>(
-    alloc: Global,
-    tie: &Tie,
-    rest: &mut Token,
-    count: usize,
-) -> Result<Vec<Seat<B>>, AllocError>
-    requires tie { tie.now.table.shared.table_id ≡ B.table }
-    requires rest { (rest.old.table_id ≡ B.table) × (rest.old.me ≡ (hand [] (up 0 count) [] [], [])) }
-    ensures all { IfOk result (λ seats. map (λ s. s.number) seats.items ≡ up 0 count) }
-    ensures fresh { IfOk result (λ seats. All (λ s. s.receipts.items ≡ []) seats.items) }
-    ensures rest { OnOk result ((rest.new.table_id ≡ B.table) × (rest.new.me ≡ (hand [] [] [] [], []))) }
-{
-    let mut seats = Vec::with_capacity(alloc, count)?;
-    for number in 0..count {
-        let token = tie.next_seat(rest);
-        seats.push(Seat::new(alloc, number, token))?;
-    }
-    Ok(seats)
 }
 
 /// What a `RecordedLru` leaves: the shards and their histories, in the shards' order, and the seats.
@@ -160,7 +108,7 @@ impl<T: Drop, B: Registry, const N: usize> RecordedLru<T, B, N> {
             watermark,
             rest: Mutex::new(Rest {
                 token: rest,
-                room: Room::new(alloc)?,
+                room: GatheringRoom::new(alloc)?,
                 brand: PhantomData,
             }),
             names: Names {
@@ -171,7 +119,7 @@ impl<T: Drop, B: Registry, const N: usize> RecordedLru<T, B, N> {
         Ok((recorded, seats))
     }
 
-    fn shard_of(&self, key: u64) -> usize
+    pub(crate) fn shard_of(&self, key: u64) -> usize
         ensures value { result ≡ key % N }
         ensures below { result < N }
     {
@@ -196,7 +144,7 @@ impl<T: Drop, B: Registry, const N: usize> RecordedLru<T, B, N> {
     }
 
     // Takes the lock of a shard for a call that may change what is counted of it, with what was counted before the call.
-    fn lock_counted(
+    pub(crate) fn lock_counted(
         &self,
         rt: &impl Wait,
         shard: usize,
@@ -210,7 +158,7 @@ impl<T: Drop, B: Registry, const N: usize> RecordedLru<T, B, N> {
     }
 
     // Brings the counters after that call, and then lets go of the lock.
-    fn count(&self, recording: MutexGuard<'_, Recording<T, B, N>>, before: Totals) {
+    pub(crate) fn count(&self, recording: MutexGuard<'_, Recording<T, B, N>>, before: Totals) {
         let after = Totals::of(&recording.unit);
         shift(&self.weight, before.weight, after.weight);
         shift(&self.len, before.len, after.len);
@@ -401,133 +349,6 @@ impl<T: Drop, B: Registry, const N: usize> RecordedLru<T, B, N> {
     {
         self.shard_at(rt, self.shard_of(key))
             .peek_weight(&self.tie, seat, key)
-    }
-
-    /// Evicts the last row of the shard `shard` modulo N, whatever the limits are, and answers its data and weight.
-    pub fn evict_shard(
-        &self,
-        rt: &impl Wait,
-        seat: &mut Seat<B>,
-        shard: u64,
-    ) -> Result<Option<(T, usize)>, AllocError>
-        ensures ok { IfOk result (λ pair. GetsReceipt seat.old.receipts.items (shard % N) (Call.EvictShard shard) (Some (paired pair)) seat.new.receipts.items) }
-        ensures err { OnErr result (seat.new.receipts.items ≡ seat.old.receipts.items) }
-        ensures seat { seat.new.number ≡ seat.old.number }
-    {
-        self.evict_from(rt, seat, self.shard_of(shard), Call::EvictShard { shard })
-    }
-
-    // Evicts the last row of a shard, if it has one.
-    fn evict_from(
-        &self,
-        rt: &impl Wait,
-        seat: &mut Seat<B>,
-        shard: usize,
-        call: Call,
-    ) -> Result<Option<(T, usize)>, AllocError>
-        requires shard { shard < N }
-        requires call { IsEviction N shard call }
-        ensures ok { IfOk result (λ pair. GetsReceipt seat.old.receipts.items (shard) (call) (Some (paired pair)) seat.new.receipts.items) }
-        ensures err { OnErr result (seat.new.receipts.items ≡ seat.old.receipts.items) }
-        ensures seat { seat.new.number ≡ seat.old.number }
-    {
-        let (mut recording, before) = self.lock_counted(rt, shard);
-        let answer = recording.evict(&self.tie, seat, call);
-        self.count(recording, before);
-        answer
-    }
-
-    // Probes shards from this one on and round the circle, up to the first one that is not empty.
-    fn evict_near(
-        &self,
-        rt: &impl Wait,
-        seat: &mut Seat<B>,
-        from: usize,
-    ) -> Result<Option<(T, usize)>, AllocError>
-        requires { from < N }
-        ensures ok { IfOk result (λ pair. Adds (IsRound N pair) seat.old.receipts.items seat.new.receipts.items) }
-        ensures err { OnErr result (Adds (FindsNone N) seat.old.receipts.items seat.new.receipts.items) }
-        ensures seat { seat.new.number ≡ seat.old.number }
-    {
-        for steps in 0..N {
-            let shard = shard_after(from, steps, N);
-            let pair = self.evict_from(rt, seat, shard, Call::EvictToLimit)?;
-            if pair.is_some() {
-                return Ok(pair);
-            }
-        }
-        Ok(None)
-    }
-
-    // The longer of two drawn shards, a first and b second, by the lengths as read; a where they are as long.
-    fn drawn_shard<R: Rng>(&self, rng: &mut R) -> usize
-        ensures below { result < N }
-        ensures undrawn { N ≡ 1 → rng.new ≡ rng.old }
-    {
-        // As in `shard_of`: the draws need an N that is not 0.
-        let _shards = &self.shards;
-        let (a, b) = drawn_shards::<R, N>(rng);
-        longer_of(
-            a,
-            b,
-            self.lens[a].load(Ordering::SeqCst),
-            self.lens[b].load(Ordering::SeqCst),
-        )
-    }
-
-    // The values that an `evict_to_limit` goes by, as they are now.
-    fn readings(&self) -> Readings {
-        Readings {
-            weight: self.weight.load(Ordering::SeqCst),
-            len: self.len.load(Ordering::SeqCst),
-            weight_limit: self.weight_limit,
-            watermark: self.watermark,
-        }
-    }
-
-    /// Evicts while the order is over, and answers the data and the weight of each evicted row, in order. For each it
-    /// makes room for a pair, draws two shards and probes from the longer one on, as an `Lru` does, up to the first one
-    /// that is not empty. Each probe is noted, with the weight of the row that it found: at most N for each pair, and N
-    /// more where all shards are found empty.
-    ///
-    /// Other threads may add and remove rows meanwhile. It is over as long as the value that it first read, less what it
-    /// evicted, and the value now are both past the limit. It ends after as many evictions as there were rows at its
-    /// start, and where it finds all shards empty.
-    ///
-    /// Where a growth is refused, the pairs evicted so far are handed back.
-    pub fn evict_to_limit<R: Rng>(
-        &self,
-        rt: &impl Wait,
-        alloc: Global,
-        seat: &mut Seat<B>,
-        rng: &mut R,
-    ) -> Result<Vec<(T, usize)>, EvictError<T>>
-        ensures ok { IfOk result (λ pairs. Adds (AreProbes N (map (λ pair. pair.1) pairs.items)) seat.old.receipts.items seat.new.receipts.items) }
-        ensures err { IfErr result (λ stopped. Adds (AreProbes N (map (λ pair. pair.1) stopped.evicted.items)) seat.old.receipts.items seat.new.receipts.items) }
-        ensures undrawn { N ≡ 1 → rng.new ≡ rng.old }
-        ensures seat { seat.new.number ≡ seat.old.number }
-    {
-        let mut readings = self.readings();
-        let mut evicted = Vec::new(alloc);
-        for _ in 0..readings.len {
-            let weight = self.weight.load(Ordering::SeqCst);
-            let len = self.len.load(Ordering::SeqCst);
-            if !readings.is_past(weight, len) {
-                break;
-            }
-            if evicted.reserve(1).is_err() {
-                return Err(EvictError { evicted });
-            }
-            let Ok(found) = self.evict_near(rt, seat, self.drawn_shard(rng)) else {
-                return Err(EvictError { evicted });
-            };
-            let Some(pair) = found else {
-                return Ok(evicted);
-            };
-            readings.evicted(pair.1);
-            evicted.push_reserved(pair);
-        }
-        Ok(evicted)
     }
 
     /// The data, cloned, and the weight of the row of a shard that was used longest ago; `None` of an empty shard, and

@@ -2,7 +2,7 @@
 //! take no bytes.
 ghost use Rattle.std.specs.Prelude.{◌≡◌, [], ◌∷◌, ◌++◌, take, drop, IfOk};
 ghost use Rattle.atomic_table.specs.Seated.{TableId};
-ghost use Rattle.lru_hands.specs.Hands.{up, Among, no_table};
+ghost use Rattle.lru_short_locks.specs.Hands.{up, Among, no_table};
 ghost use Rattle.lru_recording.specs.Ties.{hand, Ties, Stamps, Looks, Shows, joined};
 
 use crate::entry::{Hand, Names, Stamp};

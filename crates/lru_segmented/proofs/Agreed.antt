@@ -3,10 +3,10 @@ use Rattle.std.proofs.Common.{◌≡◌, ℕ, ◌≤◌, cond, not, eqb, List, [
 use Rattle.std.specs.Prelude.{Bool, is_some}
 use Rattle.std.proofs.lemmas.Bool.{eq-eqb, ne_eqb, false≢true}
 use Rattle.lru_rows.specs.Rows.{Placed, row_of, without as rows_without}
-use Rattle.lru_entries.specs.Entries.{entry_in, entries_in, weight_in}
-use Rattle.lru_entries.proofs.Rows.{some_of, by_bool, by_place, places, places_here, places_other, tail_once_of, weight-cons}
-use Rattle.lru_cache.specs.Cache.{without}
-use Rattle.lru_cache.proofs.Entries.{keyed, keyed-cons, counts, row_there}
+use Rattle.lru_owned_cache.specs.Entries.{entry_in, entries_in, weight_in}
+use Rattle.lru_owned_cache.proofs.Rows.{some_of, by_bool, by_place, places, places_here, places_other, tail_once_of, weight-cons}
+use Rattle.lru_owned_cache.specs.Cache.{without}
+use Rattle.lru_owned_cache.proofs.Entries.{keyed, keyed-cons, counts, row_there}
 use Rattle.lru_segmented.proofs.Sides.{Once, at_places}
 
 module _ {K V : Type 0} where

@@ -9,13 +9,13 @@ use Rattle.lru_rows.specs.declared.rows.NoPlace.{NoPlace}
 use Rattle.lru_rows.specs.declared.rows.NoPlace.TheVariants.{Memory as NoMemory, Full as NoMore}
 use Rattle.lru_rows.specs.declared.rows.Taken.{Taken}
 use Rattle.lru_rows.specs.Rows.{Placed, placed, recency, row_at, row_of, IsAt, IsRecency, Finds, without as rows_without, first_row, last_row, taken, with_value, most_rows, LacksPlace as RowsLackPlace, Updates, entry_of as rows_entry_of}
-use Rattle.lru_entries.specs.declared.entry.Entry.{Entry}
-use Rattle.lru_entries.specs.Entries.{entry, weight_of, entry_in, entries_in, weight_in}
-use Rattle.lru_entries.specs.Partings.{RowsFit}
-use Rattle.lru_entries.proofs.Rows.{some_of, places, places_here, places-append, without_absent, without_last, row_last, row_first, row_place, last_told, none_told, first_told, without_first, weight-entries, length-entries, weight-cons, weight-append, weight-without, length-without, with_value-first, with_value-without}
-use Rattle.lru_cache.specs.Cache.{cause_of, parts_of, Leaves, Fit, entry_of, without}
-use Rattle.lru_cache.proofs.Entries.{entry-row, keyed-entries}
-use Rattle.lru_cache.proofs.Queried.{one_stands}
+use Rattle.lru_owned_cache.specs.declared.entry.Entry.{Entry}
+use Rattle.lru_owned_cache.specs.Entries.{entry, weight_of, entry_in, entries_in, weight_in}
+use Rattle.lru_owned_cache.specs.Partings.{RowsFit}
+use Rattle.lru_owned_cache.proofs.Rows.{some_of, places, places_here, places-append, without_absent, without_last, row_last, row_first, row_place, last_told, none_told, first_told, without_first, weight-entries, length-entries, weight-cons, weight-append, weight-without, length-without, with_value-first, with_value-without}
+use Rattle.lru_owned_cache.specs.Cache.{cause_of, parts_of, Leaves, Fit, entry_of, without}
+use Rattle.lru_owned_cache.proofs.Entries.{entry-row, keyed-entries}
+use Rattle.lru_owned_cache.proofs.Queried.{one_stands}
 use Rattle.lru_segmented.specs.Segmented.{Segmented, entries, with_segments, with_more, with_limits, removed, IsSegmented, Balances, Raises, Rejoins, LacksPlace, Uses, UpdatesEntry, PopsLast, PopsFirst, demoted}
 use Rattle.lru_segmented.specs.Seats.{Seated, seated, rows, lifted, sunk, Lowers, UpdatesAt}
 use Rattle.lru_segmented.specs.Representation.{segmented_in, IsKept}

@@ -1,8 +1,8 @@
 -- All entries go, the first first.
 use Rattle.std.proofs.Common.{◌≡◌, ◌<◌, List, [], ◌∷◌, ◌++◌, length, Some, None, refl, sym, ap, ◌∙◌, subst, inl, inr, arith, append_assoc, append-nil}
 use Rattle.std.specs.List.{FoldsTo}
-use Rattle.lru_entries.specs.declared.entry.Entry.{Entry}
-use Rattle.lru_entries.proofs.Lists.{shown_more}
+use Rattle.lru_owned_cache.specs.declared.entry.Entry.{Entry}
+use Rattle.lru_owned_cache.proofs.Lists.{shown_more}
 use Rattle.lru_segmented.specs.Segmented.{Segmented, entries, with_segments, PopsFirst, Drains}
 
 module _ {K V S F : Type 0} (Step : F → Entry K V → F → Type 0) (visit : F) (old : Segmented K V S) where

@@ -9,4 +9,9 @@ pub mod Caches
 pub mod Receding
 pub mod Retained
 pub mod Drained
-pub mod Putting
+pub mod Put
+pub mod Answered
+pub mod Living
+pub mod UnitPutting
+pub mod AsRows
+pub mod UnitWalked

@@ -3,9 +3,9 @@ use Rattle.std.proofs.Common.{◌≡◌, ◌+◌, ◌≤◌, cond, not, List, []
 use Rattle.std.specs.Prelude.{Bool}
 use Rattle.std.proofs.lemmas.List.Sums.{sum_by-cons, sum_by-append}
 use Rattle.std.proofs.lemmas.List.Elements.{filter-append}
-use Rattle.lru_entries.specs.declared.entry.Entry.{Entry}
-use Rattle.lru_entries.specs.Entries.{weight_of}
-use Rattle.lru_cache.specs.Cache.{entry_of, without}
+use Rattle.lru_owned_cache.specs.declared.entry.Entry.{Entry}
+use Rattle.lru_owned_cache.specs.Entries.{weight_of}
+use Rattle.lru_owned_cache.specs.Cache.{entry_of, without}
 use Rattle.lru_segmented.specs.Segmented.{Segmented, entries, removed, with_segments}
 
 pub by_test : (b : Bool) (P : Bool → Type 0) → (b ≡ true → P true) → (b ≡ false → P false) → P b

@@ -2,9 +2,9 @@
 use Rattle.std.proofs.Common.{◌≡◌, ℕ, ◌<◌, List, [], ◌∷◌, ◌++◌, length, refl, sym, ap, ◌∙◌, subst, arith, append_assoc, append-nil}
 use Rattle.std.proofs.lemmas.List.{length-append}
 use Rattle.lru_rows.specs.Rows.{Placed}
-use Rattle.lru_entries.specs.Entries.{weight_in}
-use Rattle.lru_entries.specs.Partings.{RowsFit}
-use Rattle.lru_entries.proofs.Lists.{same_head}
+use Rattle.lru_owned_cache.specs.Entries.{weight_in}
+use Rattle.lru_owned_cache.specs.Partings.{RowsFit}
+use Rattle.lru_owned_cache.proofs.Lists.{same_head}
 use Rattle.lru_segmented.specs.Seats.{Seated, seated, Lowers, Lowering, LowersLast}
 use Rattle.lru_segmented.proofs.Lists.{nil_cons}
 

@@ -5,12 +5,12 @@ use Rattle.std.specs.Option.{option_map_or}
 use Rattle.std.specs.Borrow.{MutBor}
 use Rattle.std.proofs.lemmas.Bool.{eq-eqb}
 use Rattle.std.proofs.lemmas.List.{length-append, append-nil}
-use Rattle.lru_entries.specs.declared.entry.Entry.{Entry}
-use Rattle.lru_entries.specs.Entries.{entry, IsShown}
-use Rattle.lru_cache.specs.declared.cache.Refused.{Refused}
-use Rattle.lru_cache.specs.declared.cache.NotPut.{NotPut}
-use Rattle.lru_cache.specs.declared.cache.NotPut.TheVariants.{Unmade, Refused as EntryRefused}
-use Rattle.lru_cache.specs.Cache.{Leaves, entry_of, without, used, with_entries, PopsLast as CachePopsLast, UpdatesEntry as CacheUpdatesEntry, Puts as CachePuts, UsesOrPuts as CacheUsesOrPuts, Clears as CacheClears}
+use Rattle.lru_owned_cache.specs.declared.entry.Entry.{Entry}
+use Rattle.lru_owned_cache.specs.Entries.{entry, IsShown}
+use Rattle.lru_owned_cache.specs.declared.cache.Refused.{Refused}
+use Rattle.lru_owned_cache.specs.declared.cache.NotPut.{NotPut}
+use Rattle.lru_owned_cache.specs.declared.cache.NotPut.TheVariants.{Unmade, Refused as EntryRefused}
+use Rattle.lru_owned_cache.specs.Cache.{Leaves, entry_of, without, used, with_entries, PopsLast as CachePopsLast, UpdatesEntry as CacheUpdatesEntry, Puts as CachePuts, UsesOrPuts as CacheUsesOrPuts, Clears as CacheClears}
 use Rattle.lru_segmented.specs.Segmented.{Segmented, entries, plain, removed, most_upper, with_segments, with_more, IsSegmented, Balances, Recedes, LetsGo, Raises, Uses, UpdatesEntry, PopsLast, Puts, UsesOrPuts}
 use Rattle.lru_segmented.specs.Laws.{IsPlain}
 use Rattle.lru_segmented.proofs.Lists.{nil_cons, nil_append, without-append, without_absent, without_short, without_fewer}

@@ -3,10 +3,10 @@ use Rattle.std.proofs.Common.{◌≡◌, ℕ, ◌<◌, List, [], ◌∷◌, ◌+
 use Rattle.std.specs.Prelude.{◌⊎◌, reverse}
 use Rattle.std.specs.List.{FoldsTo}
 use Rattle.std.proofs.lemmas.List.{length-append}
-use Rattle.lru_entries.specs.declared.entry.Entry.{Entry}
-use Rattle.lru_entries.specs.Entries.{weight_of}
-use Rattle.lru_entries.proofs.Lists.{same_head, shown_before}
-use Rattle.lru_cache.specs.Cache.{Fit}
+use Rattle.lru_owned_cache.specs.declared.entry.Entry.{Entry}
+use Rattle.lru_owned_cache.specs.Entries.{weight_of}
+use Rattle.lru_owned_cache.proofs.Lists.{same_head, shown_before}
+use Rattle.lru_owned_cache.specs.Cache.{Fit}
 use Rattle.lru_segmented.specs.Segmented.{Segmented, entries, with_segments, LetsGo, PopsLast}
 use Rattle.lru_segmented.proofs.Lists.{nil_cons, nil_append}
 

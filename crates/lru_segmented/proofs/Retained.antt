@@ -9,10 +9,10 @@ use Rattle.std.proofs.lemmas.List.Elements.{filter-append}
 use Rattle.lru_rows.specs.declared.rows.Taken.{Taken}
 use Rattle.lru_rows.specs.Rows.{Placed, row_at, last_row, IsAt, IsRecency, taken, without as rows_without}
 use Rattle.lru_pairs.specs.Beside.{row_after, row_before}
-use Rattle.lru_entries.specs.declared.entry.Entry.{Entry}
-use Rattle.lru_entries.specs.Entries.{entry, Asks, gone_of, kept_of, entry_in, entries_in, weight_in, weight_of}
-use Rattle.lru_entries.proofs.Lists.{shown_before}
-use Rattle.lru_entries.proofs.Rows.{some_of, by_bool, places, places_here, places-append, row_first, last_told, none_told, without_absent, by_place, length-entries, weight-entries, weight-append as rows_weight}
+use Rattle.lru_owned_cache.specs.declared.entry.Entry.{Entry}
+use Rattle.lru_owned_cache.specs.Entries.{entry, Asks, gone_of, kept_of, entry_in, entries_in, weight_in, weight_of}
+use Rattle.lru_owned_cache.proofs.Lists.{shown_before}
+use Rattle.lru_owned_cache.proofs.Rows.{some_of, by_bool, places, places_here, places-append, row_first, last_told, none_told, without_absent, by_place, length-entries, weight-entries, weight-append as rows_weight}
 use Rattle.lru_segmented.specs.Segmented.{Segmented, entries, with_segments}
 use Rattle.lru_segmented.specs.Seats.{Seated, seated, rows}
 use Rattle.lru_segmented.specs.Representation.{segmented_in, IsKept}

@@ -7,7 +7,7 @@ use Rattle.std.proofs.lemmas.List.{length_push, get_or_push, reverse-append, app
 use Rattle.std.proofs.lemmas.List.Elements.{filter-append}
 use Rattle.std.proofs.lemmas.Option.{slice_get-get_or}
 use Rattle.lru_rows.specs.Rows.{Placed, placed, row_at, without, with_value, first_row, last_row}
-use Rattle.lru_entries.proofs.Rows.{places, places_here, places_other, places-append, row_first, by_place}
+use Rattle.lru_owned_cache.proofs.Rows.{places, places_here, places_other, places-append, row_first, by_place}
 use Rattle.lru_pairs.specs.Beside.{row_after, row_before, put_before}
 
 module _ {K V : Type 0} where

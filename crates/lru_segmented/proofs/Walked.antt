@@ -3,12 +3,12 @@ use Rattle.std.proofs.Common.{◌≡◌, ℕ, ◌-◌, ◌≤◌, List, [], ◌�
 use Rattle.std.specs.Prelude.{Option, Bool, Result, All}
 use Rattle.std.proofs.lemmas.List.{length-append, append-nil}
 use Rattle.std.proofs.lemmas.List.Elements.{All-head, All-tail, All-cons, All-nil}
-use Rattle.lru_entries.specs.declared.entry.Entry.{Entry}
-use Rattle.lru_entries.specs.Entries.{entry, weight_of}
-use Rattle.lru_cache.specs.declared.cache.Refused.{Refused}
-use Rattle.lru_cache.specs.declared.cache.NotPut.{NotPut}
-use Rattle.lru_cache.specs.declared.cache.NotPut.TheVariants.{Unmade, Refused as EntryRefused}
-use Rattle.lru_cache.specs.Cache.{Fit, entry_of}
+use Rattle.lru_owned_cache.specs.declared.entry.Entry.{Entry}
+use Rattle.lru_owned_cache.specs.Entries.{entry, weight_of}
+use Rattle.lru_owned_cache.specs.declared.cache.Refused.{Refused}
+use Rattle.lru_owned_cache.specs.declared.cache.NotPut.{NotPut}
+use Rattle.lru_owned_cache.specs.declared.cache.NotPut.TheVariants.{Unmade, Refused as EntryRefused}
+use Rattle.lru_owned_cache.specs.Cache.{Fit, entry_of}
 use Rattle.lru_segmented.specs.Segmented.{Segmented, entries, Recedes, Puts, UsesOrPuts}
 use Rattle.lru_segmented.specs.Scans.{Call, Look, Put, Walks, Requests, FitsBeside, CallFits, AreDistinct}
 use Rattle.lru_segmented.proofs.Lists.{nil_cons, none_some, weight-append, weight-cons, has_not, absent_front, absent_back, absent_both}

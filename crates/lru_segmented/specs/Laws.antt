@@ -1,10 +1,10 @@
 -- Without a share a segmented cache is one with one order, call for call.
 use Rattle.std.specs.Prelude.{◌≡◌, ℕ, Bool, [], Option, Result, is_some}
 use Rattle.std.specs.Borrow.{MutBor}
-use Rattle.lru_entries.specs.declared.entry.Entry.{Entry}
-use Rattle.lru_cache.specs.declared.cache.Refused.{Refused}
-use Rattle.lru_cache.specs.declared.cache.NotPut.{NotPut}
-use Rattle.lru_cache.specs.Cache.{entry_of, without, used, with_entries, PopsLast as CachePopsLast, UpdatesEntry as CacheUpdatesEntry, Puts as CachePuts, UsesOrPuts as CacheUsesOrPuts, Clears as CacheClears}
+use Rattle.lru_owned_cache.specs.declared.entry.Entry.{Entry}
+use Rattle.lru_owned_cache.specs.declared.cache.Refused.{Refused}
+use Rattle.lru_owned_cache.specs.declared.cache.NotPut.{NotPut}
+use Rattle.lru_owned_cache.specs.Cache.{entry_of, without, used, with_entries, PopsLast as CachePopsLast, UpdatesEntry as CacheUpdatesEntry, Puts as CachePuts, UsesOrPuts as CacheUsesOrPuts, Clears as CacheClears}
 use Rattle.lru_segmented.specs.Segmented.{Segmented, entries, plain, removed, IsSegmented, LetsGo, Uses, UpdatesEntry, PopsLast, Puts, UsesOrPuts}
 
 module _ {K V S F U R M E : Type 0} (eq : K → K → Bool) (Step : F → Entry K V → F → Type 0) (Post : U → MutBor V → ℕ → R → MutBor V → Type 0) (Makes : M → Result (V × ℕ) E → Type 0) where

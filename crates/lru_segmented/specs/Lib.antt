@@ -4,3 +4,6 @@ pub mod Representation
 pub mod Retained
 pub mod Scans
 pub mod Laws
+pub mod SegmentedDeadlines
+pub mod SegmentedUnit
+pub mod UnitLaws

@@ -4,8 +4,8 @@ use Rattle.std.specs.Option.{option_map}
 use Rattle.std.specs.List.{FoldsTo}
 use Rattle.std.specs.Borrow.{Bor}
 use Rattle.lru_rows.specs.Rows.{Placed, last_row}
-use Rattle.lru_entries.specs.declared.entry.Entry.{Entry}
-use Rattle.lru_entries.specs.Entries.{entries_in, IsShown, Asks, kept_of, gone_of}
+use Rattle.lru_owned_cache.specs.declared.entry.Entry.{Entry}
+use Rattle.lru_owned_cache.specs.Entries.{entries_in, IsShown, Asks, kept_of, gone_of}
 use Rattle.lru_segmented.specs.Segmented.{Segmented, entries, with_segments}
 use Rattle.lru_segmented.specs.Seats.{Seated, rows}
 

@@ -5,7 +5,7 @@ use Rattle.std.specs.Coded.{Coded, code_by, coded×, coded_ℕ, coded_list}
 use Rattle.std.specs.Borrow.{MutBor}
 use Rattle.lru_rows.specs.declared.rows.Unpushed.{Unpushed}
 use Rattle.lru_rows.specs.Rows.{Placed, placed, placed_code, recency, row_at, without, with_value, most_rows, LacksPlace, Updates}
-use Rattle.lru_entries.specs.Partings.{RowsFit}
+use Rattle.lru_owned_cache.specs.Partings.{RowsFit}
 
 -- the rows of both segments, most recent first; how many places are free; and what makes the hashes of their keys
 pub record Seated (K V S : Type 0) : Type 0 where

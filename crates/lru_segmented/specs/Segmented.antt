@@ -5,14 +5,14 @@ use Rattle.std.specs.List.{FoldsTo}
 use Rattle.std.specs.Coded.{Coded, code_by, coded×, coded_ℕ, coded_list}
 use Rattle.std.specs.Borrow.{MutBor}
 use Rattle.lru_rows.specs.Rows.{most_rows, Updates}
-use Rattle.lru_entries.specs.declared.entry.Entry.{Entry}
-use Rattle.lru_entries.specs.Entries.{entry_code, entry, IsShown}
-use Rattle.lru_cache.specs.declared.cache.Refused.{Refused}
-use Rattle.lru_cache.specs.declared.cache.NotPut.{NotPut}
-use Rattle.lru_cache.specs.declared.cache.NotPut.TheVariants.{Unmade, Refused as EntryRefused}
-use Rattle.lru_cache.specs.declared.cache.Cause.{Cause}
-use Rattle.lru_cache.specs.declared.cache.Cause.TheVariants.{TooHeavy, Full, Memory}
-use Rattle.lru_cache.specs.Cache.{Cached, Fit, Leaves, MayRefuse, entry_of, without}
+use Rattle.lru_owned_cache.specs.declared.entry.Entry.{Entry}
+use Rattle.lru_owned_cache.specs.Entries.{entry_code, entry, IsShown}
+use Rattle.lru_owned_cache.specs.declared.cache.Refused.{Refused}
+use Rattle.lru_owned_cache.specs.declared.cache.NotPut.{NotPut}
+use Rattle.lru_owned_cache.specs.declared.cache.NotPut.TheVariants.{Unmade, Refused as EntryRefused}
+use Rattle.lru_owned_cache.specs.declared.cache.Cause.{Cause}
+use Rattle.lru_owned_cache.specs.declared.cache.Cause.TheVariants.{TooHeavy, Full, Memory}
+use Rattle.lru_owned_cache.specs.Cache.{Cached, Fit, Leaves, MayRefuse, entry_of, without}
 
 -- the entries of both segments, most recent first; for how many there is memory; how heavy and how many they may be; and how heavy those of the upper segment
 pub record Segmented (K V S : Type 0) : Type 0 where

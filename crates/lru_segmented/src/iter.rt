@@ -5,7 +5,7 @@ ghost use Rattle.std.specs.Iterator.SizeHint.{IsWithinCount};
 ghost use Rattle.std.specs.Map.Iter.{TakesFirst, TakesLast};
 ghost use Rattle.lru_rows.specs.Rows.{shown_entry};
 
-use crate::seat::Seat;
+use crate::seat::RankedValue;
 use lru_pairs::iter::PairsEntries;
 use std::iter::FusedIterator;
 use std::marker::Model;
@@ -14,7 +14,7 @@ use std::marker::Model;
 /// then those of the lower one.
 #[derive(Drop)]
 pub struct SegmentedEntries<'a, K, V> {
-    pub(crate) pairs: PairsEntries<'a, K, Seat<V>>,
+    pub(crate) pairs: PairsEntries<'a, K, RankedValue<V>>,
 }
 
 impl<'a, K, V> Model for SegmentedEntries<'a, K, V> {

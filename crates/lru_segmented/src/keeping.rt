@@ -2,7 +2,7 @@
 ghost use Rattle.lru_segmented.specs.Retained.{RetainsLastRows};
 
 use crate::seats::Seats;
-use lru_cache::cache::Entry;
+use lru_owned_cache::cache::Entry;
 use std::hash::{BuildHasher, Hash};
 
 /// Asks `keep` of the last rows, of `most` at most, the last first, takes out those for which it answers false, and hands each

@@ -3,7 +3,7 @@
 ghost use Rattle.lru_segmented.specs.Laws.{PlainWithoutShare};
 ghost use Rattle.lru_segmented.specs.Scans.{NoRequestEvicts, NoScanEvicts, ScansTakeTheEnd};
 
-use lru_cache::cache::Entry;
+use lru_owned_cache::cache::Entry;
 use std::hash::Hash;
 
 /// No scan evicts a protected entry: after any list of looks, and of puts of keys that have no entry, each of which fits

@@ -2,7 +2,7 @@
 
 /// A value, and whether its entry is of the upper segment.
 #[derive(Drop)]
-pub struct Seat<V> {
+pub struct RankedValue<V> {
     pub(crate) value: V,
     pub(crate) upper: bool,
 }

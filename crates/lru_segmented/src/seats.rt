@@ -4,12 +4,12 @@ ghost use Rattle.std.specs.Option.{option_map};
 ghost use Rattle.lru_index.specs.Hashing.{key_hash};
 ghost use Rattle.lru_rows.specs.Rows.{row_at, row_of, IsAt, IsRecency, Finds, first_row, last_row, entry_of, taken, without, most_rows, Updates};
 ghost use Rattle.lru_pairs.specs.Beside.{row_before};
-ghost use Rattle.lru_entries.specs.Entries.{weight_in};
+ghost use Rattle.lru_owned_cache.specs.Entries.{weight_in};
 ghost use Rattle.lru_segmented.specs.Seats.{seated, rows, lifted, sunk, Lowers, LowersLast, Pushes, UpdatesAt};
 ghost use Rattle.lru_segmented.specs.Representation.{seat, passed, begun, upper_end, Marks};
 
 use crate::iter::SegmentedEntries;
-use crate::seat::Seat;
+use crate::seat::RankedValue;
 use lru_index::alike::SameHashes;
 use lru_index::keys::Query;
 use lru_pairs::pairs::Pairs;
@@ -22,7 +22,7 @@ use std::marker::Model;
 /// where the lower one begins is known, and what the segments weigh.
 #[derive(Drop)]
 pub(crate) struct Seats<K: Hash, V, S: BuildHasher> {
-    rows: Pairs<K, Seat<V>, S>,
+    rows: Pairs<K, RankedValue<V>, S>,
     boundary: Option<Place>,
     weight: usize,
     upper_weight: usize,
@@ -45,7 +45,7 @@ impl<K: Hash, V, S: BuildHasher> Model for Seats<K, V, S> {
 // The boundary, once the row at a place stands elsewhere.
 #[inline(always)]
 fn pass<K: Hash, V, S: BuildHasher>(
-    rows: &Pairs<K, Seat<V>, S>,
+    rows: &Pairs<K, RankedValue<V>, S>,
     boundary: Option<Place>,
     place: Place,
 ) -> Option<Place>
@@ -67,7 +67,7 @@ fn pass<K: Hash, V, S: BuildHasher>(
 // The place of the last row before the boundary.
 #[inline(always)]
 fn end_before<K: Hash, V, S: BuildHasher>(
-    rows: &Pairs<K, Seat<V>, S>,
+    rows: &Pairs<K, RankedValue<V>, S>,
     boundary: Option<Place>,
 ) -> Option<Place>
     requires { IfSome boundary (IsAt rows.now.held.rows) }
@@ -93,7 +93,7 @@ fn begins(first: Option<Place>, place: Place) -> Option<Place>
 // Lets the seat at a place say of which segment it is, and answers what it said.
 #[inline(always)]
 fn mark<K: Hash, V, S: BuildHasher>(
-    rows: &mut Pairs<K, Seat<V>, S>,
+    rows: &mut Pairs<K, RankedValue<V>, S>,
     place: Place,
     upper: bool,
 ) -> bool
@@ -103,7 +103,7 @@ fn mark<K: Hash, V, S: BuildHasher>(
 {
     rows.update(
         place,
-        |held: &mut Seat<V>, _weight: usize| -> bool
+        |held: &mut RankedValue<V>, _weight: usize| -> bool
             ensures was { result ≡ held.old.upper }
             ensures left { held.new ≡ seat held.old.value upper }
         {
@@ -117,7 +117,7 @@ fn mark<K: Hash, V, S: BuildHasher>(
 // Lends the value of a seat to `update`, with a weight, and answers what `update` does.
 #[inline(always)]
 fn lend<V, R, U: FnOnce(&mut V, usize) -> R + Drop>(
-    seat: &mut Seat<V>,
+    seat: &mut RankedValue<V>,
     weight: usize,
     update: U,
 ) -> R
@@ -343,7 +343,7 @@ impl<K: Hash, V, S: BuildHasher> Seats<K, V, S> {
     {
         self.rows.update(
             place,
-            |held: &mut Seat<V>, weight: usize| -> R
+            |held: &mut RankedValue<V>, weight: usize| -> R
                 requires { U.IsAlwaysCallable update }
                 ensures updates { Updates (U.post update) held.old.value weight result held.new.value }
                 ensures upper { held.new.upper ≡ held.old.upper }
@@ -371,7 +371,7 @@ impl<K: Hash + Drop, V: Drop, S: BuildHasher> Seats<K, V, S> {
         requires light { weight_in (rows self.old) + weight < 2 ^ 64 }
         ensures { Pushes (λ r. seated (r ∷ self.old.upper) self.old.lower (self.old.free - 1) self.old.hashes) self.old key value weight result self.new }
     {
-        let seat = Seat { value, upper: true };
+        let seat = RankedValue { value, upper: true };
         match self.rows.push_first_hashed(key, seat, weight, hash) {
             Ok(place) => {
                 self.weight += weight;
@@ -401,7 +401,7 @@ impl<K: Hash + Drop, V: Drop, S: BuildHasher> Seats<K, V, S> {
         requires light { weight_in (rows self.old) + weight < 2 ^ 64 }
         ensures { Pushes (λ r. seated self.old.upper (r ∷ self.old.lower) (self.old.free - 1) self.old.hashes) self.old key value weight result self.new }
     {
-        let seat = Seat {
+        let seat = RankedValue {
             value,
             upper: false,
         };
@@ -453,7 +453,7 @@ impl<K: Hash + Drop, V: Drop, S: BuildHasher> Seats<K, V, S> {
 }
 
 // What was handed back, without its seat.
-fn stripped<K, V>(back: Unpushed<K, Seat<V>>) -> Unpushed<K, V>
+fn stripped<K, V>(back: Unpushed<K, RankedValue<V>>) -> Unpushed<K, V>
     ensures cause { result.cause ≡ back.cause }
     ensures key { result.key ≡ back.key }
     ensures value { result.value ≡ back.value.value }

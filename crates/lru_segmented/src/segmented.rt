@@ -1,21 +1,16 @@
 //! A cache of one owner in two segments.
-ghost use Rattle.std.specs.Prelude.{◌≡◌, ◌+◌, ◌-◌, ◌<◌, ◌≤◌, ◌∷◌, ◌++◌, None, Some, length, map, is_some, nat_eq, ◌==◌, IfOk, if◌then◌else◌};
+ghost use Rattle.std.specs.Prelude.{◌≡◌, length, map, is_some, nat_eq, ◌==◌, IfOk, if◌then◌else◌};
 ghost use Rattle.std.specs.Option.{option_map, option_copied};
 ghost use Rattle.lru_index.specs.Hashing.{key_hash, seeded, unseeded};
-ghost use Rattle.lru_rows.specs.Rows.{most_rows};
-ghost use Rattle.lru_entries.specs.Entries.{weight_of, entry};
-ghost use Rattle.lru_cache.specs.Cache.{hashes_from, entry_of, cause_of, parts_of, IsLast};
-ghost use Rattle.lru_segmented.specs.Segmented.{empty, entries, removed, demoted, LetsGo, Limits, PopsLast, PopsFirst, Drains, Uses, UpdatesEntry, Puts, UsesOrPuts, Enters, Rejoins, IsSegmented};
-ghost use Rattle.lru_segmented.specs.Retained.{Retains, RetainsLast};
+ghost use Rattle.lru_owned_cache.specs.Entries.{weight_of, entry};
+ghost use Rattle.lru_owned_cache.specs.Cache.{hashes_from, entry_of, parts_of, IsLast};
+ghost use Rattle.lru_segmented.specs.Segmented.{empty, entries, demoted, Uses, UpdatesEntry, IsSegmented};
 
 use crate::iter::SegmentedEntries;
-use crate::keeping::retain_last;
-use crate::seats::{Seats, fits, lower_down};
-use lru_cache::cache::{Cause, Entry, NotPut, Refused};
+use crate::seats::{Seats, lower_down};
 use lru_index::alike::SameHashes;
 use lru_index::hashing::SeededHashes;
 use lru_index::keys::Query;
-use lru_rows::rows::{NoPlace, Place};
 use std::alloc::{AllocError, Global};
 use std::hash::{BuildHasher, Hash};
 use std::marker::Model;
@@ -32,10 +27,10 @@ use std::marker::Model;
 /// It is over no limit after any call.
 #[derive(Drop)]
 pub struct SegmentedCache<K: Hash, V, S: BuildHasher = SeededHashes> {
-    seats: Seats<K, V, S>,
-    most_weight: usize,
-    most_entries: usize,
-    most_protected: usize,
+    pub(crate) seats: Seats<K, V, S>,
+    pub(crate) most_weight: usize,
+    pub(crate) most_entries: usize,
+    pub(crate) most_protected: usize,
 }
 
 impl<K: Hash, V, S: BuildHasher> Model for SegmentedCache<K, V, S> {
@@ -51,19 +46,9 @@ impl<K: Hash, V, S: BuildHasher> Model for SegmentedCache<K, V, S> {
     ghost invariant = { λ c. IsKept c.seats c.most_weight c.most_entries c.most_protected };
 }
 
-// The cause of an entry's refusal for which there was no place.
-fn cause_of(none: NoPlace) -> Cause
-    ensures { result ≡ cause_of none }
-{
-    match none {
-        NoPlace::Memory => Cause::Memory,
-        NoPlace::Full => Cause::Full,
-    }
-}
-
 // How many entries an upper segment with this share may have.
 #[inline(always)]
-fn most_upper(most_protected: usize, most_entries: usize) -> usize
+pub(crate) fn most_upper(most_protected: usize, most_entries: usize) -> usize
     ensures { result ≡ (if most_protected == 0 then 0 else most_entries) }
 {
     if most_protected == 0 { 0 } else { most_entries }
@@ -414,313 +399,5 @@ impl<K: Hash, V, S: BuildHasher> SegmentedCache<K, V, S> {
             most_upper(self.most_protected, self.most_entries),
         );
         Some(answer)
-    }
-}
-
-impl<K: Hash + Drop, V: Drop, S: BuildHasher> SegmentedCache<K, V, S> {
-    /// Puts an entry. One whose key has none stands first in the lower segment. Else it is a use of the key: the entry goes
-    /// first in the upper segment, with this value and this weight, and the one of before is answered. The entries that were
-    /// used longest ago go, those of the lower segment first, as many as have to for the others to be within the limits, and
-    /// each is handed to `visit`.
-    ///
-    /// # Errors
-    ///
-    /// The entry is too heavy by itself, or there is no place for it, because memory is refused or there are as many
-    /// entries as there can be. Key and value are handed back, and nothing changes. A key that has an entry is refused
-    /// only where it is too heavy, and so is one for which another entry goes.
-    pub fn put<F: FnMut(Entry<K, V>) + Drop>(
-        &mut self,
-        key: K,
-        value: V,
-        weight: usize,
-        visit: F,
-    ) -> Result<Option<Entry<K, V>>, Refused<K, V>>
-        requires { F.IsAlwaysCallable visit }
-        ensures { Puts K.eq (λ p x q. F.step p x tt q) visit self.old key value weight result self.new }
-    {
-        let hash = self.hash_of(&key);
-        self.put_hashed(key, value, weight, hash, visit)
-    }
-
-    /// `put`, where the key's hash is known.
-    ///
-    /// # Errors
-    ///
-    /// As for `put`.
-    pub fn put_hashed<F: FnMut(Entry<K, V>) + Drop>(
-        &mut self,
-        key: K,
-        value: V,
-        weight: usize,
-        hash: u64,
-        visit: F,
-    ) -> Result<Option<Entry<K, V>>, Refused<K, V>>
-        requires hash { hash ≡ key_hash S.BuildHasher S.Hasher.Hasher K.hash_input self.old.hashes key }
-        requires visit { F.IsAlwaysCallable visit }
-        ensures { Puts K.eq (λ p x q. F.step p x tt q) visit self.old key value weight result self.new }
-    {
-        let (most_weight, most_entries) = (self.most_weight(), self.most_entries());
-        if weight > most_weight || most_entries == 0 {
-            return Err(Refused {
-                cause: Cause::TooHeavy,
-                key,
-                value,
-            });
-        }
-        let was = self.remove_hashed(&key, hash);
-        // Where something goes, its place is free then: only where nothing has to go may a place be refused.
-        self.let_go(most_weight - weight, most_entries - 1, visit);
-        match was {
-            Some(entry) => {
-                self.rejoin(key, value, weight, hash);
-                Ok(Some(entry))
-            }
-            None => match self.enter(key, value, weight, hash) {
-                Ok(()) => Ok(None),
-                Err(refused) => Err(refused),
-            },
-        }
-    }
-
-    // Lets entries go from the end, until the others are within these limits, and hands each to `visit`.
-    #[inline(always)]
-    fn let_go<F: FnMut(Entry<K, V>) + Drop>(
-        &mut self,
-        most_weight: usize,
-        most_entries: usize,
-        mut visit: F,
-    )
-        requires { F.IsAlwaysCallable visit }
-        ensures { LetsGo (λ p x q. F.step p x tt q) visit most_weight most_entries self.old self.new }
-    {
-        while !fits(self.weight(), self.len(), most_weight, most_entries) {
-            let Some(last) = self.pop_last() else {
-                unreachable!()
-            };
-            visit(last);
-        }
-    }
-
-    // Puts a new entry, for which there is room, first in the lower segment.
-    #[inline(always)]
-    fn enter(&mut self, key: K, value: V, weight: usize, hash: u64) -> Result<(), Refused<K, V>>
-        requires hash { hash ≡ key_hash S.BuildHasher S.Hasher.Hasher K.hash_input self.old.hashes key }
-        requires absent { entry_of K.eq (entries self.old) key ≡ None }
-        requires light { weight_of (entries self.old) + weight ≤ self.old.most_weight }
-        requires few { length (entries self.old) < self.old.most_entries }
-        ensures { Enters self.old key value weight result self.new }
-    {
-        let back = match self.seats.push_lower_hashed(key, value, weight, hash) {
-            Ok(_) => return Ok(()),
-            Err(back) => back,
-        };
-        Err(Refused {
-            cause: cause_of(back.cause),
-            key: back.key,
-            value: back.value,
-        })
-    }
-
-    // Puts an entry, for which there are room and a place, first in the upper segment.
-    #[inline(always)]
-    fn rejoin(&mut self, key: K, value: V, weight: usize, hash: u64)
-        requires hash { hash ≡ key_hash S.BuildHasher S.Hasher.Hasher K.hash_input self.old.hashes key }
-        requires absent { entry_of K.eq (entries self.old) key ≡ None }
-        requires light { weight_of (entries self.old) + weight ≤ self.old.most_weight }
-        requires few { length (entries self.old) < self.old.most_entries }
-        requires placed { length (entries self.old) < self.old.places }
-        requires short { length (entries self.old) < most_rows }
-        ensures { Rejoins self.old (entry key value weight) self.new }
-    {
-        match self.seats.push_upper_hashed(key, value, weight, hash) {
-            Ok(_) => {}
-            Err(_) => unreachable!(),
-        }
-        lower_down(
-            &mut self.seats,
-            self.most_protected,
-            most_upper(self.most_protected, self.most_entries),
-        );
-    }
-
-    /// Uses a key, and answers true; or puts an entry of it that `make` makes, value and weight, as `put` does, and answers
-    /// false. `make` is called only where the key has no entry.
-    ///
-    /// # Errors
-    ///
-    /// `make` made none, or the entry was refused. What is not put is handed back, and nothing changes.
-    pub fn use_or_put<E: Drop, M, F>(
-        &mut self,
-        key: K,
-        make: M,
-        visit: F,
-    ) -> Result<bool, NotPut<K, V, E>>
-    where
-        M: FnOnce() -> Result<(V, usize), E> + Drop,
-        F: FnMut(Entry<K, V>) + Drop,
-        requires make { M.IsAlwaysCallable make }
-        requires visit { F.IsAlwaysCallable visit }
-        ensures { UsesOrPuts K.eq (M.post make) (λ p x q. F.step p x tt q) visit self.old key result self.new }
-    {
-        let hash = self.hash_of(&key);
-        if self.promote_hashed(&key, hash) {
-            return Ok(true);
-        }
-        let (value, weight) = match make() {
-            Ok(made) => made,
-            Err(error) => return Err(NotPut::Unmade(key, error)),
-        };
-        match self.put_hashed(key, value, weight, hash, visit) {
-            Ok(_) => Ok(false),
-            Err(refused) => Err(NotPut::Refused(refused)),
-        }
-    }
-
-    /// Takes a key's entry out.
-    pub fn remove(&mut self, key: &K) -> Option<Entry<K, V>>
-        ensures answer { result ≡ entry_of K.eq (entries self.old) key.now }
-        ensures left { self.new ≡ removed K.eq self.old key.now }
-        ensures valid { IsSegmented K.eq self.old }
-    {
-        let hash = self.hash_of(key);
-        self.remove_hashed(key, hash)
-    }
-
-    /// As `remove`, by what stands for the key.
-    pub fn remove_by<Q: Query<K>>(&mut self, query: Q) -> Option<Entry<K, V>>
-        ensures answer { result ≡ entry_of Q.stands_for (entries self.old) query }
-        ensures left { self.new ≡ removed Q.stands_for self.old query }
-        ensures valid { IsSegmented K.eq self.old }
-    {
-        let hash = self.hash_of(&query);
-        self.remove_hashed(query, hash)
-    }
-
-    /// `remove_by`, where the query's hash is known.
-    #[inline(always)]
-    pub fn remove_hashed<Q: Query<K>>(&mut self, query: Q, hash: u64) -> Option<Entry<K, V>>
-        requires { hash ≡ key_hash S.BuildHasher S.Hasher.Hasher Q.hash_input self.old.hashes query }
-        ensures answer { result ≡ entry_of Q.stands_for (entries self.old) query }
-        ensures left { self.new ≡ removed Q.stands_for self.old query }
-        ensures valid { IsSegmented K.eq self.old }
-    {
-        let place = self.seats.find_hashed(query, hash)?;
-        let row = self.seats.take(place);
-        Some(Entry {
-            key: row.key,
-            value: row.value,
-            weight: row.weight,
-        })
-    }
-
-    /// Takes the entry out that is the next to go: the last of the lower segment, or of the upper one where the lower one has
-    /// none.
-    pub fn pop_last(&mut self) -> Option<Entry<K, V>>
-        ensures pops { PopsLast self.old result self.new }
-        ensures valid { IsSegmented K.eq self.old }
-    {
-        let place = self.seats.last()?;
-        let row = self.seats.take(place);
-        Some(Entry {
-            key: row.key,
-            value: row.value,
-            weight: row.weight,
-        })
-    }
-
-    /// Takes the entry out that stands first: the first of the upper segment, or of the lower one where the upper one has
-    /// none.
-    pub fn pop_first(&mut self) -> Option<Entry<K, V>>
-        ensures pops { PopsFirst self.old result self.new }
-        ensures valid { IsSegmented K.eq self.old }
-    {
-        let place = self.seats.first()?;
-        let row = self.seats.take(place);
-        Some(Entry {
-            key: row.key,
-            value: row.value,
-            weight: row.weight,
-        })
-    }
-
-    /// Makes room for `additional` more entries. Nothing else changes, also where it is refused.
-    ///
-    /// # Errors
-    ///
-    /// There is no memory for that many, or there can't be as many entries.
-    pub fn reserve(&mut self, additional: usize) -> Result<(), AllocError>
-        ensures same { self.new ≡ self.old }
-        ensures room { IfOk result (λ _. length (entries self.new) + additional ≤ most_rows) }
-    {
-        self.seats.reserve(additional)
-    }
-
-    /// Gives the cache other limits, and its upper segment another share. Then entries go as for a put, as many as have to,
-    /// and each is handed to `visit`; and the last entries of the upper segment become the first of the lower one, as many as
-    /// have to for the others to be within its share.
-    pub fn set_limits<F: FnMut(Entry<K, V>) + Drop>(
-        &mut self,
-        most_weight: usize,
-        most_entries: usize,
-        most_protected: usize,
-        visit: F,
-    )
-        requires { F.IsAlwaysCallable visit }
-        ensures { Limits (λ p x q. F.step p x tt q) visit self.old most_weight most_entries most_protected self.new }
-    {
-        self.let_go(most_weight, most_entries, visit);
-        self.most_weight = most_weight;
-        self.most_entries = most_entries;
-        self.most_protected = most_protected;
-        lower_down(
-            &mut self.seats,
-            most_protected,
-            most_upper(most_protected, most_entries),
-        );
-    }
-
-    /// Lets all entries go, the one that is the next to go first, and hands each to `visit`. The limits stay, and so do the
-    /// places: as many entries as went take no memory again.
-    pub fn clear<F: FnMut(Entry<K, V>) + Drop>(&mut self, visit: F)
-        requires { F.IsAlwaysCallable visit }
-        ensures { LetsGo (λ p x q. F.step p x tt q) visit 0 0 self.old self.new }
-    {
-        self.let_go(0, 0, visit);
-    }
-
-    /// Asks `keep` of each entry, the one that is the next to go first, by its key, its value and its weight, and lets those
-    /// go for which it answers false. The others stay in their segments, in their order.
-    pub fn retain<F: FnMut(&K, &V, usize) -> bool + Drop>(&mut self, keep: F)
-        requires { F.IsAlwaysCallable keep }
-        ensures { Retains (λ p k v w b q. F.step p k v w b q) keep self.old self.new }
-    {
-        let most = self.len();
-        self.retain_last(most, keep, |_gone: Entry<K, V>| {});
-    }
-
-    /// Asks `keep` of the `most` entries that are the next to go, or of all where there are fewer, the next to go first, by its
-    /// key, its value and its weight: those of the lower segment, and of the upper one only where `most` is more than the lower
-    /// one has. Those go for which it answers false, and each is handed to `visit`. The others stay where they are. The time
-    /// that it takes grows with `most`, and not with the entries.
-    pub fn retain_last<F, G>(&mut self, most: usize, keep: F, visit: G)
-    where
-        F: FnMut(&K, &V, usize) -> bool + Drop,
-        G: FnMut(Entry<K, V>) + Drop,
-        requires keep { F.IsAlwaysCallable keep }
-        requires visit { G.IsAlwaysCallable visit }
-        ensures { RetainsLast (λ p k v w b q. F.step p k v w b q) keep (λ p x q. G.step p x tt q) visit most self.old self.new }
-    {
-        retain_last(&mut self.seats, most, keep, visit);
-    }
-
-    /// Lets all entries go, the one that stands first first, and hands each to `visit`. The limits stay, and so do the places,
-    /// as for `clear`.
-    pub fn drain<F: FnMut(Entry<K, V>) + Drop>(&mut self, mut visit: F)
-        requires { F.IsAlwaysCallable visit }
-        ensures { Drains (λ p x q. F.step p x tt q) visit self.old self.new }
-    {
-        while let Some(first) = self.pop_first() {
-            visit(first);
-        }
     }
 }

@@ -7,5 +7,6 @@
 
 pub mod counters;
 pub mod eviction;
+pub mod iter;
 pub mod totals;
 pub mod unit;

@@ -1,19 +1,18 @@
 //! One shard: rows in the order of their last use, under a cap on their weight.
 ghost use Rattle.std.specs.Prelude.{◌≡◌, ◌<◌, ◌-◌, ◌∷◌, ℕ, length, nat_eq, Some, None, IfOk, IfErr};
-ghost use Rattle.lru_rows.specs.Rows.{recency, placed, row_at as placed_at, row_of as placed_of, most_rows as most_placed};
+ghost use Rattle.lru_rows.specs.Rows.{recency, placed, row_of as placed_of, most_rows as most_placed};
 ghost use Rattle.lru_shard.specs.Shard.{number_of, refusal, size_of, and_row};
 ghost use Rattle.lru_shard.specs.Unit.{raised, started};
 
+pub use crate::iter::LruUnitIter;
 use lru_index::hashing::SeededHashes;
 use lru_list::linked_list::{LinkedListIter, MOST_ITEMS};
-use lru_rows::iter::RowsIter;
 use lru_rows::rows::Rows;
 use std::alloc::{AllocError, Global};
 use std::error::Error;
 use std::fmt;
 use std::fmt::Display;
 use std::hash::BuildHasher;
-use std::iter::FusedIterator;
 use std::marker::Model;
 
 /// Why a call was refused. The number of a cause is its value: `cause as u8`, or `number`.
@@ -590,62 +589,3 @@ impl<T: Drop, S: BuildHasher> LruUnit<T, S> {
         Some((taken.value, taken.weight))
     }
 }
-
-/// The data and the weight of each row that is left to give, most recent first.
-#[derive(Drop)]
-pub struct LruUnitIter<'a, T> {
-    rows: RowsIter<'a, u64, T>,
-}
-
-impl<'a, T> Model for LruUnitIter<'a, T> {
-    ghost use Rattle.std.specs.Prelude.{List, ℕ};
-
-    ghost Value = { List (T × ℕ) };
-
-    ghost view = { λ i. i.rows };
-}
-
-impl<'a, T> Iterator for LruUnitIter<'a, T> {
-    type Item = (&'a T, usize);
-
-    ghost use Rattle.std.specs.Prelude.{length, Some, IfSome};
-    ghost use Rattle.std.specs.Iterator.{at_most, UpTo};
-    ghost use Rattle.std.specs.Iterator.SizeHint.{IsWithinCount};
-    ghost use Rattle.std.specs.Map.Iter.{TakesFirst};
-    ghost use Rattle.lru_shard.specs.Unit.{shown};
-
-    ghost next_gives = { TakesFirst shown };
-
-    ghost remaining = { λ rest. at_most (length rest) };
-
-    fn next(&mut self) -> Option<(&'a T, usize)> {
-        self.rows.next()
-    }
-
-    fn size_hint(&self) -> (usize, Option<usize>)
-        ensures lower { IsWithinCount result.0 (at_most (length self.now)) }
-        ensures upper { IfSome result.1 (UpTo (at_most (length self.now))) }
-        ensures exact { result ≡ (length self.now, Some (length self.now)) }
-    {
-        self.rows.size_hint()
-    }
-}
-
-impl<'a, T> DoubleEndedIterator for LruUnitIter<'a, T> {
-    ghost use Rattle.std.specs.Map.Iter.{TakesLast};
-    ghost use Rattle.lru_shard.specs.Unit.{shown};
-
-    ghost next_back_gives = { TakesLast shown };
-
-    fn next_back(&mut self) -> Option<(&'a T, usize)> {
-        self.rows.next_back()
-    }
-}
-
-impl<'a, T> ExactSizeIterator for LruUnitIter<'a, T> {
-    fn len(&self) -> usize {
-        self.rows.len()
-    }
-}
-
-impl<'a, T> FusedIterator for LruUnitIter<'a, T> {}

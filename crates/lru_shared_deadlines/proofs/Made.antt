@@ -2,11 +2,11 @@
 use Rattle.std.proofs.Common.{ℕ, None, Ok, Err, inl, inr, sym, ap, subst}
 use Rattle.std.specs.Prelude.{◌⊎◌, Option, Bool, Result, IfErr}
 use Rattle.std.specs.Borrow.{MutBor}
-use Rattle.lru_cache.specs.declared.cache.Refused.{Refused}
-use Rattle.lru_shared.specs.declared.calls.NotGot.{NotGot}
-use Rattle.lru_shared.specs.declared.calls.NotGot.TheVariants.{Memory, Unmade, Refused as Unput}
-use Rattle.lru_shared.specs.Shards.{MayDo, Acts, Begins}
-use Rattle.lru_shared.specs.Answers.{HandsBack}
+use Rattle.lru_owned_cache.specs.declared.cache.Refused.{Refused}
+use Rattle.lru_shared_cache.specs.declared.calls.NotGot.{NotGot}
+use Rattle.lru_shared_cache.specs.declared.calls.NotGot.TheVariants.{Memory, Unmade, Refused as Unput}
+use Rattle.lru_shared_cache.specs.Shards.{MayDo, Acts, Begins}
+use Rattle.lru_shared_cache.specs.Answers.{HandsBack}
 use Rattle.lru_deadlines.specs.declared.deadlines.Until.{Until}
 use Rattle.lru_shared_deadlines.specs.declared.ages.Aged.{Aged}
 use Rattle.lru_shared_deadlines.specs.declared.ages.Moment.{Moment}

@@ -1,12 +1,12 @@
 -- What is put and refused does not hang on what makes the hashes.
 use Rattle.std.proofs.Common.{◌≡◌, ℕ, Ok, Err, ap}
 use Rattle.std.specs.Prelude.{Option, Bool, Result}
-use Rattle.lru_cache.specs.declared.cache.Cause.{Cause}
-use Rattle.lru_cache.specs.declared.cache.Cause.TheVariants.{TooHeavy, Full, Memory}
-use Rattle.lru_cache.specs.declared.cache.Refused.{Refused}
-use Rattle.lru_cache.specs.Cache.{Cached, MayRefuse}
+use Rattle.lru_owned_cache.specs.declared.cache.Cause.{Cause}
+use Rattle.lru_owned_cache.specs.declared.cache.Cause.TheVariants.{TooHeavy, Full, Memory}
+use Rattle.lru_owned_cache.specs.declared.cache.Refused.{Refused}
+use Rattle.lru_owned_cache.specs.Cache.{Cached, MayRefuse}
 use Rattle.lru_deadlines.specs.declared.deadlines.Until.{Until}
-use Rattle.lru_shared.specs.Counting.{PutsCounted}
+use Rattle.lru_shared_cache.specs.Counting.{PutsCounted}
 use Rattle.lru_shared_deadlines.specs.declared.ages.Aged.{Aged}
 use Rattle.lru_shared_deadlines.specs.Calls.{ShardOf, Ends}
 use Rattle.lru_shared_deadlines.specs.Answers.{MayPutBack}

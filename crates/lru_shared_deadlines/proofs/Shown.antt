@@ -6,14 +6,14 @@ use Rattle.std.specs.Borrow.{Bor, MutBor}
 use Rattle.std.specs.declared.alloc.AllocError.{AllocError}
 use Rattle.std.proofs.lemmas.Bool.{false≢true}
 use Rattle.lru_rows.specs.Rows.{Updates}
-use Rattle.lru_entries.specs.Entries.{entry}
-use Rattle.lru_cache.specs.declared.cache.Refused.{Refused}
-use Rattle.lru_cache.specs.Cache.{Cached, without, with_entries, Puts}
+use Rattle.lru_owned_cache.specs.Entries.{entry}
+use Rattle.lru_owned_cache.specs.declared.cache.Refused.{Refused}
+use Rattle.lru_owned_cache.specs.Cache.{Cached, without, with_entries, Puts}
 use Rattle.lru_deadlines.specs.declared.deadlines.Until.{Until}
 use Rattle.lru_deadlines.specs.Deadlines.{UpdatesIfLiving}
 use Rattle.lru_deadlines.proofs.Living.{folds_from}
-use Rattle.lru_shared.specs.Counts.{looked}
-use Rattle.lru_shared.specs.Answers.{MayShow}
+use Rattle.lru_shared_cache.specs.Counts.{looked}
+use Rattle.lru_shared_cache.specs.Answers.{MayShow}
 use Rattle.lru_shared_deadlines.specs.declared.ages.Aged.{Aged}
 use Rattle.lru_shared_deadlines.specs.declared.ages.Moment.{Moment}
 use Rattle.lru_shared_deadlines.specs.Ages.{kept_until, begun}

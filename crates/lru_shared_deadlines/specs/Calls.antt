@@ -4,19 +4,19 @@ use Rattle.std.specs.List.{FoldsTo}
 use Rattle.std.specs.Borrow.{Bor, MutBor}
 use Rattle.std.specs.declared.alloc.AllocError.{AllocError}
 use Rattle.lru_rows.specs.Rows.{Updates}
-use Rattle.lru_entries.specs.declared.entry.Entry.{Entry}
-use Rattle.lru_entries.specs.Entries.{entry}
-use Rattle.lru_cache.specs.declared.cache.Refused.{Refused}
-use Rattle.lru_cache.specs.declared.cache.Cause.TheVariants.{Memory as NoMemory}
-use Rattle.lru_cache.specs.Cache.{Cached, without, with_entries, parts_of}
+use Rattle.lru_owned_cache.specs.declared.entry.Entry.{Entry}
+use Rattle.lru_owned_cache.specs.Entries.{entry}
+use Rattle.lru_owned_cache.specs.declared.cache.Refused.{Refused}
+use Rattle.lru_owned_cache.specs.declared.cache.Cause.TheVariants.{Memory as NoMemory}
+use Rattle.lru_owned_cache.specs.Cache.{Cached, without, with_entries, parts_of}
 use Rattle.lru_deadlines.specs.declared.deadlines.Until.{Until}
 use Rattle.lru_deadlines.specs.Deadlines.{living, MakesRoom, Sweeps}
-use Rattle.lru_shared.specs.declared.counts.Counted.{Counted}
-use Rattle.lru_shared.specs.declared.counts.Why.TheVariants.{Past}
-use Rattle.lru_shared.specs.declared.calls.NotGot.{NotGot}
-use Rattle.lru_shared.specs.declared.calls.NotGot.TheVariants.{Memory, Unmade, Refused as Unput}
-use Rattle.lru_shared.specs.Counts.{looked, fewer}
-use Rattle.lru_shared.specs.Counting.{size_of, PutsCounted}
+use Rattle.lru_shared_cache.specs.declared.counts.Counted.{Counted}
+use Rattle.lru_shared_cache.specs.declared.counts.Why.TheVariants.{Past}
+use Rattle.lru_shared_cache.specs.declared.calls.NotGot.{NotGot}
+use Rattle.lru_shared_cache.specs.declared.calls.NotGot.TheVariants.{Memory, Unmade, Refused as Unput}
+use Rattle.lru_shared_cache.specs.Counts.{looked, fewer}
+use Rattle.lru_shared_cache.specs.Counting.{size_of, PutsCounted}
 use Rattle.lru_shared_deadlines.specs.declared.ages.Aged.{Aged}
 use Rattle.lru_shared_deadlines.specs.declared.ages.Moment.{Moment}
 use Rattle.lru_shared_deadlines.specs.Ages.{kept_until, begun}

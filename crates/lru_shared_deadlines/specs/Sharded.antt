@@ -1,10 +1,10 @@
 -- Caches whose entries end, of one owner, each a shard of one.
 use Rattle.std.specs.Prelude.{◌≡◌, ℕ, ◌<◌, List, length, replicate, refl}
 use Rattle.std.specs.Coded.{Coded, code_by, coded×, coded_ℕ, coded_list}
-use Rattle.lru_cache.specs.Cache.{cached_code}
+use Rattle.lru_owned_cache.specs.Cache.{cached_code}
 use Rattle.lru_deadlines.specs.Codes.{until_code}
-use Rattle.lru_shared.specs.CountCodes.{counted_code}
-use Rattle.lru_shared.specs.Sharded.{empty_shard}
+use Rattle.lru_shared_cache.specs.CountCodes.{counted_code}
+use Rattle.lru_shared_cache.specs.Sharded.{empty_shard}
 use Rattle.lru_shared_deadlines.specs.declared.ages.Ages.{Ages}
 use Rattle.lru_shared_deadlines.specs.Codes.{aged_code, ages_code}
 use Rattle.lru_shared_deadlines.specs.Calls.{ShardOf}
@@ -34,3 +34,14 @@ AreInTurn many shards turn = (length shards ≡ many) × (turn < many)
 -- so many shards of no entries, each with a part of the limits, of which the first is swept next
 abbrev pub empty_shards : {K V S : Type 0} → ℕ → S → Ages → ℕ → ℕ → Sharded K V S
 empty_shards many hashes ages weight entries = sharded (replicate many (empty_shard hashes weight entries)) hashes ages 0
+
+-- what of a cache behind locks no call changes: what makes the hashes that tell the shards of its keys, and how long entries are answered
+pub record Setting (S : Type 0) : Type 0 where
+  pub hashes : S
+  pub ages : Ages
+
+abbrev pub setting : {S : Type 0} → S → Ages → Setting S
+setting hashes ages = record { hashes = hashes; ages = ages }
+
+abbrev pub setting_code : {S : Type 0} → Coded S → Coded (Setting S)
+setting_code {S} hashes = code_by (S × Ages) (coded× hashes ages_code) (λ c. (c.hashes, c.ages)) (λ p. record { hashes = p.0; ages = p.1 }) (λ _. refl)

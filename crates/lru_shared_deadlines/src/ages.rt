@@ -2,8 +2,8 @@
 ghost use Rattle.std.specs.Prelude.{◌≡◌, min};
 ghost use Rattle.lru_shared_deadlines.specs.Ages.{later, begun};
 
-use lru_cache::cache::Entry;
 use lru_deadlines::deadlines::Until;
+use lru_owned_cache::cache::Entry;
 
 /// How long entries are answered, in the caller's unit of time. 18446744073709551615 is as long as there is time.
 #[derive(Clone, Copy, Debug, PartialEq, Eq, Drop)]

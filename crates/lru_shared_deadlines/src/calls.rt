@@ -3,23 +3,23 @@
 ghost use Rattle.std.specs.Prelude.{◌≡◌, ◌<◌, ◌⊎◌, Ok, Err, None, is_some, length, IfOk, IfErr};
 ghost use Rattle.lru_index.specs.Hashing.{key_hash};
 ghost use Rattle.lru_deadlines.specs.Deadlines.{living};
-ghost use Rattle.lru_entries.specs.Entries.{weight_of};
-ghost use Rattle.lru_shared.specs.Shards.{home};
-ghost use Rattle.lru_shared.specs.Calls.{RetainsShard};
-ghost use Rattle.lru_shared.specs.Counting.{Takes, PopsShard, ClearsShard, DrainsShard, LimitsShard, PutsCounted};
+ghost use Rattle.lru_owned_cache.specs.Entries.{weight_of};
+ghost use Rattle.lru_shared_cache.specs.Shards.{home};
+ghost use Rattle.lru_shared_cache.specs.Calls.{RetainsShard};
+ghost use Rattle.lru_shared_cache.specs.Counting.{Takes, PopsShard, ClearsShard, DrainsShard, LimitsShard, PutsCounted};
 ghost use Rattle.lru_shared_deadlines.specs.Calls.{ShowsLiving, Lends, Gets, SweepsShard, PutsIn, PutsMissing, VisitsEach, GetsOrPuts, EndsMaking};
 
 use crate::ages::{Aged, Gone, Moment};
 use crate::one;
-use crate::one::Shard;
-use lru_cache::cache::{Cause, Refused};
+use crate::one::DeadlineShard;
 use lru_deadlines::deadlines::Until;
 use lru_index::alike::SameHashes;
 use lru_index::hashing::hash_of;
 use lru_index::keys::Query;
-use lru_shared::limits::Limits;
-use lru_shared::shards::{Shards, give_up, home_of};
-use lru_shared::shared::NotGot;
+use lru_owned_cache::cache::{Cause, Refused};
+use lru_shared_cache::limits::Limits;
+use lru_shared_cache::shards::{Shards, give_up, home_of};
+use lru_shared_cache::shared::NotGot;
 use std::alloc::AllocError;
 use std::hash::{BuildHasher, Hash};
 
@@ -30,7 +30,7 @@ where
     K: Hash,
     S: BuildHasher + SameHashes,
     Q: Query<K>,
-    T: Shards<Shard<K, V, S>>,
+    T: Shards<DeadlineShard<K, V, S>>,
     requires { 0 < T.many shards.now }
     ensures { T.sees shards.now (home (T.many shards.now) (key_hash S.BuildHasher S.Hasher.Hasher Q.hash_input hashes.now query))
         (λ shard. result ≡ is_some (living Q.stands_for time shard.cache.entries query)) }
@@ -39,7 +39,7 @@ where
     let home = home_of(shards.count(), hash);
     shards.look(
         home,
-        |shard: &Shard<K, V, S>| one::contains(shard, time, query, hash, hashes),
+        |shard: &DeadlineShard<K, V, S>| one::contains(shard, time, query, hash, hashes),
     )
 }
 
@@ -56,7 +56,7 @@ where
     K: Hash,
     S: BuildHasher + SameHashes,
     Q: Query<K>,
-    T: Shards<Shard<K, V, S>>,
+    T: Shards<DeadlineShard<K, V, S>>,
     F: FnOnce(&V) -> R,
     requires some { 0 < T.many shards.now }
     requires show { F.IsAlwaysCallable show }
@@ -67,7 +67,7 @@ where
     let home = home_of(shards.count(), hash);
     shards.look(
         home,
-        |shard: &Shard<K, V, S>| one::peek(shard, time, query, hash, hashes, show),
+        |shard: &DeadlineShard<K, V, S>| one::peek(shard, time, query, hash, hashes, show),
     )
 }
 
@@ -84,7 +84,7 @@ where
     V: Clone,
     S: BuildHasher + SameHashes,
     Q: Query<K>,
-    T: Shards<Shard<K, V, S>>,
+    T: Shards<DeadlineShard<K, V, S>>,
     requires { 0 < T.many shards.old }
     ensures acts { T.does shards.old (home (T.many shards.old) (key_hash S.BuildHasher S.Hasher.Hasher Q.hash_input hashes.now query))
         (λ before after. Gets Q.stands_for V.is_clone moment before query result after) shards.new }
@@ -94,7 +94,7 @@ where
     let home = home_of(shards.count(), hash);
     shards.on(
         home,
-        |shard: &mut Shard<K, V, S>| one::get(shard, moment, query, hash, hashes),
+        |shard: &mut DeadlineShard<K, V, S>| one::get(shard, moment, query, hash, hashes),
     )
 }
 
@@ -111,7 +111,7 @@ where
     K: Hash,
     S: BuildHasher + SameHashes,
     Q: Query<K>,
-    T: Shards<Shard<K, V, S>>,
+    T: Shards<DeadlineShard<K, V, S>>,
     F: FnOnce(&mut V, usize) -> R + Drop,
     requires some { 0 < T.many shards.old }
     requires show { F.IsAlwaysCallable show }
@@ -123,7 +123,7 @@ where
     let home = home_of(shards.count(), hash);
     shards.on(
         home,
-        |shard: &mut Shard<K, V, S>| one::lend(shard, moment, query, hash, hashes, show),
+        |shard: &mut DeadlineShard<K, V, S>| one::lend(shard, moment, query, hash, hashes, show),
     )
 }
 
@@ -142,7 +142,7 @@ where
     K: Hash + Drop,
     V: Drop,
     S: BuildHasher + SameHashes,
-    T: Shards<Shard<K, V, S>>,
+    T: Shards<DeadlineShard<K, V, S>>,
     F: FnMut(Gone<K, V>) + Drop,
     requires some { 0 < T.many shards.old }
     requires visit { (f : _) (x : _) → F.pre f x }
@@ -155,7 +155,7 @@ where
     shards.renew(
         home,
         hash,
-        |shard: &mut Shard<K, V, S>|
+        |shard: &mut DeadlineShard<K, V, S>|
             requires hash { hash ≡ key_hash S.BuildHasher S.Hasher.Hasher K.hash_input hashes.now key }
             requires visit { (f : _) (x : _) → F.pre f x }
             ensures { PutsIn (λ p x q. F.step p x tt q) visit K.eq moment shard.old key value weight result shard.new }
@@ -171,7 +171,7 @@ where
     V: Drop,
     S: BuildHasher + SameHashes,
     Q: Query<K>,
-    T: Shards<Shard<K, V, S>>,
+    T: Shards<DeadlineShard<K, V, S>>,
     requires { 0 < T.many shards.old }
     ensures acts { T.does shards.old (home (T.many shards.old) (key_hash S.BuildHasher S.Hasher.Hasher Q.hash_input hashes.now query))
         (λ before after. Takes Q.stands_for before query result after) shards.new }
@@ -182,7 +182,7 @@ where
     shards.renew(
         home,
         hash,
-        |shard: &mut Shard<K, V, S>| one::remove(shard, query, hash, hashes),
+        |shard: &mut DeadlineShard<K, V, S>| one::remove(shard, query, hash, hashes),
     )
 }
 
@@ -192,7 +192,7 @@ where
     K: Hash + Drop,
     V: Drop,
     S: BuildHasher,
-    T: Shards<Shard<K, V, S>>,
+    T: Shards<DeadlineShard<K, V, S>>,
     F: FnMut(Gone<K, V>) + Drop,
     requires shard { shard < T.many shards.old }
     requires visit { F.IsAlwaysCallable visit }
@@ -201,7 +201,7 @@ where
 {
     shards.on(
         shard,
-        |shard: &mut Shard<K, V, S>|
+        |shard: &mut DeadlineShard<K, V, S>|
             requires { F.IsAlwaysCallable visit }
             ensures { SweepsShard (λ p x q. F.step p x tt q) visit time most shard.old shard.new }
         { one::sweep(shard, time, most, visit) },
@@ -214,7 +214,7 @@ where
     K: Hash + Drop,
     V: Drop,
     S: BuildHasher,
-    T: Shards<Shard<K, V, S>>,
+    T: Shards<DeadlineShard<K, V, S>>,
     F: FnMut(Gone<K, V>) + Drop,
     requires shard { shard < T.many shards.old }
     requires visit { F.IsAlwaysCallable visit }
@@ -223,7 +223,7 @@ where
 {
     shards.on(
         shard,
-        |shard: &mut Shard<K, V, S>|
+        |shard: &mut DeadlineShard<K, V, S>|
             requires { F.IsAlwaysCallable visit }
             ensures { ClearsShard (λ p x q. F.step p x tt q) visit shard.old shard.new }
         { one::clear(shard, visit) },
@@ -243,7 +243,7 @@ where
     K: Hash + Drop,
     V: Drop,
     S: BuildHasher + SameHashes,
-    T: Shards<Shard<K, V, S>>,
+    T: Shards<DeadlineShard<K, V, S>>,
     F: FnMut(Gone<K, V>) + Drop,
     requires some { 0 < T.many shards.old }
     requires visit { F.IsAlwaysCallable visit }
@@ -256,7 +256,7 @@ where
     shards.renew(
         home,
         hash,
-        |shard: &mut Shard<K, V, S>|
+        |shard: &mut DeadlineShard<K, V, S>|
             requires hash { hash ≡ key_hash S.BuildHasher S.Hasher.Hasher K.hash_input hashes.now key }
             requires visit { F.IsAlwaysCallable visit }
             ensures { PutsCounted (λ p x q. F.step p x tt q) visit K.eq shard.old key until weight result shard.new }
@@ -270,7 +270,7 @@ where
     K: Hash + Drop,
     V: Drop,
     S: BuildHasher,
-    T: Shards<Shard<K, V, S>>,
+    T: Shards<DeadlineShard<K, V, S>>,
     F: FnMut(Gone<K, V>) + Drop,
     requires shard { shard < T.many shards.old }
     requires visit { F.IsAlwaysCallable visit }
@@ -279,7 +279,7 @@ where
 {
     shards.on(
         shard,
-        |shard: &mut Shard<K, V, S>|
+        |shard: &mut DeadlineShard<K, V, S>|
             requires { F.IsAlwaysCallable visit }
             ensures { DrainsShard (λ p x q. F.step p x tt q) visit shard.old shard.new }
         { one::drain(shard, visit) },
@@ -292,7 +292,7 @@ where
     K: Hash + Drop,
     V: Drop,
     S: BuildHasher,
-    T: Shards<Shard<K, V, S>>,
+    T: Shards<DeadlineShard<K, V, S>>,
     F: FnMut(Gone<K, V>) + Drop,
     requires shard { shard < T.many shards.old }
     requires visit { F.IsAlwaysCallable visit }
@@ -301,7 +301,7 @@ where
 {
     shards.on(
         shard,
-        |shard: &mut Shard<K, V, S>|
+        |shard: &mut DeadlineShard<K, V, S>|
             requires { F.IsAlwaysCallable visit }
             ensures { LimitsShard (λ p x q. F.step p x tt q) visit limits.weight limits.entries shard.old shard.new }
         { one::set_limits(shard, limits, visit) },
@@ -314,12 +314,15 @@ where
     K: Hash + Drop,
     V: Drop,
     S: BuildHasher,
-    T: Shards<Shard<K, V, S>>,
+    T: Shards<DeadlineShard<K, V, S>>,
     requires { shard < T.many shards.old }
     ensures acts { T.does shards.old shard (λ before after. PopsShard before result after) shards.new }
     ensures many { T.many shards.new ≡ T.many shards.old }
 {
-    shards.on(shard, |shard: &mut Shard<K, V, S>| one::pop_last(shard))
+    shards.on(
+        shard,
+        |shard: &mut DeadlineShard<K, V, S>| one::pop_last(shard),
+    )
 }
 
 // Lets those entries of a shard go for which a test answers false.
@@ -328,7 +331,7 @@ where
     K: Hash + Drop,
     V: Drop,
     S: BuildHasher,
-    T: Shards<Shard<K, V, S>>,
+    T: Shards<DeadlineShard<K, V, S>>,
     F: FnMut(&K, &Until<Aged<V>>, usize) -> bool + Drop,
     requires shard { shard < T.many shards.old }
     requires keep { F.IsAlwaysCallable keep }
@@ -337,7 +340,7 @@ where
 {
     shards.on(
         shard,
-        |shard: &mut Shard<K, V, S>|
+        |shard: &mut DeadlineShard<K, V, S>|
             requires { F.IsAlwaysCallable keep }
             ensures { RetainsShard (λ p k v w b q. F.step p k v w b q) keep shard.old shard.new }
         { one::retain(shard, keep) },
@@ -349,7 +352,7 @@ pub(crate) fn visit_each<K, V, S, T, F>(shards: &T, shard: usize, visit: F)
 where
     K: Hash,
     S: BuildHasher,
-    T: Shards<Shard<K, V, S>>,
+    T: Shards<DeadlineShard<K, V, S>>,
     F: FnMut((&K, &Until<Aged<V>>, usize)),
     requires shard { shard < T.many shards.now }
     requires visit { F.IsAlwaysCallable visit }
@@ -357,7 +360,7 @@ where
 {
     shards.look(
         shard,
-        |shard: &Shard<K, V, S>| one::visit_each(shard, visit),
+        |shard: &DeadlineShard<K, V, S>| one::visit_each(shard, visit),
     );
 }
 
@@ -366,11 +369,11 @@ pub(crate) fn shard_len<K, V, S, T>(shards: &T, shard: usize) -> usize
 where
     K: Hash,
     S: BuildHasher,
-    T: Shards<Shard<K, V, S>>,
+    T: Shards<DeadlineShard<K, V, S>>,
     requires { shard < T.many shards.now }
     ensures { T.sees shards.now shard (λ shard. result ≡ length shard.cache.entries) }
 {
-    shards.look(shard, |shard: &Shard<K, V, S>| shard.cache.len())
+    shards.look(shard, |shard: &DeadlineShard<K, V, S>| shard.cache.len())
 }
 
 // What the entries of a shard weigh together.
@@ -378,11 +381,11 @@ pub(crate) fn shard_weight<K, V, S, T>(shards: &T, shard: usize) -> usize
 where
     K: Hash,
     S: BuildHasher,
-    T: Shards<Shard<K, V, S>>,
+    T: Shards<DeadlineShard<K, V, S>>,
     requires { shard < T.many shards.now }
     ensures { T.sees shards.now shard (λ shard. result ≡ weight_of shard.cache.entries) }
 {
-    shards.look(shard, |shard: &Shard<K, V, S>| shard.cache.weight())
+    shards.look(shard, |shard: &DeadlineShard<K, V, S>| shard.cache.weight())
 }
 
 // Uses a key, and answers a clone of its value; or, where it has none, puts what `make` makes, under no lock, and answers a
@@ -400,7 +403,7 @@ where
     K: Hash + Drop,
     V: Clone + Drop,
     S: BuildHasher + SameHashes,
-    T: Shards<Shard<K, V, S>>,
+    T: Shards<DeadlineShard<K, V, S>>,
     E: Drop,
     M: FnOnce() -> Result<(V, usize), E> + Drop,
     F: FnMut(Gone<K, V>) + Drop,
@@ -434,7 +437,7 @@ where
     K: Hash,
     V: Clone + Drop,
     S: BuildHasher + SameHashes,
-    T: Shards<Shard<K, V, S>>,
+    T: Shards<DeadlineShard<K, V, S>>,
     requires home { home < T.many shards.old }
     requires hash { hash ≡ key_hash S.BuildHasher S.Hasher.Hasher K.hash_input hashes.now key.now }
     ensures found { IfOk result (λ found. T.does shards.old home (λ before after. Gets K.eq V.is_clone moment before key.now (Ok found) after) shards.new) }
@@ -445,8 +448,8 @@ where
     shards.begin(
         home,
         hash,
-        |shard: &Shard<K, V, S>| one::contains(shard, moment.time, key, hash, hashes),
-        |shard: &mut Shard<K, V, S>|
+        |shard: &DeadlineShard<K, V, S>| one::contains(shard, moment.time, key, hash, hashes),
+        |shard: &mut DeadlineShard<K, V, S>|
             requires { hash ≡ key_hash S.BuildHasher S.Hasher.Hasher K.hash_input hashes.now key.now }
             ensures { Gets K.eq V.is_clone moment shard.old key.entry.now result shard.new }
         { one::get(shard, moment, key, hash, hashes) },
@@ -470,7 +473,7 @@ where
     K: Hash + Drop,
     V: Clone + Drop,
     S: BuildHasher + SameHashes,
-    T: Shards<Shard<K, V, S>>,
+    T: Shards<DeadlineShard<K, V, S>>,
     E: Drop,
     F: FnMut(Gone<K, V>) + Drop,
     requires home { home < T.many shards.old }
@@ -493,7 +496,7 @@ where
     };
     let put = shards.finish(
         home,
-        |shard: &mut Shard<K, V, S>|
+        |shard: &mut DeadlineShard<K, V, S>|
             requires hash { hash ≡ key_hash S.BuildHasher S.Hasher.Hasher K.hash_input hashes.now key }
             requires visit { (f : _) (x : _) → F.pre f x }
             ensures { PutsMissing (λ p x q. F.step p x tt q) visit K.eq moment shard.old key value weight result shard.new }

@@ -5,21 +5,21 @@ ghost use Rattle.lru_rows.specs.Rows.{Updates};
 ghost use Rattle.lru_deadlines.specs.Deadlines.{living};
 ghost use Rattle.lru_shared_deadlines.specs.Ages.{kept_until};
 ghost use Rattle.lru_shared_deadlines.specs.Calls.{ShowsLiving, Lends, Gets, SweepsShard, MakesShardRoom, Places, PutsIn, PutsMissing, VisitsEach};
-ghost use Rattle.lru_shared.specs.Calls.{RetainsShard};
-ghost use Rattle.lru_shared.specs.Counting.{size_of, Takes, PopsShard, ClearsShard, DrainsShard, LimitsShard, PutsCounted};
+ghost use Rattle.lru_shared_cache.specs.Calls.{RetainsShard};
+ghost use Rattle.lru_shared_cache.specs.Counting.{size_of, Takes, PopsShard, ClearsShard, DrainsShard, LimitsShard, PutsCounted};
 
 use crate::ages::{Aged, Gone, Moment};
-use lru_cache::cache::Refused;
 use lru_deadlines::deadlines::{DeadlineCache, Until};
 use lru_index::alike::SameHashes;
 use lru_index::keys::Query;
-use lru_shared::counts::{Counted, Size, Why, weight_in};
-use lru_shared::limits::Limits;
+use lru_owned_cache::cache::Refused;
+use lru_shared_cache::counts::{Counted, Size, Why, weight_in};
+use lru_shared_cache::limits::Limits;
 use std::alloc::AllocError;
 use std::hash::{BuildHasher, Hash};
 
 // A shard: its entries, and what its calls met.
-pub(crate) type Shard<K, V, S> = Counted<DeadlineCache<K, Aged<V>, S>>;
+pub(crate) type DeadlineShard<K, V, S> = Counted<DeadlineCache<K, Aged<V>, S>>;
 
 // How many entries there are, and what they weigh together, with those that are past.
 #[inline(always)]
@@ -35,7 +35,7 @@ fn size<K: Hash, V, S: BuildHasher>(cache: &DeadlineCache<K, Aged<V>, S>) -> Siz
 // Whether what the query stands for has an entry in its time.
 #[inline(always)]
 pub(crate) fn contains<K: Hash, V, S: BuildHasher + SameHashes, Q: Query<K>>(
-    shard: &Shard<K, V, S>,
+    shard: &DeadlineShard<K, V, S>,
     time: u64,
     query: Q,
     hash: u64,
@@ -51,7 +51,7 @@ pub(crate) fn contains<K: Hash, V, S: BuildHasher + SameHashes, Q: Query<K>>(
 // Shows the value of what the query stands for, which is not used by that.
 #[inline(always)]
 pub(crate) fn peek<K, V, S, Q, R, F>(
-    shard: &Shard<K, V, S>,
+    shard: &DeadlineShard<K, V, S>,
     time: u64,
     query: Q,
     hash: u64,
@@ -88,7 +88,7 @@ where
 // Uses what the query stands for, and lends its value with its weight, which stays.
 #[inline(always)]
 pub(crate) fn lend<K, V, S, Q, R, F>(
-    shard: &mut Shard<K, V, S>,
+    shard: &mut DeadlineShard<K, V, S>,
     moment: Moment,
     query: Q,
     hash: u64,
@@ -121,7 +121,7 @@ where
 // Uses what the query stands for, and answers a clone of its value. Where there is no memory for one, it is used all the same.
 #[inline(always)]
 pub(crate) fn get<K, V, S, Q>(
-    shard: &mut Shard<K, V, S>,
+    shard: &mut DeadlineShard<K, V, S>,
     moment: Moment,
     query: Q,
     hash: u64,
@@ -150,7 +150,7 @@ where
 }
 
 // Takes out what is past of the last entries, where an entry of this weight has no room.
-fn make_room<K, V, S, F>(shard: &mut Shard<K, V, S>, time: u64, weight: usize, visit: F)
+fn make_room<K, V, S, F>(shard: &mut DeadlineShard<K, V, S>, time: u64, weight: usize, visit: F)
 where
     K: Hash + Drop,
     V: Drop,
@@ -167,7 +167,7 @@ where
 
 // Puts an entry first, and lets go what has to go for it then.
 fn place<K, V, S, F>(
-    shard: &mut Shard<K, V, S>,
+    shard: &mut DeadlineShard<K, V, S>,
     moment: Moment,
     key: K,
     value: V,
@@ -206,7 +206,7 @@ where
 // Puts an entry first. What has to go for it goes: first what is past, as far as it is looked for.
 #[inline(always)]
 pub(crate) fn put<K, V, S, F>(
-    shard: &mut Shard<K, V, S>,
+    shard: &mut DeadlineShard<K, V, S>,
     moment: Moment,
     key: K,
     value: V,
@@ -232,7 +232,7 @@ where
 // Puts what was made for a key that had no entry, unless it has one by now, which is newer: that one stays.
 #[inline(always)]
 pub(crate) fn put_missing<K, V, S, F>(
-    shard: &mut Shard<K, V, S>,
+    shard: &mut DeadlineShard<K, V, S>,
     moment: Moment,
     key: K,
     value: V,
@@ -276,7 +276,7 @@ where
 // Takes the entry out of what the query stands for.
 #[inline(always)]
 pub(crate) fn remove<K, V, S, Q>(
-    shard: &mut Shard<K, V, S>,
+    shard: &mut DeadlineShard<K, V, S>,
     query: Q,
     hash: u64,
     hashes: &S,
@@ -296,7 +296,12 @@ where
 }
 
 // Looks at so many of the entries that were used longest ago, and takes those out that are past their deadline.
-pub(crate) fn sweep<K, V, S, F>(shard: &mut Shard<K, V, S>, time: u64, most: usize, visit: F)
+pub(crate) fn sweep<K, V, S, F>(
+    shard: &mut DeadlineShard<K, V, S>,
+    time: u64,
+    most: usize,
+    visit: F,
+)
 where
     K: Hash + Drop,
     V: Drop,
@@ -312,7 +317,7 @@ where
 }
 
 // Lets all entries go.
-pub(crate) fn clear<K, V, S, F>(shard: &mut Shard<K, V, S>, visit: F)
+pub(crate) fn clear<K, V, S, F>(shard: &mut DeadlineShard<K, V, S>, visit: F)
 where
     K: Hash + Drop,
     V: Drop,
@@ -331,7 +336,7 @@ where
 // Puts an entry first as it stood, with its end and its deadline, and lets go what has to go for it.
 #[inline(always)]
 pub(crate) fn put_back<K, V, S, F>(
-    shard: &mut Shard<K, V, S>,
+    shard: &mut DeadlineShard<K, V, S>,
     key: K,
     until: Until<Aged<V>>,
     weight: usize,
@@ -364,7 +369,7 @@ where
 }
 
 // Lets all entries go, the first first.
-pub(crate) fn drain<K, V, S, F>(shard: &mut Shard<K, V, S>, visit: F)
+pub(crate) fn drain<K, V, S, F>(shard: &mut DeadlineShard<K, V, S>, visit: F)
 where
     K: Hash + Drop,
     V: Drop,
@@ -381,7 +386,7 @@ where
 }
 
 // Gives the shard other limits, and lets go what has to go for them.
-pub(crate) fn set_limits<K, V, S, F>(shard: &mut Shard<K, V, S>, limits: Limits, visit: F)
+pub(crate) fn set_limits<K, V, S, F>(shard: &mut DeadlineShard<K, V, S>, limits: Limits, visit: F)
 where
     K: Hash + Drop,
     V: Drop,
@@ -397,7 +402,7 @@ where
 }
 
 // Takes the last entry out.
-pub(crate) fn pop_last<K, V, S>(shard: &mut Shard<K, V, S>) -> Option<Gone<K, V>>
+pub(crate) fn pop_last<K, V, S>(shard: &mut DeadlineShard<K, V, S>) -> Option<Gone<K, V>>
 where
     K: Hash + Drop,
     V: Drop,
@@ -410,7 +415,7 @@ where
 }
 
 // Lets those entries go for which a test answers false.
-pub(crate) fn retain<K, V, S, F>(shard: &mut Shard<K, V, S>, keep: F)
+pub(crate) fn retain<K, V, S, F>(shard: &mut DeadlineShard<K, V, S>, keep: F)
 where
     K: Hash + Drop,
     V: Drop,
@@ -426,7 +431,7 @@ where
 }
 
 // Calls a closure with the key, the value with its deadline, and the weight of each entry, most recent first.
-pub(crate) fn visit_each<K, V, S, F>(shard: &Shard<K, V, S>, mut visit: F)
+pub(crate) fn visit_each<K, V, S, F>(shard: &DeadlineShard<K, V, S>, mut visit: F)
 where
     K: Hash,
     S: BuildHasher,

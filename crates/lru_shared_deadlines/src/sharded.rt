@@ -1,31 +1,31 @@
 //! A cache whose entries end, of one owner, in shards: what a shared one is behind its locks.
 ghost use Rattle.std.specs.Prelude.{◌≡◌, ◌+◌, ◌<◌, ◌/◌, ◌%◌, is_some, length, replicate, IfOk};
 ghost use Rattle.lru_index.specs.Hashing.{key_hash, seeded, unseeded};
-ghost use Rattle.lru_cache.specs.Cache.{hashes_from};
+ghost use Rattle.lru_owned_cache.specs.Cache.{hashes_from};
 ghost use Rattle.lru_deadlines.specs.Deadlines.{living};
-ghost use Rattle.lru_entries.specs.Entries.{weight_of};
-ghost use Rattle.lru_shared.specs.Shards.{home, Sees, Owns};
+ghost use Rattle.lru_owned_cache.specs.Entries.{weight_of};
+ghost use Rattle.lru_shared_cache.specs.Shards.{home, Sees, Owns};
 ghost use Rattle.lru_shared_deadlines.specs.Ages.{moment};
 ghost use Rattle.lru_shared_deadlines.specs.Calls.{ShowsLiving, Lends, Gets, SweepsShard, PutsIn, VisitsEach, GetsOrPuts};
-ghost use Rattle.lru_shared.specs.Counts.{total};
-ghost use Rattle.lru_shared.specs.Calls.{RetainsShard};
-ghost use Rattle.lru_shared.specs.Counting.{Takes, PopsShard, ClearsShard, DrainsShard, LimitsShard, PutsCounted};
-ghost use Rattle.lru_shared.specs.Sharded.{empty_shard};
+ghost use Rattle.lru_shared_cache.specs.Counts.{total};
+ghost use Rattle.lru_shared_cache.specs.Calls.{RetainsShard};
+ghost use Rattle.lru_shared_cache.specs.Counting.{Takes, PopsShard, ClearsShard, DrainsShard, LimitsShard, PutsCounted};
+ghost use Rattle.lru_shared_cache.specs.Sharded.{empty_shard};
 ghost use Rattle.lru_shared_deadlines.specs.Sharded.{empty_shards};
 
 use crate::ages::Moment;
 pub use crate::ages::{Aged, Ages, Gone};
 use crate::calls;
-use crate::one::Shard;
-use lru_cache::cache::Refused;
+use crate::one::DeadlineShard;
 use lru_deadlines::deadlines::{DeadlineCache, Until};
 use lru_index::alike::SameHashes;
 use lru_index::hashing::SeededHashes;
 use lru_index::keys::Query;
-use lru_shared::counts::{Counted, Counts, shard_stats, total};
-pub use lru_shared::limits::Limits;
-use lru_shared::shards::Owned;
-use lru_shared::shared::NotGot;
+use lru_owned_cache::cache::Refused;
+use lru_shared_cache::counts::{Counted, Counts, shard_stats, total};
+pub use lru_shared_cache::limits::Limits;
+use lru_shared_cache::shards::Owned;
+use lru_shared_cache::shared::NotGot;
 use std::alloc::{AllocError, Global};
 use std::fmt;
 use std::fmt::{Debug, Formatter};
@@ -75,7 +75,7 @@ pub(crate) fn empty_shards<K: Hash + Drop, V: Drop, S: BuildHasher + Copy + Drop
     limits: Limits,
     shards: usize,
     hash_builder: S,
-) -> Result<Vec<Shard<K, V, S>>, AllocError>
+) -> Result<Vec<DeadlineShard<K, V, S>>, AllocError>
     requires { 0 < shards }
     ensures { IfOk result (λ made. made.items ≡ replicate shards (empty_shard hash_builder (limits.weight / shards) (limits.entries / shards))) }
 {

@@ -1,43 +1,67 @@
 //! A cache that threads share, whose entries end.
-ghost use Rattle.std.specs.Prelude.{◌≡◌, ◌<◌, length, vec_len, IfErr, IfSome};
-ghost use Rattle.lru_shared.specs.Answers.{HandsBack, MayShow};
+ghost use Rattle.std.specs.Prelude.{◌≡◌, ◌-◌, ◌<◌, ◌^◌, min, sum_by, length, vec_len, is_some, IfOk, IfErr, IfSome};
+ghost use Rattle.lru_index.specs.Hashing.{seeded, unseeded};
+ghost use Rattle.lru_owned_cache.specs.Cache.{IsCache, hashes_from};
+ghost use Rattle.lru_owned_cache.specs.Entries.{weight_of};
+ghost use Rattle.lru_deadlines.specs.Deadlines.{living};
+ghost use Rattle.lru_shared_deadlines.specs.Sharded.{setting};
+ghost use Rattle.lru_shared_cache.specs.Answers.{HandsBack, MayShow};
+ghost use Rattle.lru_shared_cache.specs.Counts.{total};
 ghost use Rattle.lru_shared_deadlines.specs.Ages.{moment};
-ghost use Rattle.lru_shared_deadlines.specs.Calls.{Lends, Gets, SweepsShard, PutsIn};
-ghost use Rattle.lru_shared.specs.Calls.{RetainsShard};
-ghost use Rattle.lru_shared.specs.Counting.{Takes, PopsShard, ClearsShard, DrainsShard, LimitsShard, PutsCounted};
-ghost use Rattle.lru_shared_deadlines.specs.Answers.{MayAct, MayChange, MayGetOrPut, MayPutBack};
+ghost use Rattle.lru_shared_deadlines.specs.Calls.{VisitsEach, Lends, Gets, SweepsShard, PutsIn};
+ghost use Rattle.lru_shared_cache.specs.Calls.{RetainsShard};
+ghost use Rattle.lru_shared_cache.specs.Counting.{Takes, PopsShard, ClearsShard, DrainsShard, LimitsShard, PutsCounted};
+ghost use Rattle.lru_shared_deadlines.specs.Answers.{MayBe, MayBeAll, MayAct, MayChange, MayGetOrPut, MayPutBack};
 
 use crate::ages::Moment;
 pub use crate::ages::{Aged, Ages, Gone};
 use crate::calls;
-use crate::one::Shard;
+use crate::one::DeadlineShard;
 use crate::sharded::empty_shards;
 use crossbeam_utils::CachePadded;
-use lru_cache::cache::Refused;
 use lru_deadlines::deadlines::{DeadlineCache, Until};
 use lru_index::alike::SameHashes;
 use lru_index::hashing::SeededHashes;
 use lru_index::keys::Query;
-use lru_shared::counts::{Counted, Counts, shard_stats};
-pub use lru_shared::limits::Limits;
-use lru_shared::locked::{Held, Locked, behind_locks};
-pub use lru_shared::shared::NotGot;
+use lru_owned_cache::cache::Refused;
+use lru_shared_cache::counts::{Counted, Counts, shard_stats};
+pub use lru_shared_cache::limits::Limits;
+use lru_shared_cache::locked::{Held, Locked, behind_locks};
+pub use lru_shared_cache::shared::NotGot;
 use std::alloc::{AllocError, Global};
 use std::fmt;
 use std::fmt::{Debug, Formatter};
 use std::hash::{BuildHasher, Hash};
+use std::marker::Model;
 use std::sync::Wait;
 use std::sync::atomic::{AtomicUsize, Ordering};
 
 /// A shard under its lock, which is held as long as this is there.
 #[derive(Drop)]
-pub struct LockedShard<'a, K: Hash, V, S: BuildHasher> {
+pub struct LockedDeadlineShard<'a, K: Hash, V, S: BuildHasher> {
     held: Held<'a, Counted<DeadlineCache<K, Aged<V>, S>>>,
 }
 
-impl<'a, K: Hash, V, S: BuildHasher> LockedShard<'a, K, V, S> {
+impl<'a, K: Hash, V, S: BuildHasher> Model for LockedDeadlineShard<'a, K, V, S> {
+    ghost use Rattle.lru_owned_cache.specs.Cache.{Cached, cached_code};
+    ghost use Rattle.lru_deadlines.specs.Codes.{until_code};
+    ghost use Rattle.lru_deadlines.specs.declared.deadlines.Until.{Until};
+    ghost use Rattle.lru_shared_deadlines.specs.Codes.{aged_code};
+    ghost use Rattle.lru_shared_deadlines.specs.declared.ages.Aged.{Aged};
+
+    // the entries behind the lock
+    ghost Value = { Cached K (Until (Aged V)) S };
+
+    ghost coded = { cached_code K.code (until_code (aged_code V.code)) S.code };
+
+    ghost view = { λ locked. locked.held.cache };
+}
+
+impl<'a, K: Hash, V, S: BuildHasher> LockedDeadlineShard<'a, K, V, S> {
     /// The entries of the shard, as they are while the lock is held, also those that are past.
-    pub fn cache(&self) -> &DeadlineCache<K, Aged<V>, S> {
+    pub fn cache(&self) -> &DeadlineCache<K, Aged<V>, S>
+        ensures { result.now ≡ self.now }
+    {
         &self.held.cache().cache
     }
 }
@@ -57,12 +81,25 @@ impl<'a, K: Hash, V, S: BuildHasher> LockedShard<'a, K, V, S> {
 /// `get_or_put_with` makes is made under no lock.
 #[derive(Drop)]
 pub struct SharedDeadlineCache<K: Hash, V, const N: usize, S: BuildHasher = SeededHashes> {
-    shards: Vec<CachePadded<lru_shared::locked::Shard<Counted<DeadlineCache<K, Aged<V>, S>>>>>,
+    shards: Vec<
+        CachePadded<lru_shared_cache::locked::Shard<Counted<DeadlineCache<K, Aged<V>, S>>>>,
+    >,
     hash_builder: S,
     ages: Ages,
     turn: AtomicUsize,
-    ghost some: { 0 < N },
-    ghost has_shards: { vec_len shards ≡ N },
+}
+
+impl<K: Hash, V, const N: usize, S: BuildHasher> Model for SharedDeadlineCache<K, V, N, S> {
+    ghost use Rattle.lru_shared_deadlines.specs.Sharded.{Setting, setting, setting_code};
+
+    // what lies behind the locks is known nowhere
+    ghost Value = { Setting S };
+
+    ghost coded = { setting_code S.code };
+
+    ghost view = { λ c. setting c.hash_builder c.ages };
+
+    ghost invariant = { λ c. (0 < N) × (vec_len c.shards ≡ N) };
 }
 
 /// Tells how many shards there are, and how long entries are answered. What the shards have is read under their locks, so it is
@@ -85,6 +122,7 @@ impl<K: Hash + Drop, V: Drop, const N: usize> SharedDeadlineCache<K, V, N, Seede
     /// There is no memory.
     pub fn new(alloc: Global, limits: Limits, ages: Ages) -> Result<Self, AllocError>
         requires { 0 < N }
+        ensures { IfOk result (λ cache. cache ≡ setting (hashes_from unseeded) ages) }
     {
         SharedDeadlineCache::with_hasher(alloc, limits, ages, SeededHashes::fixed())
     }
@@ -102,6 +140,7 @@ impl<K: Hash + Drop, V: Drop, const N: usize> SharedDeadlineCache<K, V, N, Seede
         seed: u64,
     ) -> Result<Self, AllocError>
         requires { 0 < N }
+        ensures { IfOk result (λ cache. cache ≡ setting (hashes_from (seeded seed)) ages) }
     {
         let hash_builder = SeededHashes::with_seed(seed);
         SharedDeadlineCache::with_hasher(alloc, limits, ages, hash_builder)
@@ -126,6 +165,7 @@ impl<K: Hash + Drop, V: Drop, const N: usize, S: BuildHasher + Copy + Drop> Shar
         hash_builder: S,
     ) -> Result<Self, AllocError>
         requires { 0 < N }
+        ensures { IfOk result (λ cache. cache ≡ setting hash_builder ages) }
     {
         let shards = empty_shards(alloc, limits, N, hash_builder)?;
         Ok(SharedDeadlineCache {
@@ -147,7 +187,9 @@ impl<K: Hash, V, const N: usize, S: BuildHasher> SharedDeadlineCache<K, V, N, S>
     }
 
     /// How long entries are answered.
-    pub fn ages(&self) -> Ages {
+    pub fn ages(&self) -> Ages
+        ensures { result ≡ self.now.ages }
+    {
         self.ages
     }
 
@@ -161,7 +203,7 @@ impl<K: Hash, V, const N: usize, S: BuildHasher> SharedDeadlineCache<K, V, N, S>
 
     // The shards behind their locks, for which a call waits.
     #[inline(always)]
-    fn locked<'a, W: Wait>(&'a self, rt: &'a W) -> Locked<'a, Shard<K, V, S>, W, N>
+    fn locked<'a, W: Wait>(&'a self, rt: &'a W) -> Locked<'a, DeadlineShard<K, V, S>, W, N>
         ensures some { 0 < N }
         ensures many { length result.shards.now ≡ N }
     {
@@ -170,7 +212,9 @@ impl<K: Hash, V, const N: usize, S: BuildHasher> SharedDeadlineCache<K, V, N, S>
 
     /// How many entries there are, with those that are past: the sum over the shards, each read under its lock, one after
     /// another.
-    pub fn len(&self, rt: &impl Wait) -> usize {
+    pub fn len(&self, rt: &impl Wait) -> usize
+        ensures { MayBeAll K V S N (λ shards. result ≡ min (sum_by (λ shard. length shard.cache.entries) shards) (2 ^ 64 - 1)) }
+    {
         let mut len = 0usize;
         for shard in 0..N {
             len = len.saturating_add(calls::shard_len(&self.locked(rt), shard));
@@ -180,7 +224,9 @@ impl<K: Hash, V, const N: usize, S: BuildHasher> SharedDeadlineCache<K, V, N, S>
 
     /// What the entries weigh together, with those that are past: the sum over the shards, each read under its lock, one after
     /// another.
-    pub fn weight(&self, rt: &impl Wait) -> usize {
+    pub fn weight(&self, rt: &impl Wait) -> usize
+        ensures { MayBeAll K V S N (λ shards. result ≡ min (sum_by (λ shard. weight_of shard.cache.entries) shards) (2 ^ 64 - 1)) }
+    {
         let mut weight = 0usize;
         for shard in 0..N {
             weight = weight.saturating_add(calls::shard_weight(&self.locked(rt), shard));
@@ -189,7 +235,9 @@ impl<K: Hash, V, const N: usize, S: BuildHasher> SharedDeadlineCache<K, V, N, S>
     }
 
     /// What the calls met, since the cache was made: the sum over the shards, each read under its lock, one after another.
-    pub fn stats(&self, rt: &impl Wait) -> Counts {
+    pub fn stats(&self, rt: &impl Wait) -> Counts
+        ensures { MayBeAll K V S N (λ shards. result ≡ total shards) }
+    {
         let mut stats = Counts::none();
         for shard in 0..N {
             stats = stats.plus(shard_stats(&self.locked(rt), shard));
@@ -207,23 +255,29 @@ impl<K: Hash, V, const N: usize, S: BuildHasher> SharedDeadlineCache<K, V, N, S>
     )
         requires shard { shard < N }
         requires visit { F.IsAlwaysCallable visit }
+        ensures { MayBe K V S (λ shard. VisitsEach (λ p x q. F.step p x tt q) visit shard.cache.entries) }
     {
         calls::visit_each(&self.locked(rt), shard, visit);
     }
 
     /// Takes the lock of a shard, and holds it as long as what it answers is there. Meanwhile a call that waits for the same
     /// shard has to come from another thread.
-    pub fn lock_shard(&self, rt: &impl Wait, shard: usize) -> LockedShard<'_, K, V, S>
+    pub fn lock_shard(&self, rt: &impl Wait, shard: usize) -> LockedDeadlineShard<'_, K, V, S>
         requires { shard < N }
+        ensures { IsCache K.eq result }
     {
-        LockedShard {
+        let locked = LockedDeadlineShard {
             held: self.shards[shard].lock(rt),
-        }
+        };
+        // Read for the proof alone, which learns from it what the type says of itself.
+        let _len = locked.cache().len();
+        locked
     }
 
     /// How many entries a shard has, with those that are past, read under its lock.
     pub fn shard_len(&self, rt: &impl Wait, shard: usize) -> usize
         requires { shard < N }
+        ensures { MayBe K V S (λ shard. result ≡ length shard.cache.entries) }
     {
         calls::shard_len(&self.locked(rt), shard)
     }
@@ -232,7 +286,9 @@ impl<K: Hash, V, const N: usize, S: BuildHasher> SharedDeadlineCache<K, V, N, S>
 impl<K: Hash, V, const N: usize, S: BuildHasher + SameHashes> SharedDeadlineCache<K, V, N, S> {
     /// Whether a key has an entry in its time, or what stands for the key: a reference to it, or a `&str` where keys are
     /// texts.
-    pub fn contains<Q: Query<K>>(&self, rt: &impl Wait, time: u64, query: Q) -> bool {
+    pub fn contains<Q: Query<K>>(&self, rt: &impl Wait, time: u64, query: Q) -> bool
+        ensures { MayBe K V S (λ shard. result ≡ is_some (living Q.stands_for time shard.cache.entries query)) }
+    {
         calls::contains(&self.locked(rt), &self.hash_builder, time, query)
     }
 
@@ -265,7 +321,7 @@ impl<K: Hash, V, const N: usize, S: BuildHasher + SameHashes> SharedDeadlineCach
     ) -> Result<Option<V>, AllocError>
     where
         V: Clone,
-        ensures { MayAct K V S time (λ m before after. Gets Q.stands_for V.is_clone m before query result after) }
+        ensures { MayAct K V S self.now.ages time (λ m before after. Gets Q.stands_for V.is_clone m before query result after) }
     {
         let moment = self.at(time);
         calls::get(&mut self.locked(rt), &self.hash_builder, moment, query)
@@ -281,7 +337,7 @@ impl<K: Hash, V, const N: usize, S: BuildHasher + SameHashes> SharedDeadlineCach
         show: F,
     ) -> Option<R>
         requires { F.IsAlwaysCallable show }
-        ensures { MayAct K V S time (λ m before after. Lends Q.stands_for (F.post show) m before query result after) }
+        ensures { MayAct K V S self.now.ages time (λ m before after. Lends Q.stands_for (F.post show) m before query result after) }
     {
         let moment = self.at(time);
         calls::lend(
@@ -321,7 +377,7 @@ impl<K: Hash + Drop, V: Drop, const N: usize, S: BuildHasher + SameHashes> Share
         visit: F,
     ) -> Result<Option<Gone<K, V>>, Refused<K, V>>
         requires visit { (f : _) (x : _) → F.pre f x }
-        ensures { MayAct K V S time (λ m before after. PutsIn (λ p x q. F.step p x tt q) visit K.eq m before key value weight result after) }
+        ensures { MayAct K V S self.now.ages time (λ m before after. PutsIn (λ p x q. F.step p x tt q) visit K.eq m before key value weight result after) }
     {
         let moment = self.at(time);
         calls::put(
@@ -399,7 +455,7 @@ impl<K: Hash + Drop, V: Drop, const N: usize, S: BuildHasher + SameHashes> Share
         F: FnMut(Gone<K, V>) + Drop,
         requires make { M.IsAlwaysCallable make }
         requires visit { (f : _) (x : _) → F.pre f x }
-        ensures gets { MayGetOrPut S K.eq V.is_clone (M.post make) (λ p x q. F.step p x tt q) visit time key result }
+        ensures gets { MayGetOrPut S K.eq V.is_clone (M.post make) (λ p x q. F.step p x tt q) visit self.now.ages time key result }
         ensures refused { IfErr result (HandsBack (M.post make) key) }
     {
         let moment = self.at(time);

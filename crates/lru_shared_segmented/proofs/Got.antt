@@ -3,13 +3,13 @@ use Rattle.std.proofs.Common.{◌≡◌, ℕ, ◌∙◌, Some, None, Ok, Err, sy
 use Rattle.std.specs.Prelude.{Bool, Option, Result, IfOk, IfErr, is_some}
 use Rattle.std.specs.Borrow.{MutBor}
 use Rattle.std.specs.declared.alloc.AllocError.{AllocError}
-use Rattle.lru_entries.specs.declared.entry.Entry.{Entry}
-use Rattle.lru_entries.specs.Entries.{entry}
-use Rattle.lru_cache.specs.declared.cache.Refused.{Refused}
-use Rattle.lru_cache.specs.Cache.{entry_of}
+use Rattle.lru_owned_cache.specs.declared.entry.Entry.{Entry}
+use Rattle.lru_owned_cache.specs.Entries.{entry}
+use Rattle.lru_owned_cache.specs.declared.cache.Refused.{Refused}
+use Rattle.lru_owned_cache.specs.Cache.{entry_of}
 use Rattle.lru_segmented.specs.Segmented.{entries, Uses, Raises}
-use Rattle.lru_shared.specs.Calls.{IsCloned}
-use Rattle.lru_shared.specs.Counts.{looked}
+use Rattle.lru_shared_cache.specs.Calls.{IsCloned}
+use Rattle.lru_shared_cache.specs.Counts.{looked}
 use Rattle.lru_shared_segmented.specs.Calls.{ShardOf, Lends, Gets, PutsCounted}
 
 -- a clone is answered as one of an entry

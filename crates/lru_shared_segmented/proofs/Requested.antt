@@ -4,17 +4,17 @@ use Rattle.std.specs.Prelude.{Option, Bool, Result, All, map, is_some, slice_ind
 use Rattle.std.proofs.lemmas.Bool.{false≢true, eqb-false}
 use Rattle.std.proofs.lemmas.List.{get_or-set_same, get_or-set_other, get_or_default}
 use Rattle.std.proofs.lemmas.List.Elements.{All-head, All-tail}
-use Rattle.lru_entries.specs.declared.entry.Entry.{Entry}
-use Rattle.lru_entries.specs.Entries.{weight_of}
-use Rattle.lru_cache.specs.declared.cache.Refused.{Refused}
-use Rattle.lru_cache.specs.Cache.{entry_of}
+use Rattle.lru_owned_cache.specs.declared.entry.Entry.{Entry}
+use Rattle.lru_owned_cache.specs.Entries.{weight_of}
+use Rattle.lru_owned_cache.specs.declared.cache.Refused.{Refused}
+use Rattle.lru_owned_cache.specs.Cache.{entry_of}
 use Rattle.lru_segmented.specs.Segmented.{Segmented, entries, Uses}
 use Rattle.lru_segmented.specs.Scans.{FitsBeside}
 use Rattle.lru_segmented.proofs.Walked.{Stays, stays_same, stays_on, any_stays}
-use Rattle.lru_shared.specs.declared.calls.NotGot.{NotGot}
-use Rattle.lru_shared.specs.declared.calls.NotGot.TheVariants.{Memory, Unmade, Refused as Unput}
-use Rattle.lru_shared.specs.Calls.{IsCloned}
-use Rattle.lru_shared.specs.Shards.{Sees, Owns}
+use Rattle.lru_shared_cache.specs.declared.calls.NotGot.{NotGot}
+use Rattle.lru_shared_cache.specs.declared.calls.NotGot.TheVariants.{Memory, Unmade, Refused as Unput}
+use Rattle.lru_shared_cache.specs.Calls.{IsCloned}
+use Rattle.lru_shared_cache.specs.Shards.{Sees, Owns}
 use Rattle.lru_shared_segmented.specs.Calls.{ShardOf, Gets}
 use Rattle.lru_shared_segmented.specs.Making.{PutsMissing, RefusesMade, EndsMaking, Answers, GetsOrPuts}
 use Rattle.lru_shared_segmented.specs.Walks.{RequestsShards, MadeFitsInShard, upper_of}

@@ -4,9 +4,9 @@ use Rattle.std.specs.Prelude.{Option, Bool, Result, All, map, filter, suc, slice
 use Rattle.std.proofs.lemmas.Bool.{eqb-false}
 use Rattle.std.proofs.lemmas.List.{get_or-set_same, get_or-set_other, get_or_default}
 use Rattle.std.proofs.lemmas.List.Elements.{All-head, All-tail, All-cons, All-nil}
-use Rattle.lru_entries.specs.declared.entry.Entry.{Entry}
-use Rattle.lru_cache.specs.declared.cache.Refused.{Refused}
-use Rattle.lru_cache.specs.Cache.{entry_of}
+use Rattle.lru_owned_cache.specs.declared.entry.Entry.{Entry}
+use Rattle.lru_owned_cache.specs.declared.cache.Refused.{Refused}
+use Rattle.lru_owned_cache.specs.Cache.{entry_of}
 use Rattle.lru_segmented.specs.Segmented.{entries, Puts}
 use Rattle.lru_segmented.specs.Scans.{Call, Look, Put, Walks, CallFits, FitsBeside}
 use Rattle.lru_segmented.proofs.Walked.{no_scan, end_only}

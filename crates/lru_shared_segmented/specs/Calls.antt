@@ -3,17 +3,17 @@ use Rattle.std.specs.Prelude.{◌≡◌, ℕ, Bool, length, Option, Result, Ok, 
 use Rattle.std.specs.Option.{option_map}
 use Rattle.std.specs.Borrow.{MutBor}
 use Rattle.std.specs.declared.alloc.AllocError.{AllocError}
-use Rattle.lru_entries.specs.declared.entry.Entry.{Entry}
-use Rattle.lru_entries.specs.Entries.{weight_of}
-use Rattle.lru_cache.specs.declared.cache.Refused.{Refused}
-use Rattle.lru_cache.specs.Cache.{entry_of}
+use Rattle.lru_owned_cache.specs.declared.entry.Entry.{Entry}
+use Rattle.lru_owned_cache.specs.Entries.{weight_of}
+use Rattle.lru_owned_cache.specs.declared.cache.Refused.{Refused}
+use Rattle.lru_owned_cache.specs.Cache.{entry_of}
 use Rattle.lru_segmented.specs.Segmented.{Segmented, entries, plain, removed, LetsGo, Limits, PopsLast, Uses, UpdatesEntry, Puts}
-use Rattle.lru_shared.specs.declared.counts.Counted.{Counted}
-use Rattle.lru_shared.specs.declared.counts.Size.{Size}
-use Rattle.lru_shared.specs.declared.counts.Why.TheVariants.{ForRoom, Cleared}
-use Rattle.lru_shared.specs.Counts.{left_by, fewer, looked, put_counted, refused}
-use Rattle.lru_shared.specs.Counting.{size_of, taken_out}
-use Rattle.lru_shared.specs.Calls.{IsCloned}
+use Rattle.lru_shared_cache.specs.declared.counts.Counted.{Counted}
+use Rattle.lru_shared_cache.specs.declared.counts.Size.{Size}
+use Rattle.lru_shared_cache.specs.declared.counts.Why.TheVariants.{ForRoom, Cleared}
+use Rattle.lru_shared_cache.specs.Counts.{left_by, fewer, looked, put_counted, refused}
+use Rattle.lru_shared_cache.specs.Counting.{size_of, taken_out}
+use Rattle.lru_shared_cache.specs.Calls.{IsCloned}
 
 -- a shard: its entries in their segments, and what its calls met
 abbrev pub ShardOf : Type 0 → Type 0 → Type 0 → Type 0

@@ -1,13 +1,13 @@
 -- A value that is made where its key has none, and is put over nothing newer.
 use Rattle.std.specs.Prelude.{◌≡◌, ℕ, ◌⊎◌, Bool, true, false, Option, Some, None, Result, Ok, Err, is_some}
 use Rattle.std.specs.declared.alloc.AllocError.{AllocError}
-use Rattle.lru_entries.specs.declared.entry.Entry.{Entry}
-use Rattle.lru_cache.specs.declared.cache.Refused.{Refused}
-use Rattle.lru_cache.specs.declared.cache.Cause.TheVariants.{Memory as NoMemory}
-use Rattle.lru_cache.specs.Cache.{entry_of}
+use Rattle.lru_owned_cache.specs.declared.entry.Entry.{Entry}
+use Rattle.lru_owned_cache.specs.declared.cache.Refused.{Refused}
+use Rattle.lru_owned_cache.specs.declared.cache.Cause.TheVariants.{Memory as NoMemory}
+use Rattle.lru_owned_cache.specs.Cache.{entry_of}
 use Rattle.lru_segmented.specs.Segmented.{entries}
-use Rattle.lru_shared.specs.declared.calls.NotGot.{NotGot}
-use Rattle.lru_shared.specs.declared.calls.NotGot.TheVariants.{Memory, Unmade, Refused as Unput}
+use Rattle.lru_shared_cache.specs.declared.calls.NotGot.{NotGot}
+use Rattle.lru_shared_cache.specs.declared.calls.NotGot.TheVariants.{Memory, Unmade, Refused as Unput}
 use Rattle.lru_shared_segmented.specs.Calls.{ShardOf, Gets, PutsCounted}
 
 -- an entry is put of a key that had none, unless it has one by now, which is newer, and stays

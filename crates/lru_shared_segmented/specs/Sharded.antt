@@ -2,8 +2,8 @@
 use Rattle.std.specs.Prelude.{ℕ, List, replicate, refl}
 use Rattle.std.specs.Coded.{Coded, code_by, coded×, coded_list}
 use Rattle.lru_segmented.specs.Segmented.{segmented_code, empty}
-use Rattle.lru_shared.specs.Counts.{no_counts}
-use Rattle.lru_shared.specs.CountCodes.{counted_code}
+use Rattle.lru_shared_cache.specs.Counts.{no_counts}
+use Rattle.lru_shared_cache.specs.CountCodes.{counted_code}
 use Rattle.lru_shared_segmented.specs.Calls.{ShardOf}
 
 -- the shards by their numbers, and what makes the hashes that tell them

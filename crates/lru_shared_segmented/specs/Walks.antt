@@ -1,12 +1,12 @@
 -- What a walk over keys that are asked for once does to the shards of a cache.
 use Rattle.std.specs.Prelude.{◌≡◌, ℕ, ◌<◌, ◌==◌, Bool, false, List, [], ◌∷◌, ◌++◌, length, map, filter, All, Option, None, Result, Ok, slice_index_or}
-use Rattle.lru_entries.specs.declared.entry.Entry.{Entry}
-use Rattle.lru_cache.specs.declared.cache.Refused.{Refused}
-use Rattle.lru_cache.specs.Cache.{entry_of}
+use Rattle.lru_owned_cache.specs.declared.entry.Entry.{Entry}
+use Rattle.lru_owned_cache.specs.declared.cache.Refused.{Refused}
+use Rattle.lru_owned_cache.specs.Cache.{entry_of}
 use Rattle.lru_segmented.specs.Segmented.{entries}
 use Rattle.lru_segmented.specs.Scans.{Call, Look, Put, Walks, FitsBeside}
-use Rattle.lru_shared.specs.Shards.{Sees, Owns}
-use Rattle.lru_shared.specs.declared.calls.NotGot.{NotGot}
+use Rattle.lru_shared_cache.specs.Shards.{Sees, Owns}
+use Rattle.lru_shared_cache.specs.declared.calls.NotGot.{NotGot}
 use Rattle.lru_shared_segmented.specs.Calls.{ShardOf, PutsCounted}
 use Rattle.lru_shared_segmented.specs.Making.{GetsOrPuts}
 

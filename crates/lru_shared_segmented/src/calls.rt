@@ -1,23 +1,23 @@
 //! The calls on keys and values that stand in shards, written once: of shards of one owner and of shards behind locks.
 ghost use Rattle.std.specs.Prelude.{◌≡◌, ◌<◌, ◌⊎◌, Ok, Err, None, is_some, length, IfOk, IfErr};
 ghost use Rattle.lru_index.specs.Hashing.{key_hash};
-ghost use Rattle.lru_cache.specs.Cache.{entry_of};
-ghost use Rattle.lru_entries.specs.Entries.{weight_of};
+ghost use Rattle.lru_owned_cache.specs.Cache.{entry_of};
+ghost use Rattle.lru_owned_cache.specs.Entries.{weight_of};
 ghost use Rattle.lru_segmented.specs.Segmented.{entries};
-ghost use Rattle.lru_shared.specs.Shards.{home};
-ghost use Rattle.lru_shared.specs.Calls.{ShowsEntry, VisitsEach};
+ghost use Rattle.lru_shared_cache.specs.Shards.{home};
+ghost use Rattle.lru_shared_cache.specs.Calls.{ShowsEntry, VisitsEach};
 ghost use Rattle.lru_shared_segmented.specs.Calls.{Gets, Lends, Takes, PopsShard, ClearsShard, LimitsShard, PutsCounted};
 ghost use Rattle.lru_shared_segmented.specs.Making.{PutsMissing, GetsOrPuts, EndsMaking};
 
 use crate::one;
-use crate::one::Shard;
-use lru_cache::cache::{Cause, Entry, Refused};
+use crate::one::SegmentedShard;
 use lru_index::alike::SameHashes;
 use lru_index::hashing::hash_of;
 use lru_index::keys::Query;
-use lru_shared::limits::Limits;
-use lru_shared::shards::{Shards, give_up, home_of};
-use lru_shared::shared::NotGot;
+use lru_owned_cache::cache::{Cause, Entry, Refused};
+use lru_shared_cache::limits::Limits;
+use lru_shared_cache::shards::{Shards, give_up, home_of};
+use lru_shared_cache::shared::NotGot;
 use std::alloc::AllocError;
 use std::hash::{BuildHasher, Hash};
 
@@ -28,7 +28,7 @@ where
     K: Hash,
     S: BuildHasher + SameHashes,
     Q: Query<K>,
-    T: Shards<Shard<K, V, S>>,
+    T: Shards<SegmentedShard<K, V, S>>,
     requires { 0 < T.many shards.now }
     ensures { T.sees shards.now (home (T.many shards.now) (key_hash S.BuildHasher S.Hasher.Hasher Q.hash_input hashes.now query))
         (λ shard. result ≡ is_some (entry_of Q.stands_for (entries shard.cache) query)) }
@@ -37,7 +37,7 @@ where
     let home = home_of(shards.count(), hash);
     shards.look(
         home,
-        |shard: &Shard<K, V, S>| one::contains(shard, query, hash, hashes),
+        |shard: &SegmentedShard<K, V, S>| one::contains(shard, query, hash, hashes),
     )
 }
 
@@ -48,7 +48,7 @@ where
     K: Hash,
     S: BuildHasher + SameHashes,
     Q: Query<K>,
-    T: Shards<Shard<K, V, S>>,
+    T: Shards<SegmentedShard<K, V, S>>,
     F: FnOnce(&V) -> R,
     requires some { 0 < T.many shards.now }
     requires show { F.IsAlwaysCallable show }
@@ -59,7 +59,7 @@ where
     let home = home_of(shards.count(), hash);
     shards.look(
         home,
-        |shard: &Shard<K, V, S>| one::peek(shard, query, hash, hashes, show),
+        |shard: &SegmentedShard<K, V, S>| one::peek(shard, query, hash, hashes, show),
     )
 }
 
@@ -75,7 +75,7 @@ where
     V: Clone,
     S: BuildHasher + SameHashes,
     Q: Query<K>,
-    T: Shards<Shard<K, V, S>>,
+    T: Shards<SegmentedShard<K, V, S>>,
     requires { 0 < T.many shards.old }
     ensures acts { T.does shards.old (home (T.many shards.old) (key_hash S.BuildHasher S.Hasher.Hasher Q.hash_input hashes.now query))
         (λ before after. Gets Q.stands_for V.is_clone before query result after) shards.new }
@@ -85,7 +85,7 @@ where
     let number = home_of(shards.count(), hash);
     shards.on(
         number,
-        |shard: &mut Shard<K, V, S>| one::get(shard, query, hash, hashes),
+        |shard: &mut SegmentedShard<K, V, S>| one::get(shard, query, hash, hashes),
     )
 }
 
@@ -96,7 +96,7 @@ where
     K: Hash,
     S: BuildHasher + SameHashes,
     Q: Query<K>,
-    T: Shards<Shard<K, V, S>>,
+    T: Shards<SegmentedShard<K, V, S>>,
     F: FnOnce(&mut V, usize) -> R + Drop,
     requires some { 0 < T.many shards.old }
     requires show { F.IsAlwaysCallable show }
@@ -108,7 +108,7 @@ where
     let home = home_of(shards.count(), hash);
     shards.on(
         home,
-        |shard: &mut Shard<K, V, S>| one::lend(shard, query, hash, hashes, show),
+        |shard: &mut SegmentedShard<K, V, S>| one::lend(shard, query, hash, hashes, show),
     )
 }
 
@@ -126,7 +126,7 @@ where
     K: Hash + Drop,
     V: Drop,
     S: BuildHasher + SameHashes,
-    T: Shards<Shard<K, V, S>>,
+    T: Shards<SegmentedShard<K, V, S>>,
     F: FnMut(Entry<K, V>) + Drop,
     requires some { 0 < T.many shards.old }
     requires visit { F.IsAlwaysCallable visit }
@@ -139,7 +139,7 @@ where
     shards.renew(
         home,
         hash,
-        |shard: &mut Shard<K, V, S>|
+        |shard: &mut SegmentedShard<K, V, S>|
             requires hash { hash ≡ key_hash S.BuildHasher S.Hasher.Hasher K.hash_input hashes.now key }
             requires visit { F.IsAlwaysCallable visit }
             ensures { PutsCounted (λ p x q. F.step p x tt q) visit K.eq shard.old key value weight result shard.new }
@@ -155,7 +155,7 @@ where
     V: Drop,
     S: BuildHasher + SameHashes,
     Q: Query<K>,
-    T: Shards<Shard<K, V, S>>,
+    T: Shards<SegmentedShard<K, V, S>>,
     requires { 0 < T.many shards.old }
     ensures acts { T.does shards.old (home (T.many shards.old) (key_hash S.BuildHasher S.Hasher.Hasher Q.hash_input hashes.now query))
         (λ before after. Takes Q.stands_for before query result after) shards.new }
@@ -166,7 +166,7 @@ where
     shards.renew(
         home,
         hash,
-        |shard: &mut Shard<K, V, S>| one::remove(shard, query, hash, hashes),
+        |shard: &mut SegmentedShard<K, V, S>| one::remove(shard, query, hash, hashes),
     )
 }
 
@@ -176,7 +176,7 @@ where
     K: Hash + Drop,
     V: Drop,
     S: BuildHasher,
-    T: Shards<Shard<K, V, S>>,
+    T: Shards<SegmentedShard<K, V, S>>,
     F: FnMut(Entry<K, V>) + Drop,
     requires shard { shard < T.many shards.old }
     requires visit { F.IsAlwaysCallable visit }
@@ -185,7 +185,7 @@ where
 {
     shards.on(
         shard,
-        |shard: &mut Shard<K, V, S>|
+        |shard: &mut SegmentedShard<K, V, S>|
             requires { F.IsAlwaysCallable visit }
             ensures { ClearsShard (λ p x q. F.step p x tt q) visit shard.old shard.new }
         { one::clear(shard, visit) },
@@ -204,7 +204,7 @@ where
     K: Hash + Drop,
     V: Drop,
     S: BuildHasher,
-    T: Shards<Shard<K, V, S>>,
+    T: Shards<SegmentedShard<K, V, S>>,
     F: FnMut(Entry<K, V>) + Drop,
     requires shard { shard < T.many shards.old }
     requires visit { F.IsAlwaysCallable visit }
@@ -214,7 +214,7 @@ where
 {
     shards.on(
         shard,
-        |shard: &mut Shard<K, V, S>|
+        |shard: &mut SegmentedShard<K, V, S>|
             requires { F.IsAlwaysCallable visit }
             ensures { LimitsShard (λ p x q. F.step p x tt q) visit limits.weight limits.entries protected shard.old shard.new }
         { one::set_limits(shard, limits, protected, visit) },
@@ -227,12 +227,15 @@ where
     K: Hash + Drop,
     V: Drop,
     S: BuildHasher,
-    T: Shards<Shard<K, V, S>>,
+    T: Shards<SegmentedShard<K, V, S>>,
     requires { shard < T.many shards.old }
     ensures acts { T.does shards.old shard (λ before after. PopsShard before result after) shards.new }
     ensures many { T.many shards.new ≡ T.many shards.old }
 {
-    shards.on(shard, |shard: &mut Shard<K, V, S>| one::pop_last(shard))
+    shards.on(
+        shard,
+        |shard: &mut SegmentedShard<K, V, S>| one::pop_last(shard),
+    )
 }
 
 // Calls a closure with the key, the value and the weight of each entry of a shard, the upper segment's first.
@@ -240,7 +243,7 @@ pub(crate) fn visit_each<K, V, S, T, F>(shards: &T, shard: usize, visit: F)
 where
     K: Hash,
     S: BuildHasher,
-    T: Shards<Shard<K, V, S>>,
+    T: Shards<SegmentedShard<K, V, S>>,
     F: FnMut((&K, &V, usize)),
     requires shard { shard < T.many shards.now }
     requires visit { F.IsAlwaysCallable visit }
@@ -248,7 +251,7 @@ where
 {
     shards.look(
         shard,
-        |shard: &Shard<K, V, S>| one::visit_each(shard, visit),
+        |shard: &SegmentedShard<K, V, S>| one::visit_each(shard, visit),
     );
 }
 
@@ -257,11 +260,11 @@ pub(crate) fn shard_len<K, V, S, T>(shards: &T, shard: usize) -> usize
 where
     K: Hash,
     S: BuildHasher,
-    T: Shards<Shard<K, V, S>>,
+    T: Shards<SegmentedShard<K, V, S>>,
     requires { shard < T.many shards.now }
     ensures { T.sees shards.now shard (λ shard. result ≡ length (entries shard.cache)) }
 {
-    shards.look(shard, |shard: &Shard<K, V, S>| shard.cache.len())
+    shards.look(shard, |shard: &SegmentedShard<K, V, S>| shard.cache.len())
 }
 
 // What the entries of a shard weigh together.
@@ -269,11 +272,14 @@ pub(crate) fn shard_weight<K, V, S, T>(shards: &T, shard: usize) -> usize
 where
     K: Hash,
     S: BuildHasher,
-    T: Shards<Shard<K, V, S>>,
+    T: Shards<SegmentedShard<K, V, S>>,
     requires { shard < T.many shards.now }
     ensures { T.sees shards.now shard (λ shard. result ≡ weight_of (entries shard.cache)) }
 {
-    shards.look(shard, |shard: &Shard<K, V, S>| shard.cache.weight())
+    shards.look(
+        shard,
+        |shard: &SegmentedShard<K, V, S>| shard.cache.weight(),
+    )
 }
 
 // How many entries the upper segment of a shard has.
@@ -281,11 +287,14 @@ pub(crate) fn shard_protected_len<K, V, S, T>(shards: &T, shard: usize) -> usize
 where
     K: Hash,
     S: BuildHasher,
-    T: Shards<Shard<K, V, S>>,
+    T: Shards<SegmentedShard<K, V, S>>,
     requires { shard < T.many shards.now }
     ensures { T.sees shards.now shard (λ shard. result ≡ length shard.cache.upper) }
 {
-    shards.look(shard, |shard: &Shard<K, V, S>| shard.cache.protected_len())
+    shards.look(
+        shard,
+        |shard: &SegmentedShard<K, V, S>| shard.cache.protected_len(),
+    )
 }
 
 // What the entries of the upper segment of a shard weigh together.
@@ -293,13 +302,13 @@ pub(crate) fn shard_protected_weight<K, V, S, T>(shards: &T, shard: usize) -> us
 where
     K: Hash,
     S: BuildHasher,
-    T: Shards<Shard<K, V, S>>,
+    T: Shards<SegmentedShard<K, V, S>>,
     requires { shard < T.many shards.now }
     ensures { T.sees shards.now shard (λ shard. result ≡ weight_of shard.cache.upper) }
 {
     shards.look(
         shard,
-        |shard: &Shard<K, V, S>| shard.cache.protected_weight(),
+        |shard: &SegmentedShard<K, V, S>| shard.cache.protected_weight(),
     )
 }
 
@@ -317,7 +326,7 @@ where
     K: Hash + Drop,
     V: Clone + Drop,
     S: BuildHasher + SameHashes,
-    T: Shards<Shard<K, V, S>>,
+    T: Shards<SegmentedShard<K, V, S>>,
     E: Drop,
     M: FnOnce() -> Result<(V, usize), E> + Drop,
     F: FnMut(Entry<K, V>) + Drop,
@@ -350,7 +359,7 @@ where
     K: Hash,
     V: Clone + Drop,
     S: BuildHasher + SameHashes,
-    T: Shards<Shard<K, V, S>>,
+    T: Shards<SegmentedShard<K, V, S>>,
     requires home { home < T.many shards.old }
     requires hash { hash ≡ key_hash S.BuildHasher S.Hasher.Hasher K.hash_input hashes.now key.now }
     ensures found { IfOk result (λ found. T.does shards.old home (λ before after. Gets K.eq V.is_clone before key.now (Ok found) after) shards.new) }
@@ -361,8 +370,8 @@ where
     shards.begin(
         home,
         hash,
-        |shard: &Shard<K, V, S>| one::contains(shard, key, hash, hashes),
-        |shard: &mut Shard<K, V, S>|
+        |shard: &SegmentedShard<K, V, S>| one::contains(shard, key, hash, hashes),
+        |shard: &mut SegmentedShard<K, V, S>|
             requires { hash ≡ key_hash S.BuildHasher S.Hasher.Hasher K.hash_input hashes.now key.now }
             ensures { Gets K.eq V.is_clone shard.old key.entry.now result shard.new }
         { one::get(shard, key, hash, hashes) },
@@ -385,7 +394,7 @@ where
     K: Hash + Drop,
     V: Clone + Drop,
     S: BuildHasher + SameHashes,
-    T: Shards<Shard<K, V, S>>,
+    T: Shards<SegmentedShard<K, V, S>>,
     E: Drop,
     F: FnMut(Entry<K, V>) + Drop,
     requires home { home < T.many shards.old }
@@ -408,7 +417,7 @@ where
     };
     let put = shards.finish(
         home,
-        |shard: &mut Shard<K, V, S>|
+        |shard: &mut SegmentedShard<K, V, S>|
             requires hash { hash ≡ key_hash S.BuildHasher S.Hasher.Hasher K.hash_input hashes.now key }
             requires visit { F.IsAlwaysCallable visit }
             ensures { PutsMissing (λ p x q. F.step p x tt q) visit K.eq shard.old key value weight result shard.new }

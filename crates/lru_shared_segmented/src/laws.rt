@@ -1,10 +1,10 @@
 //! What walks make of a segmented cache in shards. These functions do nothing: their contracts are laws about the contracts of
 //! the calls of a `ShardedSegmentedCache`.
 ghost use Rattle.lru_index.specs.Hashing.{key_hash};
-ghost use Rattle.lru_shared.specs.Shards.{home};
+ghost use Rattle.lru_shared_cache.specs.Shards.{home};
 ghost use Rattle.lru_shared_segmented.specs.Walks.{EachShardIsWalked, NoScanEvicts, ScansTakeTheEnds, NoRequestEvicts};
 
-use lru_cache::cache::Entry;
+use lru_owned_cache::cache::Entry;
 use std::hash::{BuildHasher, Hash};
 
 /// No scan evicts a protected entry of any shard: after any list of looks, and of puts of keys that have no entry, each of

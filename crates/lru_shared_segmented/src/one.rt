@@ -1,23 +1,23 @@
 //! What is done to one shard and counted, by a hash that was made to tell the shard.
 ghost use Rattle.std.specs.Prelude.{◌≡◌, is_some};
 ghost use Rattle.lru_index.specs.Hashing.{key_hash};
-ghost use Rattle.lru_cache.specs.Cache.{entry_of};
+ghost use Rattle.lru_owned_cache.specs.Cache.{entry_of};
 ghost use Rattle.lru_segmented.specs.Segmented.{entries};
-ghost use Rattle.lru_shared.specs.Calls.{ShowsEntry, VisitsEach};
+ghost use Rattle.lru_shared_cache.specs.Calls.{ShowsEntry, VisitsEach};
 ghost use Rattle.lru_shared_segmented.specs.Calls.{whole, Gets, Lends, Takes, PopsShard, ClearsShard, LimitsShard, PutsCounted};
 ghost use Rattle.lru_shared_segmented.specs.Making.{PutsMissing};
 
-use lru_cache::cache::{Entry, Refused};
 use lru_index::alike::SameHashes;
 use lru_index::keys::Query;
+use lru_owned_cache::cache::{Entry, Refused};
 use lru_segmented::segmented::SegmentedCache;
-use lru_shared::counts::{Counted, Size, Why, weight_in};
-use lru_shared::limits::Limits;
+use lru_shared_cache::counts::{Counted, Size, Why, weight_in};
+use lru_shared_cache::limits::Limits;
 use std::alloc::AllocError;
 use std::hash::{BuildHasher, Hash};
 
 // A shard: its entries, and what its calls met.
-pub(crate) type Shard<K, V, S> = Counted<SegmentedCache<K, V, S>>;
+pub(crate) type SegmentedShard<K, V, S> = Counted<SegmentedCache<K, V, S>>;
 
 // How many entries there are, and what they weigh together.
 #[inline(always)]
@@ -33,7 +33,7 @@ fn size<K: Hash, V, S: BuildHasher>(cache: &SegmentedCache<K, V, S>) -> Size
 // Whether what the query stands for has an entry.
 #[inline(always)]
 pub(crate) fn contains<K: Hash, V, S: BuildHasher + SameHashes, Q: Query<K>>(
-    shard: &Shard<K, V, S>,
+    shard: &SegmentedShard<K, V, S>,
     query: Q,
     hash: u64,
     hashes: &S,
@@ -48,7 +48,7 @@ pub(crate) fn contains<K: Hash, V, S: BuildHasher + SameHashes, Q: Query<K>>(
 // Shows the value of what the query stands for, which is not used by that.
 #[inline(always)]
 pub(crate) fn peek<K, V, S, Q, R, F>(
-    shard: &Shard<K, V, S>,
+    shard: &SegmentedShard<K, V, S>,
     query: Q,
     hash: u64,
     hashes: &S,
@@ -71,7 +71,7 @@ where
 // Uses what the query stands for, and lends its value with its weight, which stays.
 #[inline(always)]
 pub(crate) fn lend<K, V, S, Q, R, F>(
-    shard: &mut Shard<K, V, S>,
+    shard: &mut SegmentedShard<K, V, S>,
     query: Q,
     hash: u64,
     hashes: &S,
@@ -95,7 +95,7 @@ where
 // Uses what the query stands for, and answers a clone of its value. Where there is no memory for one, it is used all the same.
 #[inline(always)]
 pub(crate) fn get<K, V, S, Q>(
-    shard: &mut Shard<K, V, S>,
+    shard: &mut SegmentedShard<K, V, S>,
     query: Q,
     hash: u64,
     hashes: &S,
@@ -124,7 +124,7 @@ where
 // Puts an entry, and lets go what has to go for it.
 #[inline(always)]
 pub(crate) fn put<K, V, S, F>(
-    shard: &mut Shard<K, V, S>,
+    shard: &mut SegmentedShard<K, V, S>,
     key: K,
     value: V,
     weight: usize,
@@ -159,7 +159,7 @@ where
 // Puts what was made for a key that had no entry, unless it has one by now, which is newer: that one stays.
 #[inline(always)]
 pub(crate) fn put_missing<K, V, S, F>(
-    shard: &mut Shard<K, V, S>,
+    shard: &mut SegmentedShard<K, V, S>,
     key: K,
     value: V,
     weight: usize,
@@ -188,7 +188,7 @@ where
 // Takes the entry out of what the query stands for.
 #[inline(always)]
 pub(crate) fn remove<K, V, S, Q>(
-    shard: &mut Shard<K, V, S>,
+    shard: &mut SegmentedShard<K, V, S>,
     query: Q,
     hash: u64,
     hashes: &S,
@@ -208,7 +208,7 @@ where
 }
 
 // Lets all entries go.
-pub(crate) fn clear<K, V, S, F>(shard: &mut Shard<K, V, S>, visit: F)
+pub(crate) fn clear<K, V, S, F>(shard: &mut SegmentedShard<K, V, S>, visit: F)
 where
     K: Hash + Drop,
     V: Drop,
@@ -226,7 +226,7 @@ where
 
 // Gives the shard other limits and another share, and lets go what has to go for them.
 pub(crate) fn set_limits<K, V, S, F>(
-    shard: &mut Shard<K, V, S>,
+    shard: &mut SegmentedShard<K, V, S>,
     limits: Limits,
     protected: usize,
     visit: F,
@@ -248,7 +248,7 @@ where
 }
 
 // Takes the entry out that is the next to go.
-pub(crate) fn pop_last<K, V, S>(shard: &mut Shard<K, V, S>) -> Option<Entry<K, V>>
+pub(crate) fn pop_last<K, V, S>(shard: &mut SegmentedShard<K, V, S>) -> Option<Entry<K, V>>
 where
     K: Hash + Drop,
     V: Drop,
@@ -261,7 +261,7 @@ where
 }
 
 // Calls a closure with the key, the value and the weight of each entry, the upper segment's first.
-pub(crate) fn visit_each<K, V, S, F>(shard: &Shard<K, V, S>, mut visit: F)
+pub(crate) fn visit_each<K, V, S, F>(shard: &SegmentedShard<K, V, S>, mut visit: F)
 where
     K: Hash,
     S: BuildHasher,

@@ -1,27 +1,27 @@
 //! A segmented cache of one owner in shards: what a shared one is behind its locks.
 ghost use Rattle.std.specs.Prelude.{◌≡◌, ◌<◌, ◌/◌, is_some, length, replicate, IfOk};
 ghost use Rattle.lru_index.specs.Hashing.{key_hash, seeded, unseeded};
-ghost use Rattle.lru_cache.specs.Cache.{hashes_from, entry_of};
-ghost use Rattle.lru_entries.specs.Entries.{weight_of};
+ghost use Rattle.lru_owned_cache.specs.Cache.{hashes_from, entry_of};
+ghost use Rattle.lru_owned_cache.specs.Entries.{weight_of};
 ghost use Rattle.lru_segmented.specs.Segmented.{entries};
-ghost use Rattle.lru_shared.specs.Shards.{home, Sees, Owns};
-ghost use Rattle.lru_shared.specs.Calls.{ShowsEntry, VisitsEach};
-ghost use Rattle.lru_shared.specs.Counts.{total};
+ghost use Rattle.lru_shared_cache.specs.Shards.{home, Sees, Owns};
+ghost use Rattle.lru_shared_cache.specs.Calls.{ShowsEntry, VisitsEach};
+ghost use Rattle.lru_shared_cache.specs.Counts.{total};
 ghost use Rattle.lru_shared_segmented.specs.Calls.{Gets, Lends, Takes, PopsShard, ClearsShard, LimitsShard, PutsCounted};
 ghost use Rattle.lru_shared_segmented.specs.Making.{GetsOrPuts};
 ghost use Rattle.lru_shared_segmented.specs.Sharded.{empty_shard, empty_shards};
 
 use crate::calls;
-use crate::one::Shard;
-use lru_cache::cache::{Entry, Refused};
+use crate::one::SegmentedShard;
 use lru_index::alike::SameHashes;
 use lru_index::hashing::SeededHashes;
 use lru_index::keys::Query;
+use lru_owned_cache::cache::{Entry, Refused};
 use lru_segmented::segmented::SegmentedCache;
-use lru_shared::counts::{Counted, Counts, shard_stats, total};
-use lru_shared::limits::Limits;
-use lru_shared::shards::Owned;
-use lru_shared::shared::NotGot;
+use lru_shared_cache::counts::{Counted, Counts, shard_stats, total};
+use lru_shared_cache::limits::Limits;
+use lru_shared_cache::shards::Owned;
+use lru_shared_cache::shared::NotGot;
 use std::alloc::{AllocError, Global};
 use std::fmt;
 use std::fmt::{Debug, Formatter};
@@ -41,7 +41,7 @@ pub struct ShardedSegmentedCache<K: Hash, V, const N: usize, S: BuildHasher = Se
 }
 
 impl<K: Hash, V, const N: usize, S: BuildHasher> Model for ShardedSegmentedCache<K, V, N, S> {
-    ghost use Rattle.lru_shared.specs.Sharded.{AreSome};
+    ghost use Rattle.lru_shared_cache.specs.Sharded.{AreSome};
     ghost use Rattle.lru_shared_segmented.specs.Sharded.{Sharded, sharded, sharded_code};
 
     ghost Value = { Sharded K V S };
@@ -69,7 +69,7 @@ pub(crate) fn empty_shards<K: Hash + Drop, V: Drop, S: BuildHasher + Copy + Drop
     protected: usize,
     shards: usize,
     hash_builder: S,
-) -> Result<Vec<Shard<K, V, S>>, AllocError>
+) -> Result<Vec<SegmentedShard<K, V, S>>, AllocError>
     requires { 0 < shards }
     ensures { IfOk result (λ made. made.items ≡ replicate shards (empty_shard hash_builder (limits.weight / shards) (limits.entries / shards) (protected / shards))) }
 {

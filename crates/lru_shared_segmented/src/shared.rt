@@ -1,41 +1,57 @@
 //! A segmented cache that threads share.
-ghost use Rattle.std.specs.Prelude.{◌≡◌, ◌<◌, length, vec_len, is_some, IfErr};
-ghost use Rattle.lru_cache.specs.Cache.{entry_of};
-ghost use Rattle.lru_entries.specs.Entries.{weight_of};
-ghost use Rattle.lru_segmented.specs.Segmented.{entries};
-ghost use Rattle.lru_shared.specs.Answers.{HandsBack};
-ghost use Rattle.lru_shared.specs.Calls.{ShowsEntry, VisitsEach};
+ghost use Rattle.std.specs.Prelude.{◌≡◌, ◌-◌, ◌<◌, ◌^◌, min, sum_by, length, vec_len, is_some, IfOk, IfErr};
+ghost use Rattle.lru_index.specs.Hashing.{seeded, unseeded};
+ghost use Rattle.lru_owned_cache.specs.Cache.{entry_of, hashes_from};
+ghost use Rattle.lru_owned_cache.specs.Entries.{weight_of};
+ghost use Rattle.lru_segmented.specs.Segmented.{IsSegmented, entries};
+ghost use Rattle.lru_shared_cache.specs.Answers.{HandsBack};
+ghost use Rattle.lru_shared_cache.specs.Counts.{total};
+ghost use Rattle.lru_shared_cache.specs.Calls.{ShowsEntry, VisitsEach};
 ghost use Rattle.lru_shared_segmented.specs.Calls.{Gets, Lends, Takes, PopsShard, ClearsShard, LimitsShard, PutsCounted};
-ghost use Rattle.lru_shared_segmented.specs.Answers.{MayBe, MayChange, MayGetOrPut};
+ghost use Rattle.lru_shared_segmented.specs.Answers.{MayBe, MayBeAll, MayChange, MayGetOrPut};
 
 use crate::calls;
-use crate::one::Shard;
+use crate::one::SegmentedShard;
 use crate::sharded::empty_shards;
 use crossbeam_utils::CachePadded;
-use lru_cache::cache::{Entry, Refused};
 use lru_index::alike::SameHashes;
 use lru_index::hashing::SeededHashes;
 use lru_index::keys::Query;
+use lru_owned_cache::cache::{Entry, Refused};
 use lru_segmented::segmented::SegmentedCache;
-use lru_shared::counts::{Counted, Counts, shard_stats};
-pub use lru_shared::limits::Limits;
-use lru_shared::locked::{Held, Locked, behind_locks};
-pub use lru_shared::shared::NotGot;
+use lru_shared_cache::counts::{Counted, Counts, shard_stats};
+pub use lru_shared_cache::limits::Limits;
+use lru_shared_cache::locked::{Held, Locked, behind_locks};
+pub use lru_shared_cache::shared::NotGot;
 use std::alloc::{AllocError, Global};
 use std::fmt;
 use std::fmt::{Debug, Formatter};
 use std::hash::{BuildHasher, Hash};
+use std::marker::Model;
 use std::sync::Wait;
 
 /// A shard under its lock, which is held as long as this is there.
 #[derive(Drop)]
-pub struct LockedShard<'a, K: Hash, V, S: BuildHasher> {
+pub struct LockedSegmentedShard<'a, K: Hash, V, S: BuildHasher> {
     held: Held<'a, Counted<SegmentedCache<K, V, S>>>,
 }
 
-impl<'a, K: Hash, V, S: BuildHasher> LockedShard<'a, K, V, S> {
+impl<'a, K: Hash, V, S: BuildHasher> Model for LockedSegmentedShard<'a, K, V, S> {
+    ghost use Rattle.lru_segmented.specs.Segmented.{Segmented, segmented_code};
+
+    // the entries behind the lock
+    ghost Value = { Segmented K V S };
+
+    ghost coded = { segmented_code K.code V.code S.code };
+
+    ghost view = { λ locked. locked.held.cache };
+}
+
+impl<'a, K: Hash, V, S: BuildHasher> LockedSegmentedShard<'a, K, V, S> {
     /// The entries of the shard, as they are while the lock is held.
-    pub fn cache(&self) -> &SegmentedCache<K, V, S> {
+    pub fn cache(&self) -> &SegmentedCache<K, V, S>
+        ensures { result.now ≡ self.now }
+    {
         &self.held.cache().cache
     }
 }
@@ -57,10 +73,19 @@ impl<'a, K: Hash, V, S: BuildHasher> LockedShard<'a, K, V, S> {
 #[derive(Drop)]
 pub struct SharedSegmentedCache<K: Hash, V, const N: usize, S: BuildHasher = SeededHashes> {
     // no two shards share a cache line, so that a thread at one doesn't slow a thread at another
-    shards: Vec<CachePadded<lru_shared::locked::Shard<Counted<SegmentedCache<K, V, S>>>>>,
+    shards: Vec<CachePadded<lru_shared_cache::locked::Shard<Counted<SegmentedCache<K, V, S>>>>>,
     hash_builder: S,
-    ghost some: { 0 < N },
-    ghost has_shards: { vec_len shards ≡ N },
+}
+
+impl<K: Hash, V, const N: usize, S: BuildHasher> Model for SharedSegmentedCache<K, V, N, S> {
+    // what lies behind the locks is known nowhere; what makes the hashes stays
+    ghost Value = { S };
+
+    ghost coded = { S.code };
+
+    ghost view = { λ c. c.hash_builder };
+
+    ghost invariant = { λ c. (0 < N) × (vec_len c.shards ≡ N) };
 }
 
 /// Tells how many shards there are. What they have is read under their locks, so it is not told here.
@@ -85,6 +110,7 @@ impl<K: Hash + Drop, V: Drop, const N: usize> SharedSegmentedCache<K, V, N, Seed
         protected: usize,
     ) -> Result<Self, AllocError>
         requires { 0 < N }
+        ensures { IfOk result (λ cache. cache ≡ hashes_from unseeded) }
     {
         let hash_builder = SeededHashes::fixed();
         SharedSegmentedCache::with_protected_and_hasher(alloc, limits, protected, hash_builder)
@@ -103,6 +129,7 @@ impl<K: Hash + Drop, V: Drop, const N: usize> SharedSegmentedCache<K, V, N, Seed
         seed: u64,
     ) -> Result<Self, AllocError>
         requires { 0 < N }
+        ensures { IfOk result (λ cache. cache ≡ hashes_from (seeded seed)) }
     {
         let hash_builder = SeededHashes::with_seed(seed);
         SharedSegmentedCache::with_protected_and_hasher(alloc, limits, protected, hash_builder)
@@ -127,6 +154,7 @@ impl<K: Hash + Drop, V: Drop, const N: usize, S: BuildHasher + Copy + Drop> Shar
         hash_builder: S,
     ) -> Result<Self, AllocError>
         requires { 0 < N }
+        ensures { IfOk result (λ cache. cache ≡ hash_builder) }
     {
         let shards = empty_shards(alloc, limits, protected, N, hash_builder)?;
         Ok(SharedSegmentedCache {
@@ -147,7 +175,7 @@ impl<K: Hash, V, const N: usize, S: BuildHasher> SharedSegmentedCache<K, V, N, S
 
     // The shards behind their locks, for which a call waits.
     #[inline(always)]
-    fn locked<'a, W: Wait>(&'a self, rt: &'a W) -> Locked<'a, Shard<K, V, S>, W, N>
+    fn locked<'a, W: Wait>(&'a self, rt: &'a W) -> Locked<'a, SegmentedShard<K, V, S>, W, N>
         ensures some { 0 < N }
         ensures many { length result.shards.now ≡ N }
     {
@@ -155,7 +183,9 @@ impl<K: Hash, V, const N: usize, S: BuildHasher> SharedSegmentedCache<K, V, N, S
     }
 
     /// How many entries there are: the sum over the shards, each read under its lock, one after another.
-    pub fn len(&self, rt: &impl Wait) -> usize {
+    pub fn len(&self, rt: &impl Wait) -> usize
+        ensures { MayBeAll K V S N (λ shards. result ≡ min (sum_by (λ shard. length (entries shard.cache)) shards) (2 ^ 64 - 1)) }
+    {
         let mut len = 0usize;
         for shard in 0..N {
             len = len.saturating_add(self.shard_len(rt, shard));
@@ -164,7 +194,9 @@ impl<K: Hash, V, const N: usize, S: BuildHasher> SharedSegmentedCache<K, V, N, S
     }
 
     /// What the entries weigh together: the sum over the shards, each read under its lock, one after another.
-    pub fn weight(&self, rt: &impl Wait) -> usize {
+    pub fn weight(&self, rt: &impl Wait) -> usize
+        ensures { MayBeAll K V S N (λ shards. result ≡ min (sum_by (λ shard. weight_of (entries shard.cache)) shards) (2 ^ 64 - 1)) }
+    {
         let mut weight = 0usize;
         for shard in 0..N {
             weight = weight.saturating_add(self.shard_weight(rt, shard));
@@ -173,7 +205,9 @@ impl<K: Hash, V, const N: usize, S: BuildHasher> SharedSegmentedCache<K, V, N, S
     }
 
     /// How many entries the upper segments have: the sum over the shards, each read under its lock, one after another.
-    pub fn protected_len(&self, rt: &impl Wait) -> usize {
+    pub fn protected_len(&self, rt: &impl Wait) -> usize
+        ensures { MayBeAll K V S N (λ shards. result ≡ min (sum_by (λ shard. length shard.cache.upper) shards) (2 ^ 64 - 1)) }
+    {
         let mut len = 0usize;
         for shard in 0..N {
             len = len.saturating_add(calls::shard_protected_len(&self.locked(rt), shard));
@@ -183,7 +217,9 @@ impl<K: Hash, V, const N: usize, S: BuildHasher> SharedSegmentedCache<K, V, N, S
 
     /// What the entries of the upper segments weigh together: the sum over the shards, each read under its lock, one after
     /// another.
-    pub fn protected_weight(&self, rt: &impl Wait) -> usize {
+    pub fn protected_weight(&self, rt: &impl Wait) -> usize
+        ensures { MayBeAll K V S N (λ shards. result ≡ min (sum_by (λ shard. weight_of shard.cache.upper) shards) (2 ^ 64 - 1)) }
+    {
         let mut weight = 0usize;
         for shard in 0..N {
             weight = weight.saturating_add(calls::shard_protected_weight(&self.locked(rt), shard));
@@ -192,7 +228,9 @@ impl<K: Hash, V, const N: usize, S: BuildHasher> SharedSegmentedCache<K, V, N, S
     }
 
     /// What the calls met, since the cache was made: the sum over the shards, each read under its lock, one after another.
-    pub fn stats(&self, rt: &impl Wait) -> Counts {
+    pub fn stats(&self, rt: &impl Wait) -> Counts
+        ensures { MayBeAll K V S N (λ shards. result ≡ total shards) }
+    {
         let mut stats = Counts::none();
         for shard in 0..N {
             stats = stats.plus(shard_stats(&self.locked(rt), shard));
@@ -228,12 +266,16 @@ impl<K: Hash, V, const N: usize, S: BuildHasher> SharedSegmentedCache<K, V, N, S
 
     /// Takes the lock of a shard, and holds it as long as what it answers is there. Meanwhile a call that waits for the same
     /// shard has to come from another thread.
-    pub fn lock_shard(&self, rt: &impl Wait, shard: usize) -> LockedShard<'_, K, V, S>
+    pub fn lock_shard(&self, rt: &impl Wait, shard: usize) -> LockedSegmentedShard<'_, K, V, S>
         requires { shard < N }
+        ensures { IsSegmented K.eq result }
     {
-        LockedShard {
+        let locked = LockedSegmentedShard {
             held: self.shards[shard].lock(rt),
-        }
+        };
+        // Read for the proof alone, which learns from it what the type says of itself.
+        let _len = locked.cache().len();
+        locked
     }
 }
 

@@ -1,7 +1,7 @@
 //! Each call, at two types of keys, and at values without a size.
-use lru_cache::cache::{Cause, Entry, Refused};
-use lru_shared::counts::{Counts, Left};
-use lru_shared::shared::SharedCache;
+use lru_owned_cache::cache::{Cause, Entry, Refused};
+use lru_shared_cache::counts::{Counts, Left};
+use lru_shared_cache::shared::SharedCache;
 use std::alloc::{AllocError, Global};
 use std::hash::Hash;
 use std::sync::Wait;

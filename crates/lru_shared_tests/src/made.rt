@@ -1,5 +1,5 @@
 //! Values that are made where a key has none: once, by one thread while others wait.
-use lru_shared::shared::{Limits, NotGot, SharedCache};
+use lru_shared_cache::shared::{Limits, NotGot, SharedCache};
 use std::alloc::{AllocError, Global};
 use std::sync::Wait;
 use std::sync::atomic::{AtomicU64, Ordering};

@@ -1,9 +1,9 @@
 //! A cache whose type says which value each key has: what comes out of it is right for its key, whoever put it there.
 ghost use Rattle.std.specs.Prelude.{◌≡◌, ◌*◌, ◌<◌, ◌^◌, IfSome};
 
-use lru_cache::cache::Entry;
 use lru_index::hashing::SeededHashes;
-use lru_shared::shared::{Relation, SharedCache};
+use lru_owned_cache::cache::Entry;
+use lru_shared_cache::shared::{Relation, SharedCache};
 use std::alloc::{AllocError, Global};
 use std::sync::Wait;
 use std::test::Fail;

@@ -1,11 +1,11 @@
 //! Shards of one owner: each call, and that a shared cache does behind its locks what they do.
 ghost use Rattle.std.specs.Prelude.{◌<◌};
 
-use lru_cache::cache::Entry;
 use lru_index::hashing::SeededHashes;
-use lru_shared::counts::Counts;
-use lru_shared::sharded::ShardedCache;
-use lru_shared::shared::{Limits, SharedCache};
+use lru_owned_cache::cache::Entry;
+use lru_shared_cache::counts::Counts;
+use lru_shared_cache::sharded::ShardedCache;
+use lru_shared_cache::shared::{Limits, SharedCache};
 use std::alloc::{AllocError, Global};
 use std::sync::Wait;
 use std::test::Fail;

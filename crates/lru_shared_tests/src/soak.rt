@@ -1,5 +1,5 @@
 //! Four threads put, get and remove: each entry that is put comes out once, or is there at the end.
-use lru_shared::shared::SharedCache;
+use lru_shared_cache::shared::SharedCache;
 use std::alloc::{AllocError, Global};
 use std::sync::Wait;
 use std::test::Fail;

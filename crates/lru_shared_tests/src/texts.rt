@@ -1,5 +1,5 @@
 //! Keys that are texts, asked for by texts: no key is made for that, and each is found in its shard.
-use lru_shared::shared::SharedCache;
+use lru_shared_cache::shared::SharedCache;
 use std::alloc::{AllocError, Global};
 use std::sync::Wait;
 use std::test::Fail;

@@ -1,7 +1,7 @@
 //! The calls on all shards in turn, of one owner and behind locks: which entries are shown and which go, of shard 0 first.
-use lru_cache::cache::Entry;
-use lru_shared::sharded::ShardedCache;
-use lru_shared::shared::{Limits, SharedCache};
+use lru_owned_cache::cache::Entry;
+use lru_shared_cache::sharded::ShardedCache;
+use lru_shared_cache::shared::{Limits, SharedCache};
 use std::alloc::{AllocError, Global};
 use std::sync::Wait;
 use std::test::Fail;

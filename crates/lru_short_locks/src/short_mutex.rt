@@ -1,4 +1,6 @@
 //! A lock that one takes at a time.
+//!
+//! The shards of orders and caches lie behind these.
 use crate::{TRIES, spin};
 use std::sync::{Mutex, MutexGuard, Wait};
 

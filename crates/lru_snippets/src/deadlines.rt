@@ -1,5 +1,6 @@
 //! A cache whose entries have deadlines.
-use lru_deadlines::deadlines::DeadlineCache;
+
+use lru_cache::deadlines::DeadlineCache;
 
 pub fn session_of(sessions: &mut DeadlineCache<u64, u64>, id: u64, time: u64) -> Option<u64> {
     let used = sessions.update(time, &id, |session, _weight| {

@@ -1,7 +1,7 @@
 //! Rows of weight 2 that go between two tiers under limits of 4, and more than either has places for at first.
 use lru_cores::lru_core::LruCore;
+use lru_cores::tiered::{BalanceError, Tier, TieredCore};
 use lru_shard::unit::{Cause, Refused};
-use lru_tiers::tiered::{BalanceError, Tier, TieredCore};
 use rand::rngs::StdRng;
 use rand_core::SeedableRng;
 use std::alloc::{AllocError, Global};

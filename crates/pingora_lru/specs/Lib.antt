@@ -12,8 +12,8 @@ pub use Rattle.lru_shard.specs.Limits
 pub use Rattle.lru_shard.specs.Draws
 pub use Rattle.lru_shard.specs.ShardCalls
 pub use Rattle.lru_shard.specs.Shards
-pub use Rattle.lru_locks.specs.Batches
-pub use Rattle.lru_locks.specs.LruCalls
+pub use Rattle.lru_shared_order.specs.Batches
+pub use Rattle.lru_shared_order.specs.LruCalls
 pub use Rattle.lru_recording.specs.Ties
 pub use Rattle.lru_recording.specs.Stamps
 pub use Rattle.lru_recording.specs.Tied
@@ -22,6 +22,6 @@ pub use Rattle.lru_recording.specs.Histories
 pub use Rattle.lru_recording.specs.Gathered
 pub use Rattle.lru_recording.specs.Replies
 pub use Rattle.lru_recording.specs.Probes
-pub use Rattle.lru_tiers.specs.Tiers
-pub use Rattle.lru_tiers.specs.TierCalls
-pub use Rattle.lru_tiers.specs.TierRuns
+pub use Rattle.lru_cores.specs.Tiers
+pub use Rattle.lru_cores.specs.TierCalls
+pub use Rattle.lru_cores.specs.TierRuns

@@ -8,16 +8,15 @@
 //! crate beneath; these are the names for users.
 #![tactic(auto)]
 
-pub use lru_cores::{calls, inclusion};
+pub use lru_cores::{calls, inclusion, tiered};
 pub use lru_list::linked_list;
-pub use lru_locks::lru;
-pub use lru_locks::lru::Lru;
 pub use lru_shard::{totals, unit};
-pub use lru_tiers::tiered;
+pub use lru_shared_order::lru;
+pub use lru_shared_order::lru::Lru;
 
 /// Batches of admissions to an [`Lru`].
 pub mod batch {
-    pub use lru_locks::{Admission, Fate};
+    pub use lru_shared_order::{Admission, Fate};
 }
 
 /// N shards under one limit on their weight, of one owner, and the law of inclusion over two of them.

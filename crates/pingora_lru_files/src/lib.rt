@@ -6,4 +6,4 @@
 
 pub mod persistence;
 
-pub use lru_snapshot::{crash_law, snapshot};
+pub use lru_shard_files::{crash_law, snapshot};

@@ -20,12 +20,12 @@ pub use lru_host_folder::host_folder::HostFolder;
 /// One entry of a folder's list.
 pub use lru_folder::listed::Listed;
 /// Loads each shard from its file.
-pub use lru_snapshot::loading::load_shards;
+pub use lru_shard_files::loading::load_shards;
 /// Files and folders in memory, whose calls can be told to fail.
 pub use lru_memory_folder::memory_folder::MemoryFolder;
 /// What a save, a load or a cleanup did.
 pub use lru_folder::reports::{ShardLoadReport, ShardSaveReport, TempFileCleanupReport};
 /// Saves each shard into its file.
-pub use lru_snapshot::save_shards::save_shards;
+pub use lru_shard_files::save_shards::save_shards;
 /// A save of shards that is made one shard at a time.
-pub use lru_snapshot::shard_saver::ShardSaver;
+pub use lru_shard_files::shard_saver::ShardSaver;

@@ -9,13 +9,13 @@
 //! a line of its own. `--svg` also draws the shares into a file. On a terminal a line on standard error says how far it is.
 //!
 //! `trace_player compare` plays the trace by several policies, `trace_player sample` plays a sample of its keys, and
-//! `trace_player make` makes a trace: `lru_policies` has these.
+//! `trace_player make` makes a trace: `trace_player_inside` has these.
 //!
 //! A bad line, wrong arguments, or a file that can't be written: a line that says so, and status 2. No memory: status 1.
 #![tactic(auto)]
 
-use lru_policies::program;
 use std::process::ExitCode;
+use trace_player_inside::program;
 
 fn main(rt: HostRuntime) -> ExitCode {
     program::run(rt)

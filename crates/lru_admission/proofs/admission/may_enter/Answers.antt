@@ -1,7 +1,7 @@
 use Rattle.std.proofs.Common.{ap, ◌∙◌, arith}
 use Rattle.lru_index.specs.Hashing.{key_hash}
-use Rattle.lru_sketch.specs.Sketch.{estimate}
-use Rattle.lru_cache.specs.Cache.{entry_of}
+use Rattle.lru_admission.specs.Sketch.{estimate}
+use Rattle.lru_owned_cache.specs.Cache.{entry_of}
 use Rattle.lru_admission.specs.Admission.{watched}
 use Rattle.lru_admission.proofs.Entering.{enters, enters_again, none_found}
 use Rattle.lru_admission.proofs.admission.may_enter.Goals as goal

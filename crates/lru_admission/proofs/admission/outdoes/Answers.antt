@@ -1,6 +1,6 @@
 use Rattle.std.proofs.Common.{ℕ, ◌<◌, ◌≤◌, ap, ◌∙◌, subst, inl, inr}
 use Rattle.std.proofs.lemmas.Bool.{lt-ltb, le-ltb}
-use Rattle.lru_sketch.specs.Sketch.{estimate}
+use Rattle.lru_admission.specs.Sketch.{estimate}
 use Rattle.lru_admission.proofs.Asking.{asking-none, asking-more, asked_one}
 use Rattle.lru_admission.proofs.admission.outdoes.Goals as goal
 use Rattle.lru_admission.proofs.admission.outdoes.Goals.{then-weight-most_weight, else-weight-most_weight+then-entries-most_entries}

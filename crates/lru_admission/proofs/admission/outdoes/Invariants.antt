@@ -1,7 +1,7 @@
 use Rattle.std.proofs.Common.{length}
 use Rattle.std.specs.Prelude.{nat_lt}
 use Rattle.lru_index.specs.Hashing.{key_hash}
-use Rattle.lru_sketch.specs.Sketch.{estimate}
+use Rattle.lru_admission.specs.Sketch.{estimate}
 use Rattle.lru_admission.proofs.Asking.{Asking}
 use Rattle.lru_admission.proofs.admission.outdoes.Given as goal
 

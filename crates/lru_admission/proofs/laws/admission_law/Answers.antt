@@ -2,7 +2,7 @@ use Rattle.std.proofs.Common.{ℕ, ◌<◌, ◌≤◌, arith}
 use Rattle.std.specs.Prelude.{nat_lt}
 use Rattle.std.proofs.lemmas.Bool.{lt-ltb}
 use Rattle.std.proofs.lemmas.List.Sums.{list_all-from_AllPass}
-use Rattle.lru_sketch.specs.Sketch.{estimate, fresh, counted_all}
+use Rattle.lru_admission.specs.Sketch.{estimate, fresh, counted_all}
 use Rattle.lru_admission.proofs.laws.admission_law.Goals as goal
 
 below : (a b c : ℕ) → a < b → b ≤ c → a < c

@@ -1,4 +1,4 @@
 use Rattle.lru_async_tests.proofs.soak.every_pair_is_accounted_for.Given as goal
 
-abbrev pub ghosts-soaked-B-Registry : goal.ghosts-soaked-B-Registry
-ghosts-soaked-B-Registry g a = record { puts = a.blanks.puts.tie.table.shared.table_id; takes = a.blanks.takes.tie.table.shared.table_id; putters = 4; takers = 2 }
+abbrev pub ghosts-soaked-B-BoxRegistry : goal.ghosts-soaked-B-BoxRegistry
+ghosts-soaked-B-BoxRegistry g a = record { puts = a.blanks.puts.tie.table.shared.table_id; takes = a.blanks.takes.tie.table.shared.table_id; putters = 4; takers = 2 }

@@ -1,9 +1,9 @@
 use Rattle.std.proofs.Common.{List, sym, subst}
 use Rattle.std.specs.Prelude.{Contains}
 use Rattle.lru_folder.specs.Meaning.{Meaning}
-use Rattle.lru_manifests.specs.declared.names.PartName.{PartName}
-use Rattle.lru_whole_files.proofs.Touched.{touches_started, touches_more}
-use Rattle.lru_checkpoints.proofs.Lists.{on_ok}
+use Rattle.lru_generations.specs.declared.names.PartName.{PartName}
+use Rattle.lru_generations.proofs.Touched.{touches_started, touches_more}
+use Rattle.lru_generations.proofs.Lists.{on_ok}
 use Rattle.lru_generations.specs.Removing.{IsPathOf}
 use Rattle.lru_generations.specs.Saving.{IsLeft}
 use Rattle.lru_generations.proofs.generations.remove_leftovers.Goals as goal

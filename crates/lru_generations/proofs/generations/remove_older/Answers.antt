@@ -4,14 +4,14 @@ use Rattle.std.specs.FinMap.{get}
 use Rattle.lru_folder.specs.Files.{Files}
 use Rattle.lru_folder.specs.Meaning.{Meaning}
 use Rattle.lru_folder.proofs.Moments.{then_run}
-use Rattle.lru_manifests.specs.declared.names.PartName.{PartName}
-use Rattle.lru_manifests.specs.declared.names.PartName.TheVariants.{Manifest}
-use Rattle.lru_manifests.specs.Listing.{IsAnyManifest}
-use Rattle.lru_manifests.specs.Names.{IsPart, generation_of, manifest_path}
-use Rattle.lru_whole_files.specs.Touching.{IsSameBut}
-use Rattle.lru_whole_files.proofs.Touched.{touches_started, touches_then, touches_more}
-use Rattle.lru_checkpoints.proofs.Lists.{on_ok}
-use Rattle.lru_checkpoints.proofs.Saved.{leaves_more}
+use Rattle.lru_generations.specs.declared.names.PartName.{PartName}
+use Rattle.lru_generations.specs.declared.names.PartName.TheVariants.{Manifest}
+use Rattle.lru_generations.specs.Listing.{IsAnyManifest}
+use Rattle.lru_generations.specs.Names.{IsPart, generation_of, manifest_path}
+use Rattle.lru_generations.specs.Touching.{IsSameBut}
+use Rattle.lru_generations.proofs.Touched.{touches_started, touches_then, touches_more}
+use Rattle.lru_generations.proofs.Lists.{on_ok}
+use Rattle.lru_generations.proofs.Saved.{leaves_more}
 use Rattle.lru_generations.specs.Newest.{HasManifest}
 use Rattle.lru_generations.specs.Removing.{IsPathOf}
 use Rattle.lru_generations.specs.Saving.{IsOld, IsOlder, KeepsFrames}

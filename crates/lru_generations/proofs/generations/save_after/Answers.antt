@@ -3,9 +3,9 @@ use Rattle.std.specs.Prelude.{option_copied}
 use Rattle.std.specs.FinMap.{get}
 use Rattle.lru_folder.specs.Files.{Files}
 use Rattle.lru_folder.specs.Meaning.{Meaning}
-use Rattle.lru_manifests.specs.Names.{part_path}
-use Rattle.lru_checkpoints.specs.Checkpoints.{IsWhole}
-use Rattle.lru_checkpoints.proofs.Lists.{on_ok}
+use Rattle.lru_generations.specs.Names.{part_path}
+use Rattle.lru_generations.specs.Checkpoints.{IsWhole}
+use Rattle.lru_generations.proofs.Lists.{on_ok}
 use Rattle.lru_generations.proofs.AsKnown.{newest_taken, saves_known}
 use Rattle.lru_generations.proofs.KeptFrames.{kept_looked}
 use Rattle.lru_generations.proofs.SavedNext.{next_looked}

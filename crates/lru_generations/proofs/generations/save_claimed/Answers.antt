@@ -1,19 +1,19 @@
 use Rattle.std.proofs.Common.{◌≡◌, ℕ, ◌<◌, ◌^◌, List, refl, sym, subst}
 use Rattle.std.specs.Prelude.{Contains, option_copied}
 use Rattle.lru_folder.specs.Meaning.{Meaning}
-use Rattle.lru_manifests.specs.declared.manifest.Manifest as told
-use Rattle.lru_manifests.specs.declared.names.PartName.{PartName}
-use Rattle.lru_manifests.specs.declared.names.PartName.TheVariants.{Manifest}
+use Rattle.lru_generations.specs.declared.manifest.Manifest as told
+use Rattle.lru_generations.specs.declared.names.PartName.{PartName}
+use Rattle.lru_generations.specs.declared.names.PartName.TheVariants.{Manifest}
 use Rattle.std.specs.FinMap.{get}
 use Rattle.lru_folder.specs.Files.{Files}
 use Rattle.lru_folder.specs.Folder.{LeavesOnly}
-use Rattle.lru_checkpoints.specs.Checkpoints.{IsOldOrNew, IsPartOf, IsWhole}
-use Rattle.lru_checkpoints.proofs.Saved.{leaves_more}
+use Rattle.lru_generations.specs.Checkpoints.{IsOldOrNew, IsPartOf, IsWhole}
+use Rattle.lru_generations.proofs.Saved.{leaves_more}
 use Rattle.lru_generations.specs.Newest.{HasManifest}
 use Rattle.lru_generations.proofs.KeptFrames.{among_three, kept_all, kept_left, kept_saved, older_apart}
-use Rattle.lru_manifests.specs.Names.{IsPart}
-use Rattle.lru_whole_files.specs.Touching.{TouchesOnly}
-use Rattle.lru_checkpoints.proofs.Lists.{on_ok}
+use Rattle.lru_generations.specs.Names.{IsPart}
+use Rattle.lru_generations.specs.Touching.{TouchesOnly}
+use Rattle.lru_generations.proofs.Lists.{on_ok}
 use Rattle.lru_generations.specs.Saving.{IsLeft, IsOlder}
 use Rattle.lru_generations.proofs.SavedNext.{next_nothing, next_left, next_saved, next_all, still_good, unused, whole_kept}
 use Rattle.lru_generations.proofs.generations.save_claimed.Goals as goal

@@ -2,16 +2,16 @@ use Rattle.std.proofs.Common.{◌≡◌, ℕ, List, [], ◌∷◌, ◌++◌, len
 use Rattle.std.specs.Prelude.{Contains, Option, option_copied}
 use Rattle.lru_folder.specs.Files.{Files}
 use Rattle.lru_folder.specs.Meaning.{Meaning}
-use Rattle.lru_manifests.specs.declared.manifest.Manifest.{Manifest}
-use Rattle.lru_manifests.specs.Manifests.{manifest_bytes}
-use Rattle.lru_whole_files.proofs.Touched.{touches_started, touches_then}
-use Rattle.lru_checkpoints.specs.Checkpoints.{IsTaken}
-use Rattle.lru_checkpoints.specs.Loads.{IsFault, IsRefused, IsRefusedByCheck}
+use Rattle.lru_generations.specs.declared.manifest.Manifest.{Manifest}
+use Rattle.lru_generations.specs.Manifests.{manifest_bytes}
+use Rattle.lru_generations.proofs.Touched.{touches_started, touches_then}
+use Rattle.lru_generations.specs.Checkpoints.{IsTaken}
+use Rattle.lru_generations.specs.Loads.{IsFault, IsRefused, IsRefusedByCheck}
 use Rattle.lru_generations.specs.declared.newest.Passed.{Passed}
 use Rattle.lru_generations.specs.Newest.{HasAllManifests, IsTakenAt}
 use Rattle.lru_generations.proofs.Passing.{each_more, front_all, front_at, map_more, none_at_all, none_higher, none_more, numbers_of}
 use Rattle.lru_generations.proofs.Refusals.{check_again}
-use Rattle.lru_checkpoints.proofs.Taken.{taken_manifest}
+use Rattle.lru_generations.proofs.Taken.{taken_manifest}
 use Rattle.lru_generations.proofs.newest.newest_whole.Goals as goal
 
 -- what is taken for whole has a manifest

@@ -1,8 +1,8 @@
 use Rattle.std.proofs.Common.{◌≡◌, take}
 use Rattle.std.specs.Prelude.{Contains, option_copied}
 use Rattle.lru_folder.specs.Meaning.{Meaning}
-use Rattle.lru_whole_files.specs.Touching.{TouchesNothing}
-use Rattle.lru_checkpoints.specs.Loads.{IsFault, IsRefused, IsRefusedByCheck}
+use Rattle.lru_generations.specs.Touching.{TouchesNothing}
+use Rattle.lru_generations.specs.Loads.{IsFault, IsRefused, IsRefusedByCheck}
 use Rattle.lru_generations.specs.declared.newest.Passed.{Passed}
 use Rattle.lru_generations.specs.Newest.{IsTakenAt}
 use Rattle.lru_generations.proofs.Passing.{NoneOf, numbers_of}

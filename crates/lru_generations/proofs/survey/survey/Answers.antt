@@ -2,12 +2,12 @@ use Rattle.std.proofs.Common.{rules, ◌≡◌, ◌<◌, inl, inr, ⊎_elim, ℕ
 use Rattle.std.specs.Prelude.{AllPairs, Contains, option_copied}
 use Rattle.lru_folder.specs.Files.{Files}
 use Rattle.lru_folder.specs.Meaning.{Meaning}
-use Rattle.lru_manifests.specs.declared.names.PartName.{PartName}
-use Rattle.lru_manifests.specs.declared.names.PartName.TheVariants.{Manifest}
-use Rattle.lru_manifests.specs.Listing.{HasParts, IsAbove}
-use Rattle.lru_whole_files.proofs.Touched.{touches_started, touches_then, touches_looked}
+use Rattle.lru_generations.specs.declared.names.PartName.{PartName}
+use Rattle.lru_generations.specs.declared.names.PartName.TheVariants.{Manifest}
+use Rattle.lru_generations.specs.Listing.{HasParts, IsAbove}
+use Rattle.lru_generations.proofs.Touched.{touches_started, touches_then, touches_looked}
 use Rattle.lru_generations.specs.Newest.{AreGenerations, HasAllManifests, IsHighestTaken}
-use Rattle.lru_checkpoints.specs.declared.errors.CheckpointError.{CheckpointError}
+use Rattle.lru_generations.specs.declared.errors.CheckpointError.{CheckpointError}
 use Rattle.lru_generations.specs.Saving.{HasReasonOrIsInUse, IsUnsaved}
 use Rattle.lru_generations.proofs.ForGood.{save_fault}
 use Rattle.lru_generations.proofs.survey.survey.Goals as goal

@@ -2,7 +2,7 @@ use Rattle.std.proofs.Common.{rules, Err, sym, ap, subst, ◌∙◌}
 use Rattle.std.proofs.lemmas.Result.{err_from_is_err_and}
 use Rattle.lru_frames.specs.Words.{word}
 use Rattle.lru_order_checkpoints.specs.Restores.{IsSameWord, IsWord, MayRestore}
-use Rattle.lru_order_checkpoints.specs.declared.restored.RestoreError.TheVariants.{Refused}
+use Rattle.lru_order_checkpoints.specs.declared.restored.OrderRestoreError.TheVariants.{Refused}
 use Rattle.lru_order_checkpoints.proofs.locks.load_lru.Goals as goal
 
 pub returns-in_default-clause-passed : goal.returns-in_default-clause-passed

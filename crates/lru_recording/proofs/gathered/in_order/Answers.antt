@@ -3,7 +3,7 @@ use Rattle.std.specs.Prelude.{slice_get}
 use Rattle.std.proofs.lemmas.Iterator.Adapters.{YieldsList-from_vec}
 use Rattle.std.proofs.lemmas.Iterator.Consumers.{YieldsList-turn}
 use Rattle.std.proofs.lemmas.Option.{slice_get-get_or}
-use Rattle.lru_hands.proofs.Hands.{some_same, none_some}
+use Rattle.lru_short_locks.proofs.Hands.{some_same, none_some}
 use Rattle.lru_recording.proofs.Gathering.{no_empty}
 use Rattle.lru_recording.proofs.gathered.in_order.Goals as goal
 

@@ -3,7 +3,7 @@ use Rattle.atomic_table.specs.Table.{Me}
 use Rattle.atomic_table.specs.declared.shared.Seat.{Seat as Token}
 use Rattle.lru_recording.specs.declared.entry.Stamp.{Stamp}
 use Rattle.lru_recording.specs.declared.entry.Hand.{Hand}
-use Rattle.lru_hands.specs.Hands.{times, up}
+use Rattle.lru_short_locks.specs.Hands.{times, up}
 use Rattle.lru_recording.proofs.Gathering.{gathered_more, one_less}
 use Rattle.lru_shard.specs.Limits.{cap_of}
 use Rattle.lru_recording.proofs.Homes.{home_of}

@@ -1,5 +1,5 @@
 use Rattle.std.proofs.Common.{arith, sym}
-use Rattle.lru_entries.proofs.Shrunk.{both_le, not_both}
+use Rattle.lru_owned_cache.proofs.Shrunk.{both_le, not_both}
 use Rattle.lru_segmented.proofs.Lowered.{none_lowered, some_upper, fewer_upper, one_lowered, all_lowered}
 use Rattle.lru_segmented.proofs.seats.lower_down.Goals as goal
 

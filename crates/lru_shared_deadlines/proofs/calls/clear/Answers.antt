@@ -1,5 +1,5 @@
 use Rattle.std.proofs.Common.{subst}
-use Rattle.lru_shared.specs.Counting.{ClearsShard}
+use Rattle.lru_shared_cache.specs.Counting.{ClearsShard}
 use Rattle.lru_shared_deadlines.proofs.calls.clear.Goals as goal
 
 pub returns-clause-acts : goal.returns-clause-acts

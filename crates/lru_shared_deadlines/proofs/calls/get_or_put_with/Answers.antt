@@ -1,7 +1,7 @@
 use Rattle.std.proofs.Common.{◌≡◌, ◌⊎◌, ap, refl, subst, ◌∙◌, Ok, Err, Some, None, inl, inr}
 use Rattle.std.specs.declared.alloc.AllocError.{AllocError}
 use Rattle.lru_index.specs.Hashing.{key_hash}
-use Rattle.lru_shared.specs.Shards.{home}
+use Rattle.lru_shared_cache.specs.Shards.{home}
 use Rattle.lru_shared_deadlines.specs.Calls.{EndsMaking, Gets}
 use Rattle.lru_shared_deadlines.proofs.calls.get_or_put_with.Goals as goal
 

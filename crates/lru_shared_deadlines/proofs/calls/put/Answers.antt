@@ -1,6 +1,6 @@
 use Rattle.std.proofs.Common.{◌≡◌, ap, subst, ◌∙◌}
 use Rattle.lru_index.specs.Hashing.{key_hash}
-use Rattle.lru_shared.specs.Shards.{home}
+use Rattle.lru_shared_cache.specs.Shards.{home}
 use Rattle.lru_shared_deadlines.specs.Calls.{PutsIn}
 use Rattle.lru_shared_deadlines.proofs.calls.put.Goals as goal
 

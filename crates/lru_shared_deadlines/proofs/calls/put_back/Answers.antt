@@ -1,7 +1,7 @@
 use Rattle.std.proofs.Common.{◌≡◌, ap, subst, ◌∙◌}
 use Rattle.lru_index.specs.Hashing.{key_hash}
-use Rattle.lru_shared.specs.Shards.{home}
-use Rattle.lru_shared.specs.Counting.{PutsCounted}
+use Rattle.lru_shared_cache.specs.Shards.{home}
+use Rattle.lru_shared_cache.specs.Counting.{PutsCounted}
 use Rattle.lru_shared_deadlines.proofs.calls.put_back.Goals as goal
 
 pub returns-clause-acts : goal.returns-clause-acts

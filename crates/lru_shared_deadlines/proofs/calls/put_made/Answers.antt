@@ -1,6 +1,6 @@
 use Rattle.std.proofs.Common.{rules, ◌≡◌, sym, subst, Ok, Err, inl}
 use Rattle.lru_shared_deadlines.specs.Calls.{EndsMaking, PutsMissing}
-use Rattle.lru_shared.specs.declared.calls.NotGot.TheVariants.{Refused as Unput}
+use Rattle.lru_shared_cache.specs.declared.calls.NotGot.TheVariants.{Refused as Unput}
 use Rattle.lru_shared_deadlines.proofs.calls.put_made.Goals as goal
 
 pub returns-in-Some-Ok-clause-acts : goal.returns-in-Some-Ok-clause-acts

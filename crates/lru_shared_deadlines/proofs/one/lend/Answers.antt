@@ -1,5 +1,5 @@
 use Rattle.std.proofs.Common.{ap, ◌∙◌}
-use Rattle.lru_shared.specs.Counts.{looked}
+use Rattle.lru_shared_cache.specs.Counts.{looked}
 use Rattle.lru_shared_deadlines.proofs.Shown.{lends}
 use Rattle.lru_shared_deadlines.proofs.one.lend.Goals as goal
 

@@ -1,5 +1,5 @@
 use Rattle.std.proofs.Common.{subst, Err}
-use Rattle.lru_cache.specs.Cache.{Puts}
+use Rattle.lru_owned_cache.specs.Cache.{Puts}
 use Rattle.lru_shared_deadlines.proofs.Shown.{refuses}
 use Rattle.lru_shared_deadlines.proofs.one.place.Goals as goal
 

@@ -3,7 +3,7 @@ use Rattle.std.specs.Prelude.{map}
 use Rattle.std.specs.List.{FoldsTo}
 use Rattle.std.specs.Borrow.{Bor}
 use denote.Param.Always.{always_mut}
-use Rattle.lru_cache.specs.Cache.{parts_of}
+use Rattle.lru_owned_cache.specs.Cache.{parts_of}
 use Rattle.lru_deadlines.specs.declared.deadlines.Until.{Until}
 use Rattle.lru_shared_deadlines.specs.declared.ages.Aged.{Aged}
 use Rattle.lru_shared_deadlines.specs.Calls.{shown}

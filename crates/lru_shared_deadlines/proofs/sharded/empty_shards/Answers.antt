@@ -1,7 +1,7 @@
 use Rattle.std.proofs.Common.{◌≡◌, ◌/◌, arith, subst}
 use Rattle.std.specs.Prelude.{replicate}
 use Rattle.lru_deadlines.specs.declared.deadlines.Until.{Until}
-use Rattle.lru_shared.specs.Sharded.{empty_shard}
+use Rattle.lru_shared_cache.specs.Sharded.{empty_shard}
 use Rattle.lru_shared_deadlines.specs.declared.ages.Aged.{Aged}
 use Rattle.lru_shared_deadlines.proofs.sharded.empty_shards.Goals as goal
 

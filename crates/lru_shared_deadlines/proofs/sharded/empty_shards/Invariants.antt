@@ -1,6 +1,6 @@
 use Rattle.std.proofs.Common.{◌≡◌}
 use Rattle.std.specs.Prelude.{replicate}
-use Rattle.lru_shared.specs.Sharded.{empty_shard}
+use Rattle.lru_shared_cache.specs.Sharded.{empty_shard}
 use Rattle.lru_shared_deadlines.proofs.sharded.empty_shards.Given as goal
 
 abbrev pub invariant-loop : goal.invariant-loop

@@ -1,6 +1,6 @@
 use Rattle.std.proofs.Common.{◌≡◌, ap, subst, ◌∙◌}
 use Rattle.lru_index.specs.Hashing.{key_hash}
-use Rattle.lru_shared.specs.Shards.{home}
+use Rattle.lru_shared_cache.specs.Shards.{home}
 use Rattle.lru_shared_segmented.specs.Calls.{PutsCounted}
 use Rattle.lru_shared_segmented.proofs.calls.put.Goals as goal
 

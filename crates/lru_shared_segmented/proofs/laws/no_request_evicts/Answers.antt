@@ -1,5 +1,5 @@
 use Rattle.lru_index.specs.Hashing.{key_hash}
-use Rattle.lru_shared.specs.Shards.{home}
+use Rattle.lru_shared_cache.specs.Shards.{home}
 use Rattle.lru_shared_segmented.proofs.Requested.{no_request}
 use Rattle.lru_shared_segmented.proofs.laws.no_request_evicts.Goals as goal
 

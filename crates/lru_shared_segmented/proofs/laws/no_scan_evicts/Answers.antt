@@ -1,5 +1,5 @@
 use Rattle.lru_index.specs.Hashing.{key_hash}
-use Rattle.lru_shared.specs.Shards.{home}
+use Rattle.lru_shared_cache.specs.Shards.{home}
 use Rattle.lru_shared_segmented.proofs.Walked.{shard_walks, shard_loses, all_keep}
 use Rattle.lru_shared_segmented.proofs.laws.no_scan_evicts.Goals as goal
 

@@ -1,6 +1,6 @@
-use Rattle.lru_cache.specs.Cache.{entry_of}
+use Rattle.lru_owned_cache.specs.Cache.{entry_of}
 use Rattle.lru_segmented.specs.Segmented.{entries}
-use Rattle.lru_shared.proofs.Answered.{shows}
+use Rattle.lru_shared_cache.proofs.Answered.{shows}
 use Rattle.lru_shared_segmented.proofs.one.peek.Goals as goal
 
 pub returns : goal.returns

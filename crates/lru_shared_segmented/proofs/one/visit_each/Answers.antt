@@ -2,7 +2,7 @@ use Rattle.std.proofs.Common.{of_calls, ◌++◌, ◌∷◌, [], refl, sym, ap, 
 use Rattle.std.specs.Prelude.{map}
 use Rattle.std.specs.List.{FoldsTo}
 use Rattle.std.proofs.lemmas.List.{map-append}
-use Rattle.lru_shared.specs.Calls.{shown}
+use Rattle.lru_shared_cache.specs.Calls.{shown}
 use Rattle.lru_shared_segmented.proofs.one.visit_each.Goals as goal
 
 pub loop-entry-init : goal.loop-entry-init

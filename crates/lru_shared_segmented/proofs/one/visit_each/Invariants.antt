@@ -3,9 +3,9 @@ use Rattle.std.specs.Prelude.{map}
 use Rattle.std.specs.List.{FoldsTo}
 use Rattle.std.specs.Borrow.{Bor}
 use denote.Param.Always.{always_mut}
-use Rattle.lru_cache.specs.Cache.{parts_of}
+use Rattle.lru_owned_cache.specs.Cache.{parts_of}
 use Rattle.lru_segmented.specs.Segmented.{entries}
-use Rattle.lru_shared.specs.Calls.{shown}
+use Rattle.lru_shared_cache.specs.Calls.{shown}
 use Rattle.lru_shared_segmented.proofs.one.visit_each.Given as goal
 
 -- what was given so far, and that the calls at these items and at any that follow are one run

@@ -1,5 +1,5 @@
 use Rattle.std.proofs.Common.{rules, ◌≡◌, ℕ, List, sym, ap, ◌∙◌, subst}
-use Rattle.lru_entries.specs.declared.entry.Entry.{Entry}
+use Rattle.lru_owned_cache.specs.declared.entry.Entry.{Entry}
 use Rattle.example_memo.specs.Answers.{AreRight}
 use Rattle.example_memo.proofs.Right.{found_key, found_right, without_right, put_right}
 use Rattle.example_memo.proofs.memo.Memo.ask.Goals as goal

@@ -1,5 +1,5 @@
 use Rattle.std.proofs.Common.{subst}
-use Rattle.lru_cache.specs.Cache.{Clears}
+use Rattle.lru_owned_cache.specs.Cache.{Clears}
 use Rattle.lru_admission.proofs.admission.AskingCache.clear.Goals as goal
 
 pub returns-clause-cache : goal.returns-clause-cache

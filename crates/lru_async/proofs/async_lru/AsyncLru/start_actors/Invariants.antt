@@ -1,6 +1,6 @@
 use Rattle.std.proofs.Common.{◌≡◌, ◌-◌, vec_len}
 use Rattle.std.specs.Prelude.{is_some}
-use Rattle.lru_world.specs.Replying.{AreTakers}
+use Rattle.lru_workers.specs.Replying.{AreTakers}
 use Rattle.lru_async.proofs.async_lru.AsyncLru.start_actors.Given as goal
 
 abbrev pub invariant-loop-shard : goal.invariant-loop-shard

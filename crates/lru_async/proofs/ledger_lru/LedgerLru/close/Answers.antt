@@ -1,5 +1,5 @@
 use Rattle.std.proofs.Common.{◌∙◌, sym, ap}
-use Rattle.lru_hands.specs.Hands.{up}
+use Rattle.lru_short_locks.specs.Hands.{up}
 use Rattle.lru_async.proofs.Seats.{as_long}
 use Rattle.lru_async.proofs.ledger_lru.LedgerLru.close.Goals as goal
 

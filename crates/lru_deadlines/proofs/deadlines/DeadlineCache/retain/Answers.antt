@@ -1,5 +1,5 @@
 use Rattle.std.proofs.Common.{subst}
-use Rattle.lru_cache.specs.Cache.{Retains}
+use Rattle.lru_owned_cache.specs.Cache.{Retains}
 use Rattle.lru_deadlines.proofs.deadlines.DeadlineCache.retain.Goals as goal
 
 pub returns : goal.returns

@@ -1,5 +1,5 @@
 use Rattle.std.proofs.Common.{subst, refl, ◌∙◌, inl, inr}
-use Rattle.lru_cache.specs.Cache.{Reweighs}
+use Rattle.lru_owned_cache.specs.Cache.{Reweighs}
 use Rattle.lru_deadlines.proofs.deadlines.DeadlineCache.reweigh.Goals as goal
 
 pub returns-in-None : goal.returns-in-None

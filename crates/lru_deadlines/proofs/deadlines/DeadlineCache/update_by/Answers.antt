@@ -1,5 +1,5 @@
 use Rattle.std.proofs.Common.{subst, ◌∙◌}
-use Rattle.lru_cache.specs.Cache.{UpdatesEntry}
+use Rattle.lru_owned_cache.specs.Cache.{UpdatesEntry}
 use Rattle.lru_deadlines.proofs.deadlines.DeadlineCache.update_by.Goals as goal
 
 pub returns-in-None : goal.returns-in-None

@@ -1,5 +1,5 @@
 use Rattle.std.proofs.Common.{subst, sym, ◌∙◌}
-use Rattle.lru_cache.specs.Cache.{UpdatesEntry}
+use Rattle.lru_owned_cache.specs.Cache.{UpdatesEntry}
 use Rattle.lru_deadlines.proofs.Living.{updates_if_living}
 use Rattle.lru_deadlines.proofs.deadlines.DeadlineCache.update_hashed.Goals as goal
 

@@ -1,5 +1,5 @@
 use Rattle.std.proofs.Common.{subst, ◌∙◌, inl, inr}
-use Rattle.lru_cache.specs.Cache.{UsesOrPuts}
+use Rattle.lru_owned_cache.specs.Cache.{UsesOrPuts}
 use Rattle.lru_deadlines.proofs.deadlines.DeadlineCache.use_or_put.Goals as goal
 
 pub returns-in-Some : goal.returns-in-Some

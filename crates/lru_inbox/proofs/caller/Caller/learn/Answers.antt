@@ -1,5 +1,5 @@
 use Rattle.std.proofs.Common.{[], sym, ap, ◌∙◌, subst, arith}
-use Rattle.lru_logs.specs.Logs.{of_fronts, Shows}
+use Rattle.lru_inbox.specs.Logs.{of_fronts, Shows}
 use Rattle.lru_inbox.specs.Inboxes.{shown}
 use Rattle.lru_inbox.proofs.Lists.{seen_before}
 use Rattle.lru_inbox.proofs.Kept.{learned}

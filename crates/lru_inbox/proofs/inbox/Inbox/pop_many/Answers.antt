@@ -1,7 +1,7 @@
 use Rattle.std.proofs.Common.{◌++◌, ◌<◌, ◌^◌, take, sym, ap, ◌∙◌, subst, arith, Some}
 use Rattle.std.specs.Prelude.{option_map}
-use Rattle.lru_hands.proofs.Hands.{some_same}
-use Rattle.lru_logs.specs.Logs.{log_of, taken_by}
+use Rattle.lru_short_locks.proofs.Hands.{some_same}
+use Rattle.lru_inbox.specs.Logs.{log_of, taken_by}
 use Rattle.lru_inbox.specs.Inboxes.{IsInbox, messages_of, taken_in}
 use Rattle.lru_inbox.proofs.Kept.{inbox_served, next_messages}
 use Rattle.lru_inbox.proofs.inbox.Inbox.pop_many.Goals as goal

@@ -1,6 +1,6 @@
 use Rattle.std.proofs.Common.{ap, sym, ◌∙◌, subst, arith, length}
-use Rattle.lru_hands.proofs.Hands.{some_same}
-use Rattle.lru_logs.specs.Logs.{log_of, accepted}
+use Rattle.lru_short_locks.proofs.Hands.{some_same}
+use Rattle.lru_inbox.specs.Logs.{log_of, accepted}
 use Rattle.lru_inbox.specs.Inboxes.{IsInbox}
 use Rattle.lru_inbox.proofs.Kept.{sends, inbox_put, put_open, numbered}
 use Rattle.lru_inbox.proofs.inbox.Inbox.send.Goals as goal

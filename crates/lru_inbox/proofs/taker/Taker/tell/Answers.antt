@@ -1,6 +1,6 @@
 use Rattle.std.proofs.Common.{◌≡◌, ◌∷◌, [], length, ap, sym, ◌∙◌, subst}
-use Rattle.lru_logs.specs.Logs.{front, of_fronts, taken_by}
-use Rattle.lru_hands.proofs.Hands.{some_same}
+use Rattle.lru_inbox.specs.Logs.{front, of_fronts, taken_by}
+use Rattle.lru_short_locks.proofs.Hands.{some_same}
 use Rattle.lru_shard.specs.Limits.{cap_of}
 use Rattle.lru_inbox.specs.Replies.{IsReply}
 use Rattle.lru_inbox.specs.Inboxes.{shown, taken_in}

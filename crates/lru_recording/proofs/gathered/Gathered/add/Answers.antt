@@ -7,7 +7,7 @@ use Rattle.lru_recording.specs.Stamps.{TurnsRise}
 use Rattle.lru_recording.proofs.Lists.{get_snoc}
 use Rattle.lru_recording.specs.Plain.{forget}
 use Rattle.lru_recording.specs.Histories.{lists_of, left_by, replies, answers, home, homes_from, shards_from}
-use Rattle.lru_hands.proofs.Hands.{map_snoc}
+use Rattle.lru_short_locks.proofs.Hands.{map_snoc}
 use Rattle.lru_recording.proofs.Records.{homes_snoc, shards_snoc, length_of_map}
 use Rattle.lru_recording.proofs.gathered.Gathered.add.Goals as goal
 

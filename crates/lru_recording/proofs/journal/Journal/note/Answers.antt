@@ -2,7 +2,7 @@ use Rattle.std.proofs.Common.{◌≡◌, ◌+◌, [], ◌∷◌, ◌++◌, lengt
 use Rattle.atomic_table.specs.Table.{Me}
 use Rattle.lru_recording.specs.declared.entry.Stamp.{Stamp}
 use Rattle.lru_recording.specs.declared.entry.Hand.{Hand}
-use Rattle.lru_hands.specs.Hands.{Among}
+use Rattle.lru_short_locks.specs.Hands.{Among}
 use Rattle.lru_recording.specs.Ties.{hand}
 use Rattle.lru_recording.specs.Stamps.{entry, receipt, stamp, slip, stamps_in, slips_in, TurnsRise}
 use Rattle.lru_recording.proofs.Lists.{stamps_snoc, slips_snoc, rises_on, came_before}

@@ -1,6 +1,6 @@
 use Rattle.std.proofs.Common.{◌≡◌, [], ◌∷◌, ◌++◌, ◌∙◌, map, refl, ap, subst}
 use Rattle.lru_recording.specs.Probes.{Adds, IsRound}
-use Rattle.lru_hands.proofs.Hands.{map_snoc}
+use Rattle.lru_short_locks.proofs.Hands.{map_snoc}
 use Rattle.lru_recording.proofs.Probing.{no_rounds, one_round, last_round, nothing_more}
 use Rattle.lru_recording.proofs.recorded.RecordedLru.evict_to_limit.Goals as goal
 

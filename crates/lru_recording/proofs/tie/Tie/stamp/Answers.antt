@@ -3,7 +3,7 @@ use mathlib.Core.Option.{some}
 use Rattle.atomic_table.specs.Table.{Me}
 use Rattle.lru_recording.specs.declared.entry.Stamp.{Stamp}
 use Rattle.lru_recording.specs.declared.entry.Hand.{Hand}
-use Rattle.lru_hands.specs.Hands.{Among}
+use Rattle.lru_short_locks.specs.Hands.{Among}
 use Rattle.lru_recording.specs.Ties.{stamped, hand, HasSlips}
 use Rattle.lru_recording.proofs.Moves.{splits, joins, stamps, cuts_lend, cuts_parts, together}
 use Rattle.lru_recording.proofs.tie.Tie.stamp.Goals as goal

@@ -1,6 +1,6 @@
 use Rattle.std.proofs.Common.{◌∙◌, ap}
 use Rattle.std.specs.Prelude.{is_some}
-use Rattle.lru_cache.specs.Cache.{entry_of}
+use Rattle.lru_owned_cache.specs.Cache.{entry_of}
 use Rattle.lru_segmented.specs.Segmented.{Segmented, entries}
 use Rattle.lru_segmented.proofs.Caches.{found_some}
 use Rattle.lru_segmented.proofs.segmented.SegmentedCache.contains_hashed.Goals as goal

@@ -1,6 +1,6 @@
 use Rattle.std.proofs.Common.{sym, ap, subst, ◌∙◌}
 use Rattle.std.specs.Prelude.{is_some}
-use Rattle.lru_cache.specs.Cache.{entry_of}
+use Rattle.lru_owned_cache.specs.Cache.{entry_of}
 use Rattle.lru_segmented.specs.Segmented.{Segmented, entries, demoted, IsSegmented}
 use Rattle.lru_segmented.proofs.Caches.{found_none, found_at, valid_cache, undemoted, kept_demoted, view_demoted, demoted_answer}
 use Rattle.lru_segmented.proofs.segmented.SegmentedCache.demote_hashed.Goals as goal

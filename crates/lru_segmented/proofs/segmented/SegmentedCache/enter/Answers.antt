@@ -1,6 +1,6 @@
 use Rattle.std.proofs.Common.{◌∙◌, sym, ap, subst, arith, length, ◌∷◌}
-use Rattle.lru_entries.specs.Entries.{entry, weight_of}
-use Rattle.lru_cache.specs.Cache.{entry_of}
+use Rattle.lru_owned_cache.specs.Entries.{entry, weight_of}
+use Rattle.lru_owned_cache.specs.Cache.{entry_of}
 use Rattle.lru_segmented.specs.Segmented.{Segmented, entries, with_more, LacksPlace}
 use Rattle.lru_segmented.specs.Representation.{segmented_in, IsKept}
 use Rattle.lru_segmented.proofs.Caches.{row_none, heavy, kept_entered, view_entered, lacks_place}

@@ -1,6 +1,6 @@
 use Rattle.std.proofs.Common.{ap, ◌∙◌}
 use Rattle.std.specs.Prelude.{map}
-use Rattle.lru_cache.specs.Cache.{parts_of}
+use Rattle.lru_owned_cache.specs.Cache.{parts_of}
 use Rattle.lru_segmented.specs.Segmented.{Segmented, entries}
 use Rattle.lru_segmented.proofs.Caches.{parts_are}
 use Rattle.lru_segmented.proofs.segmented.SegmentedCache.iter.Goals as goal

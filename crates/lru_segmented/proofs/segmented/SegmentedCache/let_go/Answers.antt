@@ -1,5 +1,5 @@
 use Rattle.std.proofs.Common.{of_calls, arith, sym}
-use Rattle.lru_entries.proofs.Shrunk.{both_le, not_both}
+use Rattle.lru_owned_cache.proofs.Shrunk.{both_le, not_both}
 use Rattle.lru_segmented.proofs.Receding.{none_gone, some_left, one_gone, fewer, all_gone}
 use Rattle.lru_segmented.proofs.segmented.SegmentedCache.let_go.Goals as goal
 

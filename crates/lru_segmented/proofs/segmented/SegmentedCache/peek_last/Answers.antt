@@ -1,6 +1,6 @@
 use Rattle.std.proofs.Common.{Some, None, subst}
-use Rattle.lru_entries.specs.Entries.{entry}
-use Rattle.lru_cache.specs.Cache.{IsLast}
+use Rattle.lru_owned_cache.specs.Entries.{entry}
+use Rattle.lru_owned_cache.specs.Cache.{IsLast}
 use Rattle.lru_segmented.specs.Segmented.{Segmented, entries}
 use Rattle.lru_segmented.proofs.Caches.{last_missing, last_at, last_shown}
 use Rattle.lru_segmented.proofs.segmented.SegmentedCache.peek_last.Goals as goal

@@ -1,5 +1,5 @@
 use Rattle.std.proofs.Common.{sym, subst, None, Some}
-use Rattle.lru_entries.specs.Entries.{entry}
+use Rattle.lru_owned_cache.specs.Entries.{entry}
 use Rattle.lru_segmented.specs.Segmented.{Segmented, IsSegmented, PopsFirst}
 use Rattle.lru_segmented.specs.Representation.{segmented_in}
 use Rattle.lru_segmented.proofs.Caches.{none_first, first_at, valid_cache, kept_out, view_popped_first}

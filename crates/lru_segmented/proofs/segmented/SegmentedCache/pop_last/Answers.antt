@@ -1,5 +1,5 @@
 use Rattle.std.proofs.Common.{sym, subst, None, Some}
-use Rattle.lru_entries.specs.Entries.{entry}
+use Rattle.lru_owned_cache.specs.Entries.{entry}
 use Rattle.lru_segmented.specs.Segmented.{Segmented, IsSegmented, PopsLast}
 use Rattle.lru_segmented.specs.Representation.{segmented_in}
 use Rattle.lru_segmented.proofs.Caches.{none_last, last_at, valid_cache, kept_out, view_popped}

@@ -1,5 +1,5 @@
 use Rattle.std.proofs.Common.{◌∙◌, sym, ap, subst, refl, true}
-use Rattle.lru_cache.specs.Cache.{entry_of}
+use Rattle.lru_owned_cache.specs.Cache.{entry_of}
 use Rattle.lru_segmented.specs.Segmented.{Segmented, entries, IsSegmented, Uses}
 use Rattle.lru_segmented.specs.Seats.{Lowers}
 use Rattle.lru_segmented.specs.Representation.{segmented_in}

@@ -1,6 +1,6 @@
 use Rattle.std.proofs.Common.{◌∙◌, sym, ap, length}
 use Rattle.lru_segmented.specs.Segmented.{Segmented}
-use Rattle.lru_entries.proofs.Rows.{length-entries}
+use Rattle.lru_owned_cache.proofs.Rows.{length-entries}
 use Rattle.lru_segmented.proofs.segmented.SegmentedCache.protected_len.Goals as goal
 
 pub returns : goal.returns

@@ -1,7 +1,7 @@
 use Rattle.std.proofs.Common.{◌∙◌, sym, ap}
-use Rattle.lru_entries.specs.Entries.{weight_of}
+use Rattle.lru_owned_cache.specs.Entries.{weight_of}
 use Rattle.lru_segmented.specs.Segmented.{Segmented}
-use Rattle.lru_entries.proofs.Rows.{weight-entries}
+use Rattle.lru_owned_cache.proofs.Rows.{weight-entries}
 use Rattle.lru_segmented.proofs.segmented.SegmentedCache.protected_weight.Goals as goal
 
 pub returns : goal.returns

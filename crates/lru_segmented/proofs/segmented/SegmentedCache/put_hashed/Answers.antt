@@ -1,6 +1,6 @@
 use Rattle.std.proofs.Common.{arith, sym, ap, ◌∙◌}
 use Rattle.lru_index.specs.Hashing.{key_hash}
-use Rattle.lru_segmented.proofs.Putting.{by_names, same_hashes, mid_light, mid_few, mid_absent, mid_placed, mid_short, puts_again, puts_new, puts_refused}
+use Rattle.lru_segmented.proofs.Put.{by_names, same_hashes, mid_light, mid_few, mid_absent, mid_placed, mid_short, puts_again, puts_new, puts_refused}
 use Rattle.lru_segmented.proofs.segmented.SegmentedCache.put_hashed.Goals as goal
 
 pub rejoin-requires-clause-hash : goal.rejoin-requires-clause-hash

@@ -1,6 +1,6 @@
 use Rattle.std.proofs.Common.{◌∙◌, ap, subst, arith, length}
-use Rattle.lru_entries.specs.Entries.{entry, weight_of}
-use Rattle.lru_cache.specs.Cache.{entry_of}
+use Rattle.lru_owned_cache.specs.Entries.{entry, weight_of}
+use Rattle.lru_owned_cache.specs.Cache.{entry_of}
 use Rattle.lru_segmented.specs.Segmented.{Segmented, entries, Rejoins}
 use Rattle.lru_segmented.specs.Seats.{Lowers}
 use Rattle.lru_segmented.specs.Representation.{segmented_in}

@@ -1,5 +1,5 @@
 use Rattle.std.proofs.Common.{◌∙◌, sym, ap, subst}
-use Rattle.lru_cache.specs.Cache.{entry_of}
+use Rattle.lru_owned_cache.specs.Cache.{entry_of}
 use Rattle.lru_segmented.specs.Segmented.{Segmented, entries, removed, IsSegmented}
 use Rattle.lru_segmented.proofs.Caches.{found_none, found_at, valid_cache, kept_out, out_entry, view_out}
 use Rattle.lru_segmented.proofs.Lists.{not_removed}

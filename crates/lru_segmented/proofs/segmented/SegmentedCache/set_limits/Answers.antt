@@ -1,6 +1,6 @@
 use Rattle.std.proofs.Common.{◌≡◌, List, sym, subst}
-use Rattle.lru_entries.specs.declared.entry.Entry.{Entry}
-use Rattle.lru_cache.specs.Cache.{Fit}
+use Rattle.lru_owned_cache.specs.declared.entry.Entry.{Entry}
+use Rattle.lru_owned_cache.specs.Cache.{Fit}
 use Rattle.lru_segmented.specs.Segmented.{Segmented, entries, with_segments, with_limits, Balances}
 use Rattle.lru_segmented.specs.Seats.{Lowers}
 use Rattle.lru_segmented.specs.Representation.{segmented_in}

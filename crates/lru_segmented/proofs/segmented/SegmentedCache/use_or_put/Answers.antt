@@ -1,5 +1,5 @@
 use Rattle.std.proofs.Common.{refl}
-use Rattle.lru_segmented.proofs.Putting.{used_new, used_refused}
+use Rattle.lru_segmented.proofs.Put.{used_new, used_refused}
 use Rattle.lru_segmented.proofs.segmented.SegmentedCache.use_or_put.Goals as goal
 
 pub returns-then-promote_hashed : goal.returns-then-promote_hashed

@@ -1,5 +1,5 @@
 use Rattle.std.proofs.Common.{◌∙◌, sym, ap}
-use Rattle.lru_entries.specs.Entries.{weight_of}
+use Rattle.lru_owned_cache.specs.Entries.{weight_of}
 use Rattle.lru_segmented.specs.Segmented.{Segmented, entries}
 use Rattle.lru_segmented.proofs.Caches.{heavy}
 use Rattle.lru_segmented.proofs.segmented.SegmentedCache.weight.Goals as goal

@@ -1,6 +1,6 @@
 use Rattle.std.proofs.Common.{subst}
-use Rattle.lru_shared.specs.Shards.{Owns}
-use Rattle.lru_shared.specs.Counting.{ClearsShard}
+use Rattle.lru_shared_cache.specs.Shards.{Owns}
+use Rattle.lru_shared_cache.specs.Counting.{ClearsShard}
 use Rattle.lru_shared_deadlines.proofs.sharded.ShardedDeadlineCache.clear_shard.Goals as goal
 
 pub returns-clause-acts : goal.returns-clause-acts

@@ -1,6 +1,6 @@
 use Rattle.std.proofs.Common.{◌≡◌, is_some, subst}
 use Rattle.lru_index.specs.Hashing.{key_hash}
-use Rattle.lru_shared.specs.Shards.{home, Sees}
+use Rattle.lru_shared_cache.specs.Shards.{home, Sees}
 use Rattle.lru_deadlines.specs.Deadlines.{living}
 use Rattle.lru_shared_deadlines.proofs.sharded.ShardedDeadlineCache.contains.Goals as goal
 

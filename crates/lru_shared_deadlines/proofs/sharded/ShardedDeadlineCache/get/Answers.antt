@@ -1,6 +1,6 @@
 use Rattle.std.proofs.Common.{subst}
 use Rattle.lru_index.specs.Hashing.{key_hash}
-use Rattle.lru_shared.specs.Shards.{home, Owns}
+use Rattle.lru_shared_cache.specs.Shards.{home, Owns}
 use Rattle.lru_shared_deadlines.specs.Ages.{moment}
 use Rattle.lru_shared_deadlines.specs.Calls.{Gets}
 use Rattle.lru_shared_deadlines.proofs.sharded.ShardedDeadlineCache.get.Goals as goal

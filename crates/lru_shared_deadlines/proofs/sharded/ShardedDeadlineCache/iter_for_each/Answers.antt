@@ -1,5 +1,5 @@
 use Rattle.std.proofs.Common.{subst}
-use Rattle.lru_shared.specs.Shards.{Sees}
+use Rattle.lru_shared_cache.specs.Shards.{Sees}
 use Rattle.lru_shared_deadlines.specs.Calls.{VisitsEach}
 use Rattle.lru_shared_deadlines.proofs.sharded.ShardedDeadlineCache.iter_for_each.Goals as goal
 

@@ -1,6 +1,6 @@
 use Rattle.std.proofs.Common.{subst}
 use Rattle.lru_index.specs.Hashing.{key_hash}
-use Rattle.lru_shared.specs.Shards.{home, Sees}
+use Rattle.lru_shared_cache.specs.Shards.{home, Sees}
 use Rattle.lru_shared_deadlines.specs.Calls.{ShowsLiving}
 use Rattle.lru_shared_deadlines.proofs.sharded.ShardedDeadlineCache.peek_with.Goals as goal
 

@@ -1,6 +1,6 @@
 use Rattle.std.proofs.Common.{subst}
-use Rattle.lru_shared.specs.Calls.{RetainsShard}
-use Rattle.lru_shared.specs.Shards.{Owns}
+use Rattle.lru_shared_cache.specs.Calls.{RetainsShard}
+use Rattle.lru_shared_cache.specs.Shards.{Owns}
 use Rattle.lru_shared_deadlines.proofs.sharded.ShardedDeadlineCache.retain_shard.Goals as goal
 
 pub returns-clause-acts : goal.returns-clause-acts

@@ -1,6 +1,6 @@
 use Rattle.std.proofs.Common.{◌≡◌, subst}
-use Rattle.lru_shared.specs.Shards.{Sees}
-use Rattle.lru_entries.specs.Entries.{weight_of}
+use Rattle.lru_shared_cache.specs.Shards.{Sees}
+use Rattle.lru_owned_cache.specs.Entries.{weight_of}
 use Rattle.lru_shared_deadlines.proofs.sharded.ShardedDeadlineCache.shard_weight.Goals as goal
 
 pub returns : goal.returns

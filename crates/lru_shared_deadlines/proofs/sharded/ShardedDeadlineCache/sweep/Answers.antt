@@ -1,5 +1,5 @@
 use Rattle.std.proofs.Common.{subst}
-use Rattle.lru_shared.specs.Shards.{Owns}
+use Rattle.lru_shared_cache.specs.Shards.{Owns}
 use Rattle.lru_shared_deadlines.specs.Calls.{SweepsShard}
 use Rattle.lru_shared_deadlines.proofs.sharded.ShardedDeadlineCache.sweep.Goals as goal
 

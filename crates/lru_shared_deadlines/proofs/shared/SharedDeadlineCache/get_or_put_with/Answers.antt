@@ -1,16 +1,14 @@
 use Rattle.std.proofs.Common.{subst}
-use Rattle.lru_shared.specs.Shards.{MayDo}
+use Rattle.lru_shared_cache.specs.Shards.{MayDo}
 use Rattle.lru_shared_deadlines.specs.Calls.{GetsOrPuts}
 use Rattle.lru_shared_deadlines.proofs.Made.{gets_seen, hands_back}
 use Rattle.lru_shared_deadlines.proofs.shared.SharedDeadlineCache.get_or_put_with.Goals as goal
 
 pub returns-clause-gets : goal.returns-clause-gets
-returns-clause-gets g c = (
-  c.args.self.now.ages,
-  subst (λ m. GetsOrPuts {S = g.row.S.Denot} (Unit {0}) g.K.PartialEq.eq g.V.Clone.is_clone (goal.M-post g c.args.make) (λ p x q. goal.F-step g p x tt q) c.args.visit (λ old P new. MayDo P) m c.args.key tt c.get_or_put_with.result tt) c.at-moment.ensures
-      (gets_seen (Unit {0}) g.K.PartialEq.eq g.V.Clone.is_clone (goal.M-post g c.args.make) (λ p x q. goal.F-step g p x tt q) c.args.visit c.at-moment.result c.args.key (λ s. tt)
-      (λ old P new. MayDo P) (λ P Q more s t d. (d.0, (d.1.0, more d.0 d.1.0 d.1.1))) c.get_or_put_with.new.shards c.get_or_put_with.new.shards c.get_or_put_with.result c.get_or_put_with.ensures.acts),
-)
+returns-clause-gets g c =
+    subst (λ m. GetsOrPuts {S = g.row.S.Denot} (Unit {0}) g.K.PartialEq.eq g.V.Clone.is_clone (goal.M-post g c.args.make) (λ p x q. goal.F-step g p x tt q) c.args.visit (λ old P new. MayDo P) m c.args.key tt c.get_or_put_with.result tt) c.at-moment.ensures
+    (gets_seen (Unit {0}) g.K.PartialEq.eq g.V.Clone.is_clone (goal.M-post g c.args.make) (λ p x q. goal.F-step g p x tt q) c.args.visit c.at-moment.result c.args.key (λ s. tt)
+    (λ old P new. MayDo P) (λ P Q more s t d. (d.0, (d.1.0, more d.0 d.1.0 d.1.1))) c.get_or_put_with.new.shards c.get_or_put_with.new.shards c.get_or_put_with.result c.get_or_put_with.ensures.acts)
 
 pub returns-clause-refused : goal.returns-clause-refused
 returns-clause-refused g c = hands_back _ _ (Unit {0}) g.K.PartialEq.eq g.V.Clone.is_clone (goal.M-post g c.args.make) (λ p x q. goal.F-step g p x tt q) c.args.visit c.at-moment.result c.args.key c.get_or_put_with.new.shards c.get_or_put_with.new.shards c.get_or_put_with.result c.get_or_put_with.ensures.acts

@@ -1,6 +1,6 @@
 use Rattle.std.proofs.Common.{subst}
 use Rattle.lru_shared_segmented.specs.Calls.{ClearsShard}
-use Rattle.lru_shared.specs.Shards.{Owns}
+use Rattle.lru_shared_cache.specs.Shards.{Owns}
 use Rattle.lru_shared_segmented.proofs.sharded.ShardedSegmentedCache.clear_shard.Goals as goal
 
 pub returns-clause-acts : goal.returns-clause-acts

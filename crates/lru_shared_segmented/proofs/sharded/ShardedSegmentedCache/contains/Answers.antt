@@ -1,8 +1,8 @@
 use Rattle.std.proofs.Common.{◌≡◌, is_some, subst}
 use Rattle.lru_index.specs.Hashing.{key_hash}
-use Rattle.lru_cache.specs.Cache.{entry_of}
+use Rattle.lru_owned_cache.specs.Cache.{entry_of}
 use Rattle.lru_segmented.specs.Segmented.{entries}
-use Rattle.lru_shared.specs.Shards.{home, Sees}
+use Rattle.lru_shared_cache.specs.Shards.{home, Sees}
 use Rattle.lru_shared_segmented.proofs.sharded.ShardedSegmentedCache.contains.Goals as goal
 
 pub returns : goal.returns

@@ -1,6 +1,6 @@
 use Rattle.std.proofs.Common.{length, subst}
 use Rattle.lru_index.specs.Hashing.{key_hash}
-use Rattle.lru_shared.specs.Shards.{home, Owns}
+use Rattle.lru_shared_cache.specs.Shards.{home, Owns}
 use Rattle.lru_shared_segmented.specs.Making.{GetsOrPuts}
 use Rattle.lru_shared_segmented.proofs.Made.{gets_seen}
 use Rattle.lru_shared_segmented.proofs.sharded.ShardedSegmentedCache.get_or_put_with.Goals as goal

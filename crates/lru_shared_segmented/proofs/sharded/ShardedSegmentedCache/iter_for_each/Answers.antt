@@ -1,7 +1,7 @@
 use Rattle.std.proofs.Common.{subst}
 use Rattle.lru_segmented.specs.Segmented.{entries}
-use Rattle.lru_shared.specs.Shards.{Sees}
-use Rattle.lru_shared.specs.Calls.{VisitsEach}
+use Rattle.lru_shared_cache.specs.Shards.{Sees}
+use Rattle.lru_shared_cache.specs.Calls.{VisitsEach}
 use Rattle.lru_shared_segmented.proofs.sharded.ShardedSegmentedCache.iter_for_each.Goals as goal
 
 pub returns : goal.returns

@@ -1,8 +1,8 @@
 use Rattle.std.proofs.Common.{subst}
 use Rattle.lru_index.specs.Hashing.{key_hash}
-use Rattle.lru_shared.specs.Calls.{ShowsEntry}
+use Rattle.lru_shared_cache.specs.Calls.{ShowsEntry}
 use Rattle.lru_segmented.specs.Segmented.{entries}
-use Rattle.lru_shared.specs.Shards.{home, Sees}
+use Rattle.lru_shared_cache.specs.Shards.{home, Sees}
 use Rattle.lru_shared_segmented.proofs.sharded.ShardedSegmentedCache.peek_with.Goals as goal
 
 pub returns : goal.returns

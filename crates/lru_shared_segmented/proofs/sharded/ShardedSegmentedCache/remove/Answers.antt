@@ -1,7 +1,7 @@
 use Rattle.std.proofs.Common.{subst}
 use Rattle.lru_index.specs.Hashing.{key_hash}
 use Rattle.lru_shared_segmented.specs.Calls.{Takes}
-use Rattle.lru_shared.specs.Shards.{home, Owns}
+use Rattle.lru_shared_cache.specs.Shards.{home, Owns}
 use Rattle.lru_shared_segmented.proofs.sharded.ShardedSegmentedCache.remove.Goals as goal
 
 pub returns-clause-acts : goal.returns-clause-acts

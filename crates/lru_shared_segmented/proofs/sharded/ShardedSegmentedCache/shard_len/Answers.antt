@@ -1,6 +1,6 @@
 use Rattle.std.proofs.Common.{◌≡◌, length, subst}
 use Rattle.lru_segmented.specs.Segmented.{entries}
-use Rattle.lru_shared.specs.Shards.{Sees}
+use Rattle.lru_shared_cache.specs.Shards.{Sees}
 use Rattle.lru_shared_segmented.proofs.sharded.ShardedSegmentedCache.shard_len.Goals as goal
 
 pub returns : goal.returns

@@ -1,7 +1,7 @@
 use Rattle.std.proofs.Common.{◌≡◌, subst}
-use Rattle.lru_entries.specs.Entries.{weight_of}
+use Rattle.lru_owned_cache.specs.Entries.{weight_of}
 use Rattle.lru_segmented.specs.Segmented.{entries}
-use Rattle.lru_shared.specs.Shards.{Sees}
+use Rattle.lru_shared_cache.specs.Shards.{Sees}
 use Rattle.lru_shared_segmented.proofs.sharded.ShardedSegmentedCache.shard_weight.Goals as goal
 
 pub returns : goal.returns

@@ -1,4 +1,4 @@
-use Rattle.lru_shared.specs.Shards.{MayDo}
+use Rattle.lru_shared_cache.specs.Shards.{MayDo}
 use Rattle.lru_shared_segmented.proofs.Made.{gets_seen, hands_back}
 use Rattle.lru_shared_segmented.proofs.shared.SharedSegmentedCache.get_or_put_with.Goals as goal
 

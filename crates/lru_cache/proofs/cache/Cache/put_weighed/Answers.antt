@@ -1,5 +1,0 @@
-use Rattle.lru_cache.proofs.Reweighed.{weighed}
-use Rattle.lru_cache.proofs.cache.Cache.put_weighed.Goals as goal
-
-pub returns : goal.returns
-returns g c = (c.weigh-weight.result, (weighed _ _ c.weigh-weight.ensures, c.put.ensures))

@@ -1,5 +1,0 @@
-use Rattle.lru_cache.proofs.Views.{weighs}
-use Rattle.lru_cache.proofs.cache.Cache.weight.Goals as goal
-
-pub returns : goal.returns
-returns g c = weighs g.K.PartialEq.eq c.self.inside.rows.held c.self.inside.rows.hashes c.self.inside.weight c.self.inside.most_weight c.self.inside.most_entries c.self.invariant c.args.self.now c.self.view_is

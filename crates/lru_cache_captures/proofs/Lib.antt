@@ -1,3 +1,0 @@
-mod Restored
-pub mod ComesBack
-mod RestoredAges

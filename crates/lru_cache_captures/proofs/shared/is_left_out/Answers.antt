@@ -1,5 +1,0 @@
-use Rattle.lru_cache_captures.proofs.Restored.{may_put}
-use Rattle.lru_cache_captures.proofs.shared.is_left_out.Goals as goal
-
-pub returns-in-Ok : goal.returns-in-Ok
-returns-in-Ok g c = may_put (λ key value. Unit {0}) g.K.PartialEq.eq c.args.row _ _ c.in-Ok.field-0 c.in-Ok.ensures.puts

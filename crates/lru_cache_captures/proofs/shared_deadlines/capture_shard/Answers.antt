@@ -1,5 +1,0 @@
-use Rattle.lru_cache_captures.proofs.RestoredAges.{may_copy}
-use Rattle.lru_cache_captures.proofs.shared_deadlines.capture_shard.Goals as goal
-
-pub returns : goal.returns
-returns g c = may_copy g.K.Clone.is_clone g.V.Clone.is_clone c.cache.result.now _ c.capture_ages.ensures

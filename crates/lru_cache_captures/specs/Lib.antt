@@ -1,3 +1,0 @@
-pub mod Captures
-pub mod Deadlines
-pub mod Ages

@@ -1,0 +1,3 @@
+mod Restoring
+pub mod ComesBack
+mod RestoredAges

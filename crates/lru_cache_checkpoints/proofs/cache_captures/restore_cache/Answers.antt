@@ -1,0 +1,33 @@
+use Rattle.std.proofs.Common.{inr, Err, ◌∙◌, sym, ap, length, subst, arith}
+use Rattle.std.proofs.lemmas.Result.{err_from_is_err_and}
+use Rattle.std.specs.Vec.Iter.{into_iter_items}
+use Rattle.lru_cache_checkpoints.specs.Captures.{PutsEntries}
+use Rattle.lru_cache_checkpoints.proofs.Restoring.{left_more, put_more}
+use Rattle.lru_cache_checkpoints.proofs.cache_captures.restore_cache.Goals as goal
+
+pub loop-row-preserved-then-is_out : goal.loop-row-preserved-then-is_out
+loop-row-preserved-then-is_out g c =
+    let inv = c.loop-row.invariant in
+    let items = c.in-Some.ensures.items in (
+      λ answer new puts. inv.0 answer new
+          (subst (λ rows. PutsEntries g.K.PartialEq.eq c.loop-row.cache rows c.loop-row.left_out answer new) (sym items)
+          (left_more g.K.PartialEq.eq c.loop-row.cache c.is_left_out.new.cache c.in-Some.row (into_iter_items c.next.new.self) c.loop-row.left_out answer new c.in_ok-is_out.is_out c.if-is_out.true c.in_ok-is_out.ensures puts)),
+      (omega (arith, inv.1.0, ap length items, c.in-Some.ensures.cases.1), omega (arith, inv.1.1, ap length items)),
+    )
+
+pub loop-row-preserved : goal.loop-row-preserved
+loop-row-preserved g c =
+    let inv = c.loop-row.invariant in
+    let items = c.in-Some.ensures.items in (
+      λ answer new puts. inv.0 answer new
+          (subst (λ rows. PutsEntries g.K.PartialEq.eq c.loop-row.cache rows c.loop-row.left_out answer new) (sym items)
+          (put_more g.K.PartialEq.eq c.loop-row.cache c.is_left_out.new.cache c.in-Some.row (into_iter_items c.next.new.self) c.loop-row.left_out answer new c.in_ok-is_out.is_out c.if-is_out.false c.in_ok-is_out.ensures puts)),
+      (omega (arith, inv.1.0, ap length items, c.in-Some.ensures.cases.1), omega (arith, inv.1.1, ap length items)),
+    )
+
+pub returns-in_err-is_out : goal.returns-in_err-is_out
+returns-in_err-is_out g c =
+    let inv = c.loop-row.invariant in
+    let told = err_from_is_err_and c.from_residual.result c.from_residual.ensures.1 in
+    inv.0 c.from_residual.result c.is_left_out.new.cache
+    (subst (λ rows. PutsEntries g.K.PartialEq.eq c.loop-row.cache rows c.loop-row.left_out c.from_residual.result c.is_left_out.new.cache) (sym c.in-Some.ensures.items) (inr (c.in_err-is_out.field-0.0, (told.1 ∙ ap Err told.2, c.in_err-is_out.ensures))))

@@ -1,0 +1,17 @@
+use Rattle.std.proofs.Common.{◌≡◌, ℕ, length}
+use Rattle.std.specs.Prelude.{Result}
+use Rattle.std.specs.Vec.Iter.{into_iter_items, into_iter_len}
+use Rattle.lru_owned_cache.specs.declared.cache.Refused.{Refused}
+use Rattle.lru_deadlines.specs.declared.deadlines.Until.{Until}
+use Rattle.lru_shared_deadlines.specs.declared.ages.Aged.{Aged}
+use Rattle.lru_cache_checkpoints.specs.CapturedAges.{MayPutAged}
+use Rattle.lru_cache_checkpoints.proofs.shared_deadline_captures.restore_shards.Given as goal
+
+-- the shards that are to be put yet are put behind those that were
+abbrev pub invariant-loop-rows : goal.invariant-loop-rows
+invariant-loop-rows g l =
+    ((answer : Result ℕ (Refused g.row.K.Denot (Until (Aged g.row.V.Denot)))) → MayPutAged g.K.PartialEq.eq (into_iter_items l.rest) l.left_out answer → MayPutAged g.K.PartialEq.eq l.fn.shards.items 0 answer)
+    × (length (into_iter_items l.rest) ≡ into_iter_len l.rest)
+
+abbrev pub decreases-loop-rows : goal.decreases-loop-rows
+decreases-loop-rows g l = length (into_iter_items l.rest)

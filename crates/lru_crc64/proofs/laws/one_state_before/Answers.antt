@@ -1,8 +1,0 @@
-use Rattle.lru_crc64.proofs.CrcLaws.{one_before, same_start}
-use Rattle.lru_crc64.proofs.laws.one_state_before.Goals as goal
-
-pub returns-clause-byte : goal.returns-clause-byte
-returns-clause-byte c = one_before
-
-pub returns-clause-bytes : goal.returns-clause-bytes
-returns-clause-bytes c = λ state other bytes. same_start bytes state other

@@ -1,6 +1,0 @@
-use Rattle.std.proofs.Common.{rules}
-use Rattle.lru_crc64.proofs.CrcLaws.{step_by_table}
-use Rattle.lru_crc64.proofs.words.stepped.Goals as goal
-
-pub returns : goal.returns
-returns c = step_by_table c.args.state c.args.byte c.near_entry.result (search rules) (search rules)

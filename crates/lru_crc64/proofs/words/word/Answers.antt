@@ -1,6 +1,0 @@
-use Rattle.std.proofs.Common.{rules}
-use Rattle.lru_crc64.proofs.CrcLaws.{fold-word}
-use Rattle.lru_crc64.proofs.words.word.Goals as goal
-
-pub returns : goal.returns
-returns c = λ state. fold-word c.args.bytes.now state c.from_le_bytes.result c.requires (search rules) (search rules) (search rules)

@@ -1,3 +1,0 @@
-pub mod Crc
-pub mod Lanes
-pub mod Windows

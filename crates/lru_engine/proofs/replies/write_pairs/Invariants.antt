@@ -1,9 +1,0 @@
-use Rattle.std.proofs.Common.{◌≡◌, ◌++◌, ◌∷◌, [], List, ℕ, drop}
-use Rattle.std.specs.Io.KnownBytes.{Appends}
-use Rattle.lru_engine.specs.Replies.{rows_text, pairs_text}
-use Rattle.lru_engine.proofs.replies.write_pairs.Given as goal
-
--- what is written so far, and what is still to be
-abbrev pub invariant-loop-data : goal.invariant-loop-data
-invariant-loop-data g l =
-    (done : List ℕ) × (Appends (g.W.Write.contents l.fn.writer) (g.W.Write.contents l.writer) done × (done ++ (pairs_text (drop l.data-index l.pairs) ++ 10 ∷ []) ≡ rows_text l.pairs))

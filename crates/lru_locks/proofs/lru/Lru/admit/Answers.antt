@@ -1,4 +1,0 @@
-use Rattle.lru_locks.proofs.lru.Lru.admit.Goals as goal
-
-pub returns-clause-shard : goal.returns-clause-shard
-returns-clause-shard g c = c.shard_of-shard.ensures.value

@@ -1,6 +1,0 @@
-use Rattle.lru_locks.proofs.lru.Lru.insert_tail.Goals as goal
-
-pub returns-clause-row : goal.returns-clause-row
-returns-clause-row g c =
-    let locked = c.deref_mut.result.now in
-    (locked.unit, (c.insert_tail-answer.new.self.unit, (locked.capped, c.insert_tail-answer.ensures)))

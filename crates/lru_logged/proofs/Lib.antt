@@ -1,2 +1,0 @@
-pub mod Logged
-mod Ends

@@ -1,4 +1,0 @@
-pub mod Logged
-pub mod Orders
-pub mod Accounts
-pub mod AccountedOrders

@@ -1,6 +1,0 @@
-use Rattle.std.proofs.Common.{arith}
-use Rattle.lru_logs.proofs.Moves.{joins}
-use Rattle.lru_logs.proofs.tie.Tie.join.Goals as goal
-
-pub join_seat-requires : goal.join_seat-requires
-join_seat-requires g c = let o = c.args.self.now.one in (c.requires.ids.0, c.requires.ids.1, c.requires.free.1, omega (arith, o), joins _ _ _ _)

@@ -1,6 +1,0 @@
-use Rattle.std.proofs.Common.{arith}
-use Rattle.lru_logs.proofs.Moves.{splits, cuts_taker}
-use Rattle.lru_logs.proofs.tie.Tie.next_taker.Goals as goal
-
-pub split_seat-requires : goal.split_seat-requires
-split_seat-requires g c = let o = c.args.self.now.one in (c.requires.id, omega (arith, o), splits _ _ _ _ (cuts_taker _))

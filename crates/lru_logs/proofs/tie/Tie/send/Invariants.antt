@@ -1,5 +1,0 @@
-use Rattle.std.proofs.Common.{[], ◌∷◌}
-use Rattle.lru_logs.proofs.tie.Tie.send.Given as goal
-
-abbrev pub ghosts-send_said : goal.ghosts-send_said
-ghosts-send_said g a = record { said = a.said.now ∷ [] }

@@ -1,4 +1,0 @@
-use Rattle.lru_logs.proofs.tie.Tie.show.Given as goal
-
-abbrev pub ghosts-show_counted : goal.ghosts-show_counted
-ghosts-show_counted g a = record { count = a.count }

@@ -1,4 +1,0 @@
-use Rattle.lru_mail_tests.proofs.ledgers.is_row_told.Given as goal
-
-abbrev pub ghosts-row_of_one : goal.ghosts-row_of_one
-ghosts-row_of_one g a = record { puts = a.blanks.puts.tie.table.shared.table_id; takes = a.blanks.takes.tie.table.shared.table_id; putters = 1; takers = 1 }

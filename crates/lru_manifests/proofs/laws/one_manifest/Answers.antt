@@ -1,5 +1,0 @@
-use Rattle.lru_manifests.proofs.ManifestLaws.{one_manifest}
-use Rattle.lru_manifests.proofs.laws.one_manifest.Goals as goal
-
-pub returns : goal.returns
-returns c = one_manifest

@@ -1,4 +1,0 @@
-use Rattle.lru_operations.proofs.checking.check.Goals as goal
-
-pub returns-in-Ok-clause-outcome : goal.returns-in-Ok-clause-outcome
-returns-in-Ok-clause-outcome g c k = (c.in-Ok.ensures.all k, c.in-Ok.ensures.told k)

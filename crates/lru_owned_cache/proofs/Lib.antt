@@ -1,0 +1,16 @@
+pub mod Entries
+pub mod Views
+pub mod Placing
+pub mod Putting
+pub mod Retained
+pub mod Drained
+pub mod Settled
+pub mod Reweighed
+pub mod Queried
+pub mod Fresh
+pub mod Rows
+pub mod Lists
+pub mod Shrunk
+pub mod PutBack
+pub mod RetainedEntries
+pub mod DrainedEntries

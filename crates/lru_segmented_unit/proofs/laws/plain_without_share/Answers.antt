@@ -1,5 +1,0 @@
-use Rattle.lru_segmented_unit.proofs.AsRows.{is_plain}
-use Rattle.lru_segmented_unit.proofs.laws.plain_without_share.Goals as goal
-
-pub returns : goal.returns
-returns g c = is_plain

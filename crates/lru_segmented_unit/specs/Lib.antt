@@ -1,2 +1,0 @@
-pub mod SegmentedUnit
-pub mod Laws

@@ -1,7 +1,0 @@
-pub mod Answered
-pub mod Begun
-pub mod Keeping
-pub mod Parted
-pub mod MayBe
-pub mod Popped
-pub mod Turned

@@ -1,5 +1,0 @@
-use Rattle.lru_shared.proofs.Keeping.{keeps_pops}
-use Rattle.lru_shared.proofs.related.RelatedShardKept.pop_last.Goals as goal
-
-pub invariant_of-self : goal.invariant_of-self
-invariant_of-self g c = record { related = keeps_pops g.Rel.Relation.holds _ c.pop_last.result _ c.pop_last.ensures c.args.self.now.related }

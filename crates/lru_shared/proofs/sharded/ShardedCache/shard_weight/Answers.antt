@@ -1,7 +1,0 @@
-use Rattle.std.proofs.Common.{◌≡◌, subst}
-use Rattle.lru_entries.specs.Entries.{weight_of}
-use Rattle.lru_shared.specs.Shards.{Sees}
-use Rattle.lru_shared.proofs.sharded.ShardedCache.shard_weight.Goals as goal
-
-pub returns : goal.returns
-returns g c = subst (λ x. Sees x.shards c.args.shard (λ shard. c.shard_weight.result ≡ weight_of shard.cache.entries)) c.self.view_is c.shard_weight.ensures

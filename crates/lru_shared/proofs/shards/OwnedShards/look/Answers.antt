@@ -1,5 +1,0 @@
-use Rattle.std.proofs.Common.{refl, sym}
-use Rattle.lru_shared.proofs.shards.OwnedShards.look.Goals as goal
-
-pub returns : goal.returns
-returns g c = (c.index.result.now, (sym c.index.ensures, record { lent = _; shows = refl; called = c.look.ensures }))

@@ -1,0 +1,7 @@
+use Rattle.std.proofs.Common.{◌≡◌, subst}
+use Rattle.lru_owned_cache.specs.Entries.{weight_of}
+use Rattle.lru_shared_cache.specs.Shards.{Sees}
+use Rattle.lru_shared_cache.proofs.sharded.ShardedCache.shard_weight.Goals as goal
+
+pub returns : goal.returns
+returns g c = subst (λ x. Sees x.shards c.args.shard (λ shard. c.shard_weight.result ≡ weight_of shard.cache.entries)) c.self.view_is c.shard_weight.ensures

@@ -1,0 +1,8 @@
+pub mod LruCaps
+pub mod Homes
+pub mod Units
+pub mod Sheds
+pub mod Passed
+pub mod Answered
+mod InTurn
+mod Seen

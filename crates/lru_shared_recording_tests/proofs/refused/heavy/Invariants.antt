@@ -1,4 +1,0 @@
-use Rattle.lru_shared_recording_tests.proofs.refused.heavy.Given as goal
-
-abbrev pub ghosts-refused_for_weight : goal.ghosts-refused_for_weight
-ghosts-refused_for_weight g a = record { table = a.blank.tie.table.shared.table_id; seats = 1 }

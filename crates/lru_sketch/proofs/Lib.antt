@@ -1,4 +1,0 @@
-pub mod Packed
-pub mod Estimates
-pub mod Runs
-pub mod Kept

@@ -1,7 +1,0 @@
-use Rattle.std.proofs.Common.{refl}
-use Rattle.lru_sketch.specs.Sketch.{mixed}
-use Rattle.lru_sketch.proofs.counters.mix.Goals as goal
-
-pub returns : goal.returns
-unfolding mixed
-returns c = refl

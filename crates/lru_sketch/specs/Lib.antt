@@ -1,3 +1,0 @@
-pub mod Sketch
-pub mod Laws
-pub mod Representation

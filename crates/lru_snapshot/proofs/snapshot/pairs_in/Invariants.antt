@@ -1,7 +1,0 @@
-use Rattle.std.proofs.Common.{◌≡◌, take}
-use Rattle.std.specs.Prelude.{map}
-use Rattle.lru_snapshot.specs.Snapshot.{pair_in}
-use Rattle.lru_snapshot.proofs.snapshot.pairs_in.Given as goal
-
-abbrev pub invariant-loop-record : goal.invariant-loop-record
-invariant-loop-record l = l.pairs.items ≡ map pair_in (take l.record-index l.records)

@@ -1,6 +1,0 @@
-use Rattle.lru_snapshot.proofs.SnapshotPuts.{ArePut}
-use Rattle.lru_snapshot.proofs.snapshot.put_last.Given as goal
-
--- the rows put so far stand last
-abbrev pub invariant-loop-put : goal.invariant-loop-put
-invariant-loop-put g l = ArePut l.fn.core l.shard l.pairs l.put l.core

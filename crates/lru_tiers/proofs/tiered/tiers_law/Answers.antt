@@ -1,5 +1,0 @@
-use Rattle.lru_tiers.proofs.Counting.{accounted}
-use Rattle.lru_tiers.proofs.tiered.tiers_law.Goals as goal
-
-pub returns : goal.returns
-returns g c n old new events is run = accounted n old is events new run

@@ -1,3 +1,0 @@
-pub mod Tiers
-pub mod TierCalls
-pub mod TierRuns

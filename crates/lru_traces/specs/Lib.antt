@@ -1,5 +1,0 @@
-pub mod Traces
-pub mod Representation
-pub mod TraceLines
-pub mod Numbers
-pub mod Limits

@@ -1,3 +1,0 @@
-pub mod Touched
-pub mod Replaced
-pub mod Removed

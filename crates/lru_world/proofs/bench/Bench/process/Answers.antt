@@ -1,8 +1,0 @@
-use Rattle.lru_world.specs.Seats.{slips_at}
-use Rattle.lru_world.proofs.Apart.{all_inside_hold}
-use Rattle.lru_world.proofs.Slips.{none_added}
-use Rattle.lru_world.proofs.bench.Bench.process.Goals as goal
-
-pub returns-then-all_stay_inside-clause-slips : goal.returns-then-all_stay_inside-clause-slips
-returns-then-all_stay_inside-clause-slips g c = λ _.
-    none_added c.args.state.now.shard.rows c.args.self.now.batch.items c.batch_inside.new.self.effects.items (slips_at c.args.seat.now) (all_inside_hold c.args.self.now.batch.items (c.all_stay_inside.ensures c.if-all_stay_inside.true))
