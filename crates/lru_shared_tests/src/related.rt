@@ -1,5 +1,5 @@
 //! A cache whose type says which value each key has: what comes out of it is right for its key, whoever put it there.
-ghost use Rattle.std.specs.Prelude.{◌≡◌, ◌*◌, ◌<◌, ◌^◌, IfSome};
+ghost use Rattle.std.specs.Prelude.{◌≡◌, ◌*◌, ◌/◌, ◌<◌, ◌^◌, IfSome};
 
 use lru_index::hashing::SeededHashes;
 use lru_owned_cache::cache::Entry;
@@ -57,14 +57,21 @@ fn twice_made(rt: &impl Wait, cache: &Doubles, number: u64) -> Option<u64>
 fn halved(rt: &impl Wait, cache: &Doubles, number: u64) -> Option<u64>
     ensures { IfSome result (λ half. half ≡ number) }
 {
-    cache.peek_with(rt, &number, |value: &u64| *value / 2)
+    let show = |value: &u64| -> u64
+        ensures { result ≡ value.now / 2 }
+    { *value / 2 };
+    cache.peek_with(rt, &number, show)
 }
 
 // A key's value, which is used by that and lent.
 fn used(rt: &impl Wait, cache: &Doubles, number: u64) -> Option<u64>
     ensures { IfSome result (λ value. value ≡ 2 * number) }
 {
-    cache.get_with(rt, &number, |value: &mut u64, _weight: usize| *value)
+    let show = |value: &mut u64, _weight: usize| -> u64
+        ensures shown { result ≡ value.old }
+        ensures stays { value.new ≡ value.old }
+    { *value };
+    cache.get_with(rt, &number, show)
 }
 
 // The entry of a shard that was used longest ago: its value is twice its key.
