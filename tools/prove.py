@@ -26,6 +26,7 @@ w+=['--antt-project',f'{KIT}/rattle/logic/antt-project.json','--logic-built',f'{
 os.makedirs(f'{out}/{crate}',exist_ok=True)
 if kind=='lib': w+=['--jobs','1','--statements','-o',f'{out}/{crate}/{crate}.rlib','--empty-contracts']
 elif kind=='test': w+=['--test','--jobs','1','--toolchain',f'{KIT}/toolchain','--backend','llvm','-o',f'{out}/{crate}/{crate}_tests.o','--empty-contracts']
+elif kind=='static': w[1]='build'; w+=['--jobs','1','--crate-type','staticlib','--toolchain',f'{KIT}/toolchain','-o',f'{out}/{crate}/lib{crate}.a','--empty-contracts']
 elif kind=='exe': w[1]='build'; w+=['--jobs','1','--toolchain',f'{KIT}/toolchain','--backend','llvm','-o',f'{out}/{crate}/{crate}.o','--empty-contracts']
 else: w+=['--jobs','1','-o',f'{out}/{crate}/checked','--empty-contracts']
 os.chdir(f'{root}/crates/{crate}')

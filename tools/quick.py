@@ -7,7 +7,7 @@ own={}
 for line in open(f'{root}/crates.txt'):
     line=line.split('#')[0].strip()
     if line: h,d=line.split(':',1); own[h.split()[0]]=d.split()
-def rdir(d): return f'{out}/{d}' if os.path.isdir(f'{out}/{d}/{d}.rlib') else f'/work/gate2/crates/{d}/out/rlib'
+def rdir(d): return f'{out}/{d}' if os.path.isdir(f'{out}/{d}/{d}.rlib') else f'/work/gate/crates/{d}/out/rlib'
 below=[]
 def walk(c):
     for d in own[c]:
