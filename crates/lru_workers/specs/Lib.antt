@@ -7,4 +7,3 @@ pub mod Looking
 pub mod Seats
 pub mod Accounts
 pub mod Limiting
-pub mod Actors

@@ -40,8 +40,6 @@ pub struct Actor<K: Clone + Drop, B: BoxRegistry + Archive = Brand> {
 }
 
 impl<K: Clone + Drop, B: BoxRegistry + Archive> Actor<K, B> {
-    ghost use Rattle.lru_workers.specs.Actors.{seat_of};
-
     /// The actor of one of so many shards, which is empty, with room for `capacity` rows. Their weights may sum up to what
     /// all shards together leave to each. Where evicted pairs go into a box it puts them with a seat.
     pub fn new(
@@ -76,7 +74,6 @@ impl<K: Clone + Drop, B: BoxRegistry + Archive> Actor<K, B> {
         gate: &Option<Arc<G, Global>>,
     ) -> Option<PutSeat<B>>
         requires { self.shards ≡ vec_len world.now.shards }
-        ensures { is_some result ≡ is_some (seat_of self) }
     {
         let mut actor = self;
         for _ in rt.forever() {
@@ -96,8 +93,7 @@ impl<K: Clone + Drop, B: BoxRegistry + Archive> Actor<K, B> {
         gate: &Option<Arc<G, Global>>,
     ) -> bool
         requires { self.old.taker.shard < vec_len world.now.shards }
-        ensures shard { self.new.taker.shard ≡ self.old.taker.shard }
-        ensures seated { is_some self.new.seat ≡ is_some self.old.seat }
+        ensures { self.new.taker.shard ≡ self.old.taker.shard }
     {
         let shard = self.taker.shard;
         let before = self.taker.count;
@@ -154,7 +150,6 @@ impl<K: Clone + Drop, B: BoxRegistry + Archive> Actor<K, B> {
         ensures asked { self.new.bench.asked ≡ self.old.bench.asked }
         ensures replies { ForSome (taken_in self.old.taker.voice) (λ taken. AreReplies K.is_clone (cap_of B.shards) taken before (answers result self.new.bench.effects.items)) }
         ensures taker { (self.new.taker.shard ≡ self.old.taker.shard) × (self.new.taker.count ≡ self.old.taker.count) × (taken_in self.new.taker.voice ≡ taken_in self.old.taker.voice) }
-        ensures seated { is_some self.new.seat ≡ is_some self.old.seat }
     {
         match &place.weights {
             Weights::Alone(map) => {
