@@ -35,8 +35,16 @@ const ROWS: [(u64, usize); 16] = [
     (7, 1),
 ];
 
-// Limits on the weight and on the length; at the first nothing leaves.
-const LIMITS: [(usize, Option<usize>); 4] = [(84, Some(16)), (83, None), (40, None), (84, Some(7))];
+// Limits on the weight and on the length; at the first nothing leaves, and at the last two the shard that was shorter becomes the
+// longer one.
+const LIMITS: [(usize, Option<usize>); 6] = [
+    (84, Some(16)),
+    (83, None),
+    (40, None),
+    (84, Some(7)),
+    (12, None),
+    (84, Some(3)),
+];
 
 // What an order of two shards evicts, whether each row was let in, and what it leaves.
 type Trial = (Vec<(u64, usize)>, bool, Units<u64>);
@@ -133,6 +141,64 @@ fn stays_at_its_limits(rt: HostRuntime) -> Result<(), Fail> {
             Totals {
                 weight: 84,
                 len: 16
+            }
+        )
+    );
+    Ok(())
+}
+
+// What a removal takes from an order of a weight above its limit by that of the row, how many rows an eviction then takes, and
+// what is left.
+fn remove_and_evict<B: Registry, R: Wait>(
+    rt: &R,
+    alloc: Global,
+    blank: Blank,
+) -> Result<(Option<(u64, usize)>, usize, Units<u64>), AllocError>
+    requires blank { (blank.tie.table.shared.table_id ≡ B.table) × (blank.tie.table.shared.key ≡ record { shards = 2; seats = 1 }) }
+    requires callers { B.seats ≡ 1 }
+{
+    let (lru, mut seats) = RecordedLru::<u64, B, 2>::new(alloc, blank, 72, 16, None, 1)?;
+    let mut draws = StdRng::seed_from_u64(1);
+    let mut removed = None;
+    let mut evicted = 0;
+    for seat in seats.iter_mut() {
+        for (key, weight) in &ROWS {
+            let _ = lru.admit(rt, seat, *key, *key, *weight);
+        }
+        removed = lru.remove(rt, seat, 22)?;
+        evicted = match lru.evict_to_limit(rt, alloc, seat, &mut draws) {
+            Ok(pairs) => pairs.len(),
+            Err(_) => return Err(AllocError),
+        };
+    }
+    Ok((removed, evicted, lru.into_units()))
+}
+
+fn removed_of_two<R: Wait>(
+    rt: &R,
+    alloc: Global,
+) -> Result<(Option<(u64, usize)>, usize, Units<u64>), AllocError> {
+    let blank = Blank::new(
+        alloc,
+        Names {
+            shards: 2,
+            seats: 1,
+        },
+    )?;
+    remove_and_evict::<Brand, _>(rt, alloc, blank)
+}
+
+#[test]
+fn what_is_removed_weighs_no_more(rt: HostRuntime) -> Result<(), Fail> {
+    let (removed, evicted, left) = removed_of_two(&rt, rt.alloc())?;
+    assert_eq!(rt;
+        (removed, evicted, left.totals),
+        (
+            Some((22, 12)),
+            0,
+            Totals {
+                weight: 72,
+                len: 15
             }
         )
     );

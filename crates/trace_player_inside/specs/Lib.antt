@@ -5,3 +5,4 @@ pub mod TraceLines
 pub mod Numbers
 pub mod Limits
 pub mod Tasks
+pub mod Plots
