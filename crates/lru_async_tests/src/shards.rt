@@ -96,7 +96,12 @@ fn left_by<R: Threads + Wait + Copy + Send + 'static>(
     lru.wait_until_quiet(&rt);
     lru.trigger_eviction(&rt);
     lru.wait_until_quiet(&rt);
-    let left = [0, 1, 2, 3].map(|shard| lru.shard_len(shard));
+    let left = [
+        lru.shard_len(0),
+        lru.shard_len(1),
+        lru.shard_len(2),
+        lru.shard_len(3),
+    ];
     lru.close(&rt);
     Ok(left)
 }
