@@ -174,6 +174,49 @@ fn remove_and_evict<B: Registry, R: Wait>(
     Ok((removed, evicted, lru.into_units()))
 }
 
+// How many rows leave an order of two shards under this limit, of which one is as heavy as it may be and the other weighs 10.
+fn evict_of_heavy<B: Registry, R: Wait>(
+    rt: &R,
+    alloc: Global,
+    blank: Blank,
+    limit: usize,
+) -> Result<usize, AllocError>
+    requires blank { (blank.tie.table.shared.table_id ≡ B.table) × (blank.tie.table.shared.key ≡ record { shards = 2; seats = 1 }) }
+    requires callers { B.seats ≡ 1 }
+{
+    let (lru, mut seats) = RecordedLru::<u64, B, 2>::new(alloc, blank, limit, 2, None, 1)?;
+    let mut evicted = 0;
+    for seat in seats.iter_mut() {
+        let _ = lru.admit(rt, seat, 0, 0, usize::MAX / 2);
+        let _ = lru.admit(rt, seat, 1, 1, 10);
+        evicted = match lru.evict_to_limit(rt, alloc, seat, &mut StdRng::seed_from_u64(1)) {
+            Ok(pairs) => pairs.len(),
+            Err(_) => return Err(AllocError),
+        };
+    }
+    Ok(evicted)
+}
+
+fn evicted_of_heavy<R: Wait>(rt: &R, alloc: Global, limit: usize) -> Result<usize, AllocError> {
+    let blank = Blank::new(
+        alloc,
+        Names {
+            shards: 2,
+            seats: 1,
+        },
+    )?;
+    evict_of_heavy::<Brand, _>(rt, alloc, blank, limit)
+}
+
+#[test]
+fn a_limit_is_that_of_all_shards(rt: HostRuntime) -> Result<(), Fail> {
+    let alloc: Global = rt.alloc();
+    assert_eq!(rt; evicted_of_heavy(&rt, alloc, usize::MAX)?, 0);
+    assert_eq!(rt; evicted_of_heavy(&rt, alloc, usize::MAX / 2 + 10)?, 0);
+    assert!(rt; evicted_of_heavy(&rt, alloc, usize::MAX / 2 + 9)? > 0);
+    Ok(())
+}
+
 fn removed_of_two<R: Wait>(
     rt: &R,
     alloc: Global,
