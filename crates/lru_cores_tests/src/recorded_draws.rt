@@ -197,6 +197,50 @@ fn evict_of_heavy<B: Registry, R: Wait>(
     Ok(evicted)
 }
 
+// How many of ten rows of weight 0 leave an order of two shards under a limit on the weight alone.
+fn evict_of_weightless<B: Registry, R: Wait>(
+    rt: &R,
+    alloc: Global,
+    blank: Blank,
+) -> Result<(usize, Units<u64>), AllocError>
+    requires blank { (blank.tie.table.shared.table_id ≡ B.table) × (blank.tie.table.shared.key ≡ record { shards = 2; seats = 1 }) }
+    requires callers { B.seats ≡ 1 }
+{
+    let (lru, mut seats) = RecordedLru::<u64, B, 2>::new(alloc, blank, 3, 10, None, 1)?;
+    let mut evicted = 0;
+    for seat in seats.iter_mut() {
+        for key in 0..10u64 {
+            let _ = lru.insert_tail(rt, seat, key, key, 0);
+        }
+        evicted = match lru.evict_to_limit(rt, alloc, seat, &mut StdRng::seed_from_u64(1)) {
+            Ok(pairs) => pairs.len(),
+            Err(_) => return Err(AllocError),
+        };
+    }
+    Ok((evicted, lru.into_units()))
+}
+
+fn evicted_of_weightless<R: Wait>(
+    rt: &R,
+    alloc: Global,
+) -> Result<(usize, Units<u64>), AllocError> {
+    let blank = Blank::new(
+        alloc,
+        Names {
+            shards: 2,
+            seats: 1,
+        },
+    )?;
+    evict_of_weightless::<Brand, _>(rt, alloc, blank)
+}
+
+#[test]
+fn rows_of_weight_0_are_not_too_many(rt: HostRuntime) -> Result<(), Fail> {
+    let (evicted, left) = evicted_of_weightless(&rt, rt.alloc())?;
+    assert_eq!(rt; (evicted, left.totals), (0, Totals { weight: 0, len: 10 }));
+    Ok(())
+}
+
 fn evicted_of_heavy<R: Wait>(rt: &R, alloc: Global, limit: usize) -> Result<usize, AllocError> {
     let blank = Blank::new(
         alloc,
