@@ -1,10 +1,17 @@
 //! What waits while an actor or a receiver is held up: messages, questions and pairs.
+ghost use Rattle.std.specs.Prelude.{◌≡◌};
+
 use crate::callbacks::{Holding, LOOKS, Quiet, gated_order, is_raised, quiet_order};
 use log::sink;
+use lru_actors::message::LruMsg;
 use lru_async::async_lru::{AsyncLru, ShardData};
+use lru_async::logged_lru::LoggedLru;
 use lru_async::receiver::EvictionReceiver;
 use lru_async::refusals::SendRefused;
+use lru_boxes::BoxRegistry;
+use lru_inbox::tie::{Archive, BlankLogs};
 use std::alloc::Global;
+use std::marker::Brand;
 use std::sync::atomic::Ordering;
 use std::sync::{Arc, Wait};
 use std::test::Fail;
@@ -29,7 +36,11 @@ fn what_waits_is_taken_out(rt: HostRuntime) -> Result<(), Fail> {
 }
 
 // Shuts an order down once a question waits behind the message that the gate holds.
-fn shuts_before_an_answer<R: Wait>(rt: &R, lru: &AsyncLru<u64, 1>, gate: &Holding) -> bool {
+fn shuts_before_an_answer<B: BoxRegistry + Archive, R: Wait>(
+    rt: &R,
+    lru: &AsyncLru<u64, 1, B>,
+    gate: &Holding,
+) -> bool {
     let mut waits = false;
     for _ in 0..LOOKS {
         waits = lru.world().shards[0].mailbox.len(rt) > 0;
@@ -66,6 +77,49 @@ fn who_waits_at_a_shutdown_is_told(rt: HostRuntime) -> Result<(), Fail> {
     let found = asks_in_vain(&rt, &lru, &*gate);
     lru.close(&rt);
     assert_eq!(rt; found, (true, true));
+    Ok(())
+}
+
+// The same of an order with logs, which is closed then; nothing where there are no threads.
+fn asks_logged_in_vain<
+    B: BoxRegistry + Archive + Send + Sync + 'static,
+    R: Threads + Wait + Copy + Send + Sync + 'static,
+>(
+    rt: R,
+    alloc: Global,
+    quiet: Arc<Quiet, Global>,
+    gate: Arc<Holding, Global>,
+    theirs: Arc<Holding, Global>,
+    blank: BlankLogs<LruMsg<u64>>,
+) -> Option<(bool, bool)>
+    requires table { blank.tie.table.shared.table_id ≡ B.log }
+    requires counts { (blank.tie.table.shared.key ≡ 1) × (B.shards ≡ 1) }
+{
+    let builder = AsyncLru::<u64, 1>::builder_with_gate(alloc, 1000, quiet, theirs);
+    let logged = LoggedLru::<u64, 1, B>::build(builder, rt, blank).ok()?;
+    let mut caller = logged.caller(&rt).ok()?;
+    let sent = logged.admit(&rt, &mut caller, 1, 5).is_ok() && is_raised(&gate.held);
+    let found = thread::join(
+        &rt,
+        || matches!(
+            logged.shard_weight(&rt, &mut caller, 0),
+            Err(SendRefused::Closed(()))
+        ),
+        || shuts_before_an_answer(&rt, logged.lru(), &*gate),
+    );
+    logged.into_lru().close(&rt);
+    Some((sent && found.0, found.1))
+}
+
+#[test]
+fn who_waits_with_a_log_is_told(rt: HostRuntime) -> Result<(), Fail> {
+    let alloc: Global = rt.alloc();
+    let gate = Arc::new(alloc, Holding::new(0))?;
+    let theirs = Arc::try_clone(&gate)?;
+    let quiet = Arc::new(alloc, Quiet)?;
+    let blank = BlankLogs::new(alloc, 1)?;
+    let found = asks_logged_in_vain::<Brand, _>(rt, alloc, quiet, gate, theirs, blank);
+    assert_eq!(rt; found, Some((true, true)));
     Ok(())
 }
 
