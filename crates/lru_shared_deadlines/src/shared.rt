@@ -90,6 +90,7 @@ pub struct SharedDeadlineCache<K: Hash, V, const N: usize, S: BuildHasher = Seed
 }
 
 impl<K: Hash, V, const N: usize, S: BuildHasher> Model for SharedDeadlineCache<K, V, N, S> {
+    ghost use Rattle.std.specs.Prelude.{◌≡◌, ◌<◌, vec_len};
     ghost use Rattle.lru_shared_deadlines.specs.Sharded.{Setting, setting, setting_code};
 
     // what lies behind the locks is known nowhere
