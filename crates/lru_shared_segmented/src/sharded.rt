@@ -1,5 +1,5 @@
 //! A segmented cache of one owner in shards: what a shared one is behind its locks.
-ghost use Rattle.std.specs.Prelude.{◌≡◌, ◌<◌, ◌/◌, is_some, length, replicate, IfOk};
+ghost use Rattle.std.specs.Prelude.{◌≡◌, ◌<◌, ◌/◌, is_some, length, replicate, vec_len, IfOk};
 ghost use Rattle.lru_index.specs.Hashing.{key_hash, seeded, unseeded};
 ghost use Rattle.lru_owned_cache.specs.Cache.{hashes_from, entry_of};
 ghost use Rattle.lru_owned_cache.specs.Entries.{weight_of};
@@ -71,7 +71,8 @@ pub(crate) fn empty_shards<K: Hash + Drop, V: Drop, S: BuildHasher + Copy + Drop
     hash_builder: S,
 ) -> Result<Vec<SegmentedShard<K, V, S>>, AllocError>
     requires { 0 < shards }
-    ensures { IfOk result (λ made. made.items ≡ replicate shards (empty_shard hash_builder (limits.weight / shards) (limits.entries / shards) (protected / shards))) }
+    ensures many { IfOk result (λ made. vec_len made ≡ shards) }
+    ensures empty { IfOk result (λ made. made.items ≡ replicate shards (empty_shard hash_builder (limits.weight / shards) (limits.entries / shards) (protected / shards))) }
 {
     let (weight, entries) = (limits.weight / shards, limits.entries / shards);
     let protected = protected / shards;
