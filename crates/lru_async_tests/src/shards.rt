@@ -40,12 +40,14 @@ fn tells_of<R: Wait>(
     for row in rows {
         weight = weight.wrapping_add(row.1);
     }
-    [
-        matches!(lru.shard_weight(rt, shard), Ok(Some(found)) if found == weight),
-        shard < 4 && lru.shard_len(shard) == rows.len(),
-        matches!(lru.snapshot_shard(rt, shard), Ok(Some(found)) if found.as_slice() == rows),
-        matches!(lru.peek_lru(rt, shard), Ok(found) if found == rows.last().copied()),
-    ]
+    let is_weight = lru.shard_weight(rt, shard).unwrap_or(None) == Some(weight);
+    let is_len = shard < 4 && lru.shard_len(shard) == rows.len();
+    let are_rows = match lru.snapshot_shard(rt, shard) {
+        Ok(Some(found)) => found.as_slice() == rows,
+        _ => false,
+    };
+    let is_last = lru.peek_lru(rt, shard).unwrap_or(None) == rows.last().copied();
+    [is_weight, is_len, are_rows, is_last]
 }
 
 // What is told of the four shards, none of which is empty.
