@@ -6,10 +6,11 @@
 
 use checkpoint_tool_inside::program;
 use lru_host_folder::host_folder::HostFolder;
+use std::env;
 use std::process::ExitCode;
 
 fn main(rt: HostRuntime) -> ExitCode {
-    let words = program::words(&rt);
+    let words = program::words_of(rt.alloc(), env::args(&rt));
     let mut folder = HostFolder::new(rt);
     program::run(
         rt.alloc(),

@@ -12,10 +12,10 @@ use crate::requests::{TaskMisuse, WordsError};
 use lru_folder::synced_folder::SyncedFolder;
 use lru_lines::input::Input;
 use std::alloc::{AllocError, Global};
-use std::env::{Args, Env};
+use std::env::Args;
+use std::io;
 use std::io::{BufWriter, ErrorKind, Write};
 use std::process::ExitCode;
-use std::{env, io};
 
 /// How the program ended.
 #[derive(Drop)]
@@ -63,11 +63,6 @@ pub fn words_of(alloc: Global, arguments: io::Result<Args>) -> Result<Vec<String
         Err(_) => Err(WordsError::Memory),
         Ok(words) => Ok(words),
     }
-}
-
-/// The words after the program's name, or why they were not read.
-pub fn words<R: Env + AllocGlobal>(rt: &R) -> Result<Vec<String>, WordsError> {
-    words_of(rt.alloc(), env::args(rt))
 }
 
 // What comes of words that were not read.

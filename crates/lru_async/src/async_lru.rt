@@ -245,6 +245,7 @@ impl<
 
 impl<K: Clone + Drop, const N: usize, B: BoxRegistry + Archive> AsyncLru<K, N, B> {
     ghost use Rattle.lru_async.specs.Orders.{alloc_of, limits_of, world_of};
+    ghost use Rattle.lru_workers.specs.Limiting.{MayBePast};
 
     /// What its threads share, for a layer of yours that sends otherwise than its calls do.
     pub fn world(&self) -> &World<K, B>
@@ -388,7 +389,9 @@ impl<K: Clone + Drop, const N: usize, B: BoxRegistry + Archive> AsyncLru<K, N, B
     }
 
     /// Whether a limit is passed.
-    pub fn over_limit(&self) -> bool {
+    pub fn over_limit(&self) -> bool
+        ensures { MayBePast (limits_of self.now) result }
+    {
         self.world.over_limit()
     }
 }

@@ -236,3 +236,18 @@ fn takes_keys_of_one_hash_for_one_row(rt: HostRuntime) -> Result<(), Fail> {
     assert!(rt; are_one_row(rt.alloc())?);
     Ok(())
 }
+
+// How many of a hundred thousand rows an actor's shard and its map have, and how many it refused.
+fn counts_of_many(alloc: Global) -> Result<(usize, usize, u64), AllocError> {
+    let mut actor = Actor::new(alloc, usize::MAX)?;
+    for hash in 0..100_000u64 {
+        actor.serve(admit(hash, hash, 1));
+    }
+    Ok((actor.state.len(), actor.map.len(), actor.state.refused()))
+}
+
+#[test]
+fn a_shard_takes_many_rows(rt: HostRuntime) -> Result<(), Fail> {
+    assert_eq!(rt; counts_of_many(rt.alloc())?, (100_000, 100_000, 0));
+    Ok(())
+}

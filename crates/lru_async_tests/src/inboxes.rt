@@ -41,3 +41,20 @@ fn letters_left_behind_are_handed_back(rt: HostRuntime) -> Result<(), Fail> {
     assert_eq!(rt; (inbox.len(&rt), inbox.put_and_lost(&rt)), (0, (3, 3)));
     Ok(())
 }
+
+// Why requests for evictions are refused: a second one beside one that waits, and one that comes after a close.
+fn requests<R: Wait>(rt: &R, alloc: Global) -> [u8; 3] {
+    let inbox = SharedInbox::<u64, Brand>::new(alloc, 0, None);
+    let first = inbox.push_evict(rt);
+    let second = inbox.push_evict(rt);
+    inbox.close(rt);
+    [first, second, inbox.push_evict(rt)].map(|answer| match answer {
+        Ok(()) => 0,
+        Err(refusal) => refusal.number(),
+    })
+}
+
+#[test]
+fn one_request_waits_at_a_time(rt: HostRuntime) {
+    assert_eq!(rt; requests(&rt, rt.alloc()), [0, 3, 2]);
+}

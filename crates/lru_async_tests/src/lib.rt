@@ -43,8 +43,12 @@ mod saves;
 #[cfg(test)]
 mod served;
 #[cfg(test)]
+mod shards;
+#[cfg(test)]
 mod single;
 #[cfg(test)]
 mod soak;
 #[cfg(test)]
 mod stays;
+#[cfg(test)]
+mod waiting;

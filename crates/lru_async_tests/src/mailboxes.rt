@@ -35,8 +35,8 @@ fn row<R: Wait>(
 
 // How many were pushed, taken and lost, and how many wait.
 fn counts<R: Wait>(rt: &R, mailbox: &Mailbox<u8>) -> ([u64; 3], usize) {
-    let counted = [mailbox.pushed(rt), mailbox.taken(rt), mailbox.lost(rt)];
-    (counted, mailbox.len(rt))
+    let state = mailbox.lend(rt);
+    ([state.pushed(), state.taken(), state.lost()], state.len())
 }
 
 // Whether the row answers and leaves what it should.

@@ -14,9 +14,12 @@ use std::test::Fail;
 use std::thread;
 use std::thread::Threads;
 
-// Whether two hundred keys that are admitted while the gate holds all stand there, the last one first.
+// More rows than are told of a shard at once anywhere.
+const MANY: u64 = 5000;
+
+// Whether so many keys that are admitted while the gate holds all stand there, the last one first.
 fn keeps_all<R: Wait>(rt: &R, lru: &AsyncLru<u64, 1>, gate: &Holding) -> bool {
-    for key in 0..200u64 {
+    for key in 0..MANY {
         if lru.admit(rt, key, 1).is_err() {
             return false;
         }
@@ -25,7 +28,7 @@ fn keeps_all<R: Wait>(rt: &R, lru: &AsyncLru<u64, 1>, gate: &Holding) -> bool {
     let Ok(Some(rows)) = lru.snapshot_shard(rt, 0) else {
         return false;
     };
-    let mut expected = 200u64;
+    let mut expected = MANY;
     for (key, weight) in &rows {
         expected = expected.wrapping_sub(1);
         if *key != expected || *weight != 1 {

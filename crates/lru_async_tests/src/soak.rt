@@ -97,7 +97,8 @@ fn all_sums(lists: &Vec<Vec<Slip>>) -> (usize, usize, usize) {
     all
 }
 
-// Sends under a limit, and closes. Whether each send was taken, and what is settled; nothing where there are no threads.
+// Sends under a limit, more of them while nothing was evicted yet, since the workers may come late on a machine that does much
+// else, and closes. Whether each send was taken, and what is settled; nothing where there are no threads.
 fn soaked<
     B: BoxRegistry + Archive + Send + Sync + 'static,
     R: Threads + Wait + Copy + Send + Sync + 'static,
@@ -106,14 +107,22 @@ fn soaked<
     requires counts { (B.putters ≡ 4) × (B.takers ≡ 2) }
     requires blanks { (blanks.putters ≡ 4) × (blanks.takers ≡ 2) }
 {
-    let Ok(ledger) = AsyncLru::<u64, 4>::builder(alloc, 300, adding)
+    let Ok(theirs) = Arc::try_clone(&adding) else {
+        return None;
+    };
+    let Ok(ledger) = AsyncLru::<u64, 4>::builder(alloc, 300, theirs)
         .num_eviction_workers(2)
         .num_callback_workers(2)
         .build_with_ledger::<R, B>(rt, blanks)
     else {
         return None;
     };
-    let sent = four_send(&rt, ledger.lru());
+    let mut sent = four_send(&rt, ledger.lru());
+    for seed in 5..50u64 {
+        if adding.calls.load(Ordering::SeqCst) == 0 {
+            sent = draw_sends(&rt, ledger.lru(), seed) && sent;
+        }
+    }
     Some((sent, ledger.close(&rt)))
 }
 

@@ -1,10 +1,11 @@
 -- What a put and a take leave at a seat.
-use Rattle.std.specs.Prelude.{◌≡◌, ℕ, List, [], ◌∷◌, ◌++◌, Option, Some, None, Result, Ok, Err}
+use Rattle.std.specs.Prelude.{◌≡◌, ℕ, List, [], ◌∷◌, ◌++◌, length, Option, Some, None, Result, Ok, Err}
 use Rattle.std.specs.declared.alloc.AllocError.{AllocError}
 use Rattle.lru_mailbox.specs.declared.mail_error.MailError.{MailError}
 use Rattle.lru_mailbox.specs.declared.mail_error.MailError.TheVariants.{Memory, Closed, Waiting}
 use Rattle.lru_mailbox.specs.declared.slip.Slip.{Slip}
 use Rattle.lru_mailbox.specs.Slips.{slip_of}
+use Rattle.lru_mailbox.specs.Ledger.{Book}
 
 module _ {K : Type 0} where
   -- a put leaves one slip more, with this hash and weight and some number; or, for want of memory alone, the key is handed
@@ -20,3 +21,7 @@ module _ {K : Type 0} where
   TakesSlip old (Ok (Some pair)) new = new ≡ old ++ pair.0 ∷ []
   TakesSlip old (Ok None) new = new ≡ old
   TakesSlip old (Err _) new = new ≡ old
+
+-- so many pairs may have waited: there is a box in which they do
+abbrev pub MayWait : (K : Type 0) → ℕ → Type 0
+MayWait K count = (b : Book K) × (length b.waiting ≡ count)

@@ -3,7 +3,7 @@ ghost use Rattle.std.specs.Prelude.{◌≡◌, [], map, All, IfOk};
 ghost use Rattle.lru_mailbox.specs.Ledger.{slips_of};
 ghost use Rattle.lru_mailbox.specs.Slips.{lists_of, IsSettled};
 ghost use Rattle.lru_short_locks.specs.Hands.{up};
-ghost use Rattle.lru_boxes.specs.Putting.{PutsSlip, TakesSlip};
+ghost use Rattle.lru_boxes.specs.Putting.{MayWait, PutsSlip, TakesSlip};
 
 use crate::desk::Desk;
 use crate::seats::{PutSeat, TakeSeat};
@@ -91,7 +91,9 @@ impl<K: Drop, B: BoxRegistry> LedgerBox<K, B> {
     }
 
     /// How many pairs wait.
-    pub fn len(&self, rt: &impl Wait) -> usize {
+    pub fn len(&self, rt: &impl Wait) -> usize
+        ensures { MayWait K result }
+    {
         self.desk.lock(rt).len()
     }
 

@@ -231,3 +231,19 @@ fn what_is_no_value(rt: HostRuntime) {
     );
     assert_eq!(rt; damaged, ([true; 8], [true; 6], true));
 }
+
+// Bytes as many as a value of some megabytes has.
+fn many_bytes(alloc: Global) -> Result<Vec<u8>, AllocError> {
+    let mut bytes = Vec::with_capacity(alloc, 3 << 20)?;
+    for place in 0..3u32 << 20 {
+        bytes.push((place % 251) as u8)?;
+    }
+    Ok(bytes)
+}
+
+#[test]
+fn a_value_of_megabytes(rt: HostRuntime) -> Result<(), Fail> {
+    let alloc: Global = rt.alloc();
+    assert!(rt; comes_back(alloc, &many_bytes(alloc)?)?);
+    Ok(())
+}

@@ -16,7 +16,16 @@ fn count_evicted<R: Wait>(rt: &R, alloc: Global, lru: &Lru<u64, 2>) -> Option<us
     }
 }
 
-// Whether so many of six rows of weight 0 leave, down to a watermark.
+// The same where each row that leaves is handed to a closure.
+fn count_handed<R: Wait>(rt: &R, lru: &Lru<u64, 2>) -> usize {
+    let mut count = 0usize;
+    lru.evict_with(rt, &mut StdRng::seed_from_u64(1), |_| {
+        count = count.wrapping_add(1);
+    });
+    count
+}
+
+// Whether so many of six rows of weight 0 leave, down to a watermark, and as many are handed to a closure after they are back.
 fn evicts_down_to<R: Wait>(
     rt: &R,
     alloc: Global,
@@ -27,7 +36,16 @@ fn evicts_down_to<R: Wait>(
     let are_put = (0..6u64).all(|key| matches!(lru.insert_tail(rt, key, key, 0), Ok(true)));
     let before = (lru.len(), lru.weight());
     let left = count_evicted(rt, alloc, &lru);
-    Ok(are_put & ((before, left, lru.len()) == ((6, 0), Some(evicted), watermark)))
+    let after = (left, lru.len());
+    for key in 0..6u64 {
+        let _ = lru.insert_tail(rt, key, key, 0);
+    }
+    let handed = (lru.len(), count_handed(rt, &lru), lru.len());
+    Ok(
+        are_put
+            & ((before, after) == ((6, 0), (Some(evicted), watermark)))
+            & (handed == (6, evicted, watermark)),
+    )
 }
 
 #[test]

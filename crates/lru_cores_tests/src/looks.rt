@@ -57,3 +57,17 @@ fn shows_its_shards(rt: HostRuntime) -> Result<(), Fail> {
     );
     Ok(())
 }
+
+// The last row of each of two shards, one of which is as heavy as a shard of a core may be.
+fn last_rows(alloc: Global) -> Result<[Option<(u64, usize)>; 2], Fail> {
+    let mut core = LruCore::<u64, 2>::with_capacity(alloc, MOST, 0)?;
+    core.admit(0, 7, MOST / 2)?;
+    core.admit(1, 8, 1)?;
+    Ok([core.peek_lru(0)?, core.peek_lru(1)?])
+}
+
+#[test]
+fn a_heavy_last_row_is_shown(rt: HostRuntime) -> Result<(), Fail> {
+    assert_eq!(rt; last_rows(rt.alloc())?, [Some((7, MOST / 2)), Some((8, 1))]);
+    Ok(())
+}

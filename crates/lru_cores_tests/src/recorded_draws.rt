@@ -35,8 +35,16 @@ const ROWS: [(u64, usize); 16] = [
     (7, 1),
 ];
 
-// Limits on the weight and on the length; at the first nothing leaves.
-const LIMITS: [(usize, Option<usize>); 4] = [(84, Some(16)), (83, None), (40, None), (84, Some(7))];
+// Limits on the weight and on the length; at the first nothing leaves, and at the last two the shard that was shorter becomes the
+// longer one.
+const LIMITS: [(usize, Option<usize>); 6] = [
+    (84, Some(16)),
+    (83, None),
+    (40, None),
+    (84, Some(7)),
+    (12, None),
+    (84, Some(3)),
+];
 
 // What an order of two shards evicts, whether each row was let in, and what it leaves.
 type Trial = (Vec<(u64, usize)>, bool, Units<u64>);
@@ -133,6 +141,151 @@ fn stays_at_its_limits(rt: HostRuntime) -> Result<(), Fail> {
             Totals {
                 weight: 84,
                 len: 16
+            }
+        )
+    );
+    Ok(())
+}
+
+// What a removal takes from an order of a weight above its limit by that of the row, how many rows an eviction then takes, and
+// what is left.
+fn remove_and_evict<B: Registry, R: Wait>(
+    rt: &R,
+    alloc: Global,
+    blank: Blank,
+) -> Result<(Option<(u64, usize)>, usize, Units<u64>), AllocError>
+    requires blank { (blank.tie.table.shared.table_id ≡ B.table) × (blank.tie.table.shared.key ≡ record { shards = 2; seats = 1 }) }
+    requires callers { B.seats ≡ 1 }
+{
+    let (lru, mut seats) = RecordedLru::<u64, B, 2>::new(alloc, blank, 72, 16, None, 1)?;
+    let mut draws = StdRng::seed_from_u64(1);
+    let mut removed = None;
+    let mut evicted = 0;
+    for seat in seats.iter_mut() {
+        for (key, weight) in &ROWS {
+            let _ = lru.admit(rt, seat, *key, *key, *weight);
+        }
+        removed = lru.remove(rt, seat, 22)?;
+        evicted = match lru.evict_to_limit(rt, alloc, seat, &mut draws) {
+            Ok(pairs) => pairs.len(),
+            Err(_) => return Err(AllocError),
+        };
+    }
+    Ok((removed, evicted, lru.into_units()))
+}
+
+// How many rows leave an order of two shards under this limit, of which one is as heavy as it may be and the other weighs 10.
+fn evict_of_heavy<B: Registry, R: Wait>(
+    rt: &R,
+    alloc: Global,
+    blank: Blank,
+    limit: usize,
+) -> Result<usize, AllocError>
+    requires blank { (blank.tie.table.shared.table_id ≡ B.table) × (blank.tie.table.shared.key ≡ record { shards = 2; seats = 1 }) }
+    requires callers { B.seats ≡ 1 }
+{
+    let (lru, mut seats) = RecordedLru::<u64, B, 2>::new(alloc, blank, limit, 2, None, 1)?;
+    let mut evicted = 0;
+    for seat in seats.iter_mut() {
+        let _ = lru.admit(rt, seat, 0, 0, usize::MAX / 2);
+        let _ = lru.admit(rt, seat, 1, 1, 10);
+        evicted = match lru.evict_to_limit(rt, alloc, seat, &mut StdRng::seed_from_u64(1)) {
+            Ok(pairs) => pairs.len(),
+            Err(_) => return Err(AllocError),
+        };
+    }
+    Ok(evicted)
+}
+
+// How many of ten rows of weight 0 leave an order of two shards under a limit on the weight alone.
+fn evict_of_weightless<B: Registry, R: Wait>(
+    rt: &R,
+    alloc: Global,
+    blank: Blank,
+) -> Result<(usize, Units<u64>), AllocError>
+    requires blank { (blank.tie.table.shared.table_id ≡ B.table) × (blank.tie.table.shared.key ≡ record { shards = 2; seats = 1 }) }
+    requires callers { B.seats ≡ 1 }
+{
+    let (lru, mut seats) = RecordedLru::<u64, B, 2>::new(alloc, blank, 3, 10, None, 1)?;
+    let mut evicted = 0;
+    for seat in seats.iter_mut() {
+        for key in 0..10u64 {
+            let _ = lru.insert_tail(rt, seat, key, key, 0);
+        }
+        evicted = match lru.evict_to_limit(rt, alloc, seat, &mut StdRng::seed_from_u64(1)) {
+            Ok(pairs) => pairs.len(),
+            Err(_) => return Err(AllocError),
+        };
+    }
+    Ok((evicted, lru.into_units()))
+}
+
+fn evicted_of_weightless<R: Wait>(
+    rt: &R,
+    alloc: Global,
+) -> Result<(usize, Units<u64>), AllocError> {
+    let blank = Blank::new(
+        alloc,
+        Names {
+            shards: 2,
+            seats: 1,
+        },
+    )?;
+    evict_of_weightless::<Brand, _>(rt, alloc, blank)
+}
+
+#[test]
+fn rows_of_weight_0_are_not_too_many(rt: HostRuntime) -> Result<(), Fail> {
+    let (evicted, left) = evicted_of_weightless(&rt, rt.alloc())?;
+    assert_eq!(rt; (evicted, left.totals), (0, Totals { weight: 0, len: 10 }));
+    Ok(())
+}
+
+fn evicted_of_heavy<R: Wait>(rt: &R, alloc: Global, limit: usize) -> Result<usize, AllocError> {
+    let blank = Blank::new(
+        alloc,
+        Names {
+            shards: 2,
+            seats: 1,
+        },
+    )?;
+    evict_of_heavy::<Brand, _>(rt, alloc, blank, limit)
+}
+
+#[test]
+fn a_limit_is_that_of_all_shards(rt: HostRuntime) -> Result<(), Fail> {
+    let alloc: Global = rt.alloc();
+    assert_eq!(rt; evicted_of_heavy(&rt, alloc, usize::MAX)?, 0);
+    assert_eq!(rt; evicted_of_heavy(&rt, alloc, usize::MAX / 2 + 10)?, 0);
+    assert!(rt; evicted_of_heavy(&rt, alloc, usize::MAX / 2 + 9)? > 0);
+    Ok(())
+}
+
+fn removed_of_two<R: Wait>(
+    rt: &R,
+    alloc: Global,
+) -> Result<(Option<(u64, usize)>, usize, Units<u64>), AllocError> {
+    let blank = Blank::new(
+        alloc,
+        Names {
+            shards: 2,
+            seats: 1,
+        },
+    )?;
+    remove_and_evict::<Brand, _>(rt, alloc, blank)
+}
+
+#[test]
+fn what_is_removed_weighs_no_more(rt: HostRuntime) -> Result<(), Fail> {
+    let (removed, evicted, left) = removed_of_two(&rt, rt.alloc())?;
+    assert_eq!(rt;
+        (removed, evicted, left.totals),
+        (
+            Some((22, 12)),
+            0,
+            Totals {
+                weight: 72,
+                len: 15
             }
         )
     );

@@ -9,8 +9,8 @@ use lru_tool_inside::engine::run;
 use pingora_lru_files::persistence::MemoryFolder;
 use std::alloc::{AllocError, Global};
 use std::env::{Env, FillError};
-use std::io;
 use std::test::Fail;
+use std::{env, io};
 
 // An input that no read gives.
 #[derive(Drop)]
@@ -69,7 +69,7 @@ fn run_given<R: Input + Drop>(
     last: &[u8],
     mut reader: R,
 ) -> Result<(u8, Vec<u8>), AllocError> {
-    let arguments = arguments::words(&(Given { last }, alloc))?;
+    let arguments = arguments::words_of(alloc, env::args(&(Given { last }, alloc)))?;
     let mut writer = Vec::new(alloc);
     let status = run(
         alloc,

@@ -21,7 +21,7 @@ pub struct HostSystem<R> {
 
 impl<R> HostSystem<R> {
     /// The system of this runtime.
-    pub fn new(rt: R) -> Self {
+    pub(crate) fn new(rt: R) -> Self {
         HostSystem { rt }
     }
 }

@@ -24,6 +24,10 @@ struct Held<K: Clone + Drop, B: Archive> {
 }
 
 impl<K: Clone + Drop, B: Archive> Queued for Held<K, B> {
+    ghost waits = { λ s. length s.inbox.state.post.waiting };
+
+    ghost shut = { λ s. s.inbox.state.post.closed };
+
     fn waiting(&self) -> usize {
         self.inbox.state.len()
     }

@@ -1,5 +1,6 @@
 -- What a mailbox that threads share answers.
 use Rattle.std.specs.Prelude.{◌≡◌, ℕ, List, ◌++◌, length, Result, Ok, Err}
+use Rattle.lru_mailbox.specs.Mail.{Post, IsPost}
 use Rattle.lru_mailbox.specs.declared.mail_error.MailError.{MailError}
 use Rattle.lru_mailbox.specs.declared.mail_error.MailError.TheVariants.{Memory, Closed, Waiting}
 
@@ -21,3 +22,7 @@ module _ {M : Type 0} where
   -- so many messages come after those that were there
   abbrev pub Gains : List M → ℕ → List M → Type 0
   Gains old count new = (gained : List M) × (length gained ≡ count) × (new ≡ old ++ gained)
+
+-- so many messages may have waited: there is a mailbox in which they do
+abbrev pub MayWait : (M : Type 0) → ℕ → Type 0
+MayWait M count = (p : Post M) × IsPost p × (length p.waiting ≡ count)

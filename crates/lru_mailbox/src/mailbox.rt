@@ -1,6 +1,6 @@
 //! A mailbox that threads share.
 ghost use Rattle.std.specs.Prelude.{◌≡◌, ◌+◌, ◌≤◌, vec_len, vec_capacity};
-ghost use Rattle.lru_mailbox.specs.Sending.{HandsBack, HandsBackEvict, Gains};
+ghost use Rattle.lru_mailbox.specs.Sending.{HandsBack, HandsBackEvict, Gains, MayWait};
 
 use crate::shared::Shared;
 use crate::{MailError, MailState};
@@ -85,31 +85,13 @@ impl<M> Mailbox<M> {
     }
 
     /// How many messages wait.
-    pub fn len(&self, rt: &impl Wait) -> usize {
+    pub fn len(&self, rt: &impl Wait) -> usize
+        ensures { MayWait M result }
+    {
         self.shared.lock(rt).len()
     }
 
-    /// Whether no message is put any more.
-    pub fn is_closed(&self, rt: &impl Wait) -> bool {
-        self.shared.lock(rt).is_closed()
-    }
-
-    /// How many messages were put, modulo 2^64.
-    pub fn pushed(&self, rt: &impl Wait) -> u64 {
-        self.shared.lock(rt).pushed()
-    }
-
-    /// How many messages were taken, modulo 2^64.
-    pub fn taken(&self, rt: &impl Wait) -> u64 {
-        self.shared.lock(rt).taken()
-    }
-
-    /// How many messages are lost, modulo 2^64.
-    pub fn lost(&self, rt: &impl Wait) -> u64 {
-        self.shared.lock(rt).lost()
-    }
-
-    /// Lends the state until the guard is dropped. Who puts messages into it calls `wake` afterwards.
+    /// Lends the state, with its counts, until the guard is dropped. Who puts messages into it calls `wake` afterwards.
     pub fn lend<R: Wait>(&self, rt: &R) -> MutexGuard<'_, MailState<M>> {
         self.shared.lock(rt)
     }

@@ -1,4 +1,7 @@
 //! A queue behind a lock, for those who put and those who wait for something to take.
+ghost use Rattle.std.specs.Prelude.{◌≡◌, ◌<◌, ◌==◌, ◌&&◌, not, false};
+ghost use Rattle.std.specs.Sync.Mutex.{mutex_guard_value};
+
 use crate::MailState;
 use std::sync::{Condvar, Mutex, MutexGuard, Wait};
 use std::thread;
@@ -9,14 +12,30 @@ const TURNS: u32 = 16;
 
 /// What threads put into and take from.
 pub trait Queued {
+    ghost use Rattle.std.specs.Prelude.{◌≡◌, ℕ, Bool};
+
+    // how many messages wait
+    ghost waits: { Self → ℕ };
+
+    // nothing is put any more
+    ghost shut: { Self → Bool };
+
     /// How many messages wait.
-    fn waiting(&self) -> usize;
+    fn waiting(&self) -> usize
+        ensures { result ≡ waits self.now };
 
     /// Whether nothing is put any more.
-    fn is_shut(&self) -> bool;
+    fn is_shut(&self) -> bool
+        ensures { result ≡ shut self.now };
 }
 
 impl<M> Queued for MailState<M> {
+    ghost use Rattle.std.specs.Prelude.{length};
+
+    ghost waits = { λ s. length s.post.waiting };
+
+    ghost shut = { λ s. s.post.closed };
+
     fn waiting(&self) -> usize {
         self.len()
     }
@@ -63,7 +82,9 @@ impl<S: Queued> Shared<S> {
     }
 
     /// Lends the queue once something is there or nothing may come.
-    pub fn lock_some(&self, rt: &impl Wait) -> MutexGuard<'_, S> {
+    pub fn lock_some(&self, rt: &impl Wait) -> MutexGuard<'_, S>
+        ensures { S.shut (mutex_guard_value result) ≡ false → 0 < S.waits (mutex_guard_value result) }
+    {
         for _ in 0..TURNS {
             let queue = self.queue.lock(rt);
             if !is_idle(&*queue) {
@@ -92,6 +113,8 @@ impl<S: Queued> Shared<S> {
 }
 
 // Whether there is nothing to take, and something may come.
-fn is_idle<S: Queued>(queue: &S) -> bool {
+fn is_idle<S: Queued>(queue: &S) -> bool
+    ensures { result ≡ (S.waits queue.now == 0) && not (S.shut queue.now) }
+{
     queue.waiting() == 0 && !queue.is_shut()
 }

@@ -84,6 +84,9 @@ impl<T: Drop, B: Registry, const N: usize> Recording<T, B, N> {
     ) -> Result<Self, AllocError>
         requires number { number < N }
         requires token { (token.table_id ≡ B.table) × (token.me ≡ (hand (number ∷ []) [] [] [], [])) }
+        ensures rows { IfOk result (λ made. made.unit ≡ shard [] (cap_of N)) }
+        ensures number { IfOk result (λ made. made.journal.number ≡ number) }
+        ensures history { IfOk result (λ made. made.journal.history.items ≡ []) }
     {
         Ok(Recording {
             unit: LruUnit::with_capacity(alloc, capacity, usize::MAX / N)?,

@@ -4,4 +4,5 @@ pub mod Keeping
 pub mod Parted
 pub mod MayBe
 pub mod Popped
+pub mod Seen
 pub mod Turned

@@ -1,5 +1,5 @@
 -- What the answers of a shared cache say, where of the entries that other threads may change nothing is known but that each value stands in a relation to its key.
-use Rattle.std.specs.Prelude.{◌≡◌, ℕ, Bool, true, List, reverse, Option, Result}
+use Rattle.std.specs.Prelude.{◌≡◌, ℕ, Bool, true, List, length, reverse, All, Option, Result}
 use Rattle.std.specs.List.{FoldsTo}
 use Rattle.std.specs.Borrow.{Bor, MutBor}
 use Rattle.lru_owned_cache.specs.declared.entry.Entry.{Entry}
@@ -7,7 +7,7 @@ use Rattle.lru_owned_cache.specs.Entries.{IsShown}
 use Rattle.lru_owned_cache.specs.declared.cache.Refused.{Refused}
 use Rattle.lru_owned_cache.specs.Cache.{Cached, Puts, Limits, Retains}
 use Rattle.lru_shared_cache.specs.Relations.{IsRelated, AreRelated, IsOf}
-use Rattle.lru_shared_cache.specs.Counting.{LimitsTo}
+use Rattle.lru_shared_cache.specs.Counting.{ShardOf, LimitsTo}
 use Rattle.lru_shared_cache.specs.Calls.{VisitsEach, VisitsEachTo}
 
 module _ {K V : Type 0} (holds : K → V → Type 0) where
@@ -31,6 +31,14 @@ module _ {K V : Type 0} (holds : K → V → Type 0) where
     -- this may be the query's entry
     abbrev pub MayTakeRelated : Q → Entry K V → Type 0
     MayTakeRelated query e = (eq e.key query ≡ true) × IsRelated holds e.key e.value
+
+  -- some such entries may have been seen, of which this is so
+  abbrev pub MaySeeRelated : (List (Entry K V) → Type 0) → Type 0
+  MaySeeRelated P = (es : List (Entry K V)) × (AreRelated holds es × P es)
+
+  -- so many shards of such entries may have been seen, one after another, of all of which this is so
+  abbrev pub MaySeeAllRelated : (S : Type 0) → ℕ → (List (ShardOf K V S) → Type 0) → Type 0
+  MaySeeAllRelated S many P = (shards : List (ShardOf K V S)) × ((length shards ≡ many) × (All (λ shard. AreRelated holds shard.cache.entries) shards × P shards))
 
   -- an entry may have been put, or refused, so: there are such entries of which it is told
   abbrev pub MayPutRelated : {F : Type 0} → (K → K → Bool) → (F → Entry K V → F → Type 0) → F → K → V → ℕ → Result (Option (Entry K V)) (Refused K V) → Type 0

@@ -7,6 +7,7 @@ use crate::shards::Shards;
 use crossbeam_utils::CachePadded;
 use lru_short_locks::ShortMutex;
 use std::alloc::{AllocError, Global};
+use std::marker::Model;
 use std::sync::{Condvar, MutexGuard, Wait};
 
 // A value that is being made: the hash of its key, and the number of this making. The key stays with who makes it.
@@ -100,9 +101,22 @@ pub struct Held<'a, C> {
     shelf: MutexGuard<'a, Shelf<C>>,
 }
 
+impl<'a, C> Model for Held<'a, C> {
+    ghost use Rattle.std.specs.Sync.Mutex.{mutex_guard_value};
+
+    // the cache behind the lock
+    ghost Value = { C };
+
+    ghost coded = { C.code };
+
+    ghost view = { λ held. (mutex_guard_value held.shelf).cache };
+}
+
 impl<'a, C> Held<'a, C> {
     /// The cache, as it is while the lock is held.
-    pub fn cache(&self) -> &C {
+    pub fn cache(&self) -> &C
+        ensures { result.now ≡ self.now }
+    {
         &self.shelf.cache
     }
 }

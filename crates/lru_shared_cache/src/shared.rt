@@ -1,10 +1,12 @@
 //! A cache that threads share.
-ghost use Rattle.std.specs.Prelude.{◌≡◌, ℕ, ◌<◌, ◌/◌, All, length, vec_len, true, Ok, IfOk, IfErr, IfSome};
+ghost use Rattle.std.specs.Prelude.{◌≡◌, ℕ, ◌-◌, ◌<◌, ◌/◌, ◌^◌, min, sum_by, All, length, vec_len, is_some, true, Ok, IfOk, IfErr, IfSome};
 ghost use Rattle.lru_index.specs.Hashing.{seeded, unseeded};
-ghost use Rattle.lru_owned_cache.specs.Cache.{hashes_from};
+ghost use Rattle.lru_owned_cache.specs.Cache.{IsCache, entry_of, hashes_from};
+ghost use Rattle.lru_owned_cache.specs.Entries.{weight_of};
 ghost use Rattle.lru_shared_cache.specs.Answers.{HandsBack};
+ghost use Rattle.lru_shared_cache.specs.Counts.{total};
 ghost use Rattle.lru_shared_cache.specs.Sharded.{empty_shard};
-ghost use Rattle.lru_shared_cache.specs.Related.{KeepsRelation, MayShowRelated, MayLendRelated, MayGetRelated, MayTakeRelated, MayPutRelated, MayVisitRelated, MayClearRelated, MayDrainRelated, MayLimitRelated, MayRetainRelated, MayVisitTo, MayClearTo, MayDrainTo, MayLimitTo};
+ghost use Rattle.lru_shared_cache.specs.Related.{KeepsRelation, MaySeeRelated, MaySeeAllRelated, MayShowRelated, MayLendRelated, MayGetRelated, MayTakeRelated, MayPutRelated, MayVisitRelated, MayClearRelated, MayDrainRelated, MayLimitRelated, MayRetainRelated, MayVisitTo, MayClearTo, MayDrainTo, MayLimitTo};
 ghost use Rattle.lru_shared_cache.specs.Turns.{GoesOn};
 ghost use Rattle.lru_shared_cache.specs.Relations.{IsRelated, AreRelated};
 
@@ -34,10 +36,22 @@ pub struct LockedShard<'a, K: Hash, V, S: BuildHasher, Rel: Relation<K, V> = Any
     held: Held<'a, RelatedShard<K, V, S, Rel>>,
 }
 
+impl<'a, K: Hash, V, S: BuildHasher, Rel: Relation<K, V>> Model for LockedShard<'a, K, V, S, Rel> {
+    ghost use Rattle.lru_owned_cache.specs.Cache.{Cached, cached_code};
+
+    // the entries behind the lock
+    ghost Value = { Cached K V S };
+
+    ghost coded = { cached_code K.code V.code S.code };
+
+    ghost view = { λ locked. locked.held.shard.cache };
+}
+
 impl<'a, K: Hash, V, S: BuildHasher, Rel: Relation<K, V>> LockedShard<'a, K, V, S, Rel> {
     /// The entries of the shard, as they are while the lock is held.
     pub fn cache(&self) -> &Cache<K, V, S>
-        ensures { AreRelated Rel.holds result.now.entries }
+        ensures value { result.now ≡ self.now }
+        ensures related { AreRelated Rel.holds result.now.entries }
     {
         &self.held.cache().shard().cache
     }
@@ -231,7 +245,9 @@ impl<K: Hash, V, const N: usize, S: BuildHasher, Rel: Relation<K, V>> SharedCach
     }
 
     /// How many entries there are: the sum over the shards, each read under its lock, one after another.
-    pub fn len(&self, rt: &impl Wait) -> usize {
+    pub fn len(&self, rt: &impl Wait) -> usize
+        ensures { MaySeeAllRelated Rel.holds S N (λ shards. result ≡ min (sum_by (λ shard. length shard.cache.entries) shards) (2 ^ 64 - 1)) }
+    {
         let mut len = 0usize;
         for shard in 0..N {
             len = len.saturating_add(calls::shard_len(&self.locked(rt), shard));
@@ -240,7 +256,9 @@ impl<K: Hash, V, const N: usize, S: BuildHasher, Rel: Relation<K, V>> SharedCach
     }
 
     /// What the entries weigh together: the sum over the shards, each read under its lock, one after another.
-    pub fn weight(&self, rt: &impl Wait) -> usize {
+    pub fn weight(&self, rt: &impl Wait) -> usize
+        ensures { MaySeeAllRelated Rel.holds S N (λ shards. result ≡ min (sum_by (λ shard. weight_of shard.cache.entries) shards) (2 ^ 64 - 1)) }
+    {
         let mut weight = 0usize;
         for shard in 0..N {
             weight = weight.saturating_add(calls::shard_weight(&self.locked(rt), shard));
@@ -249,7 +267,9 @@ impl<K: Hash, V, const N: usize, S: BuildHasher, Rel: Relation<K, V>> SharedCach
     }
 
     /// What the calls met, since the cache was made: the sum over the shards, each read under its lock, one after another.
-    pub fn stats(&self, rt: &impl Wait) -> Counts {
+    pub fn stats(&self, rt: &impl Wait) -> Counts
+        ensures { MaySeeAllRelated Rel.holds S N (λ shards. result ≡ total shards) }
+    {
         let mut stats = Counts::none();
         for shard in 0..N {
             stats = stats.plus(calls::shard_stats(&self.locked(rt), shard));
@@ -290,15 +310,21 @@ impl<K: Hash, V, const N: usize, S: BuildHasher, Rel: Relation<K, V>> SharedCach
     /// shard has to come from another thread.
     pub fn lock_shard(&self, rt: &impl Wait, shard: usize) -> LockedShard<'_, K, V, S, Rel>
         requires { shard < N }
+        ensures related { AreRelated Rel.holds result.entries }
+        ensures valid { IsCache K.eq result }
     {
-        LockedShard {
+        let locked = LockedShard {
             held: self.shards[shard].lock(rt),
-        }
+        };
+        // Read for the proof alone, which learns from it what the type says of itself.
+        let _len = locked.cache().len();
+        locked
     }
 
     /// How many entries a shard has, read under its lock.
     pub fn shard_len(&self, rt: &impl Wait, shard: usize) -> usize
         requires { shard < N }
+        ensures { MaySeeRelated Rel.holds (λ es. result ≡ length es) }
     {
         calls::shard_len(&self.locked(rt), shard)
     }
@@ -312,12 +338,16 @@ impl<K: Hash, V, const N: usize, S: BuildHasher + SameHashes, Rel: Relation<K, V
     Rel,
 > {
     /// Whether a key has an entry.
-    pub fn contains(&self, rt: &impl Wait, key: &K) -> bool {
+    pub fn contains(&self, rt: &impl Wait, key: &K) -> bool
+        ensures { MaySeeRelated Rel.holds (λ es. result ≡ is_some (entry_of K.eq es key.now)) }
+    {
         self.contains_by(rt, key)
     }
 
     /// As `contains`, by what stands for the key.
-    pub fn contains_by<Q: Query<K>>(&self, rt: &impl Wait, query: Q) -> bool {
+    pub fn contains_by<Q: Query<K>>(&self, rt: &impl Wait, query: Q) -> bool
+        ensures { MaySeeRelated Rel.holds (λ es. result ≡ is_some (entry_of Q.stands_for es query)) }
+    {
         calls::contains(&self.locked(rt), &self.hash_builder, query)
     }
 

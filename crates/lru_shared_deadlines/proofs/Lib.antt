@@ -1,3 +1,4 @@
 pub mod Shown
 pub mod Made
 pub mod PutBack
+pub mod Seen

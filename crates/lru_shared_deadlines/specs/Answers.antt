@@ -1,15 +1,23 @@
 -- What the answers of a cache that threads share say by themselves, where nothing is known of the entries that others may change.
-use Rattle.std.specs.Prelude.{ℕ, Bool, Option, Result}
+use Rattle.std.specs.Prelude.{◌≡◌, ℕ, Bool, List, length, Option, Result}
 use Rattle.lru_owned_cache.specs.declared.cache.Refused.{Refused}
 use Rattle.lru_owned_cache.specs.Cache.{Cached, Puts}
 use Rattle.lru_deadlines.specs.declared.deadlines.Until.{Until}
 use Rattle.lru_shared_cache.specs.declared.calls.NotGot.{NotGot}
-use Rattle.lru_shared_cache.specs.Shards.{MayDo}
+use Rattle.lru_shared_cache.specs.Shards.{MaySee, MayDo}
 use Rattle.lru_shared_deadlines.specs.declared.ages.Aged.{Aged}
 use Rattle.lru_shared_deadlines.specs.declared.ages.Ages.{Ages}
 use Rattle.lru_shared_deadlines.specs.declared.ages.Moment.{Moment}
 use Rattle.lru_shared_deadlines.specs.Ages.{moment}
 use Rattle.lru_shared_deadlines.specs.Calls.{ShardOf, Ends, GetsOrPuts}
+
+-- some shard is so
+abbrev pub MayBe : (K V S : Type 0) → (ShardOf K V S → Type 0) → Type 0
+MayBe K V S P = MaySee P
+
+-- so many shards are so together, each seen at a moment of its own
+abbrev pub MayBeAll : (K V S : Type 0) → ℕ → (List (ShardOf K V S) → Type 0) → Type 0
+MayBeAll K V S many P = (shards : List (ShardOf K V S)) × ((length shards ≡ many) × P shards)
 
 -- some shard is changed so, at a time, under these ages
 abbrev pub MayAct : (K V S : Type 0) → Ages → ℕ → (Moment → ShardOf K V S → ShardOf K V S → Type 0) → Type 0

@@ -1,14 +1,17 @@
 //! A cache that threads share, whose entries end.
-ghost use Rattle.std.specs.Prelude.{◌≡◌, ◌<◌, length, vec_len, IfOk, IfErr, IfSome};
+ghost use Rattle.std.specs.Prelude.{◌≡◌, ◌-◌, ◌<◌, ◌^◌, min, sum_by, length, vec_len, is_some, IfOk, IfErr, IfSome};
 ghost use Rattle.lru_index.specs.Hashing.{seeded, unseeded};
-ghost use Rattle.lru_owned_cache.specs.Cache.{hashes_from};
+ghost use Rattle.lru_owned_cache.specs.Cache.{IsCache, hashes_from};
+ghost use Rattle.lru_owned_cache.specs.Entries.{weight_of};
+ghost use Rattle.lru_deadlines.specs.Deadlines.{living};
 ghost use Rattle.lru_shared_deadlines.specs.Sharded.{setting};
 ghost use Rattle.lru_shared_cache.specs.Answers.{HandsBack, MayShow};
+ghost use Rattle.lru_shared_cache.specs.Counts.{total};
 ghost use Rattle.lru_shared_deadlines.specs.Ages.{moment};
-ghost use Rattle.lru_shared_deadlines.specs.Calls.{Lends, Gets, SweepsShard, PutsIn};
+ghost use Rattle.lru_shared_deadlines.specs.Calls.{VisitsEach, Lends, Gets, SweepsShard, PutsIn};
 ghost use Rattle.lru_shared_cache.specs.Calls.{RetainsShard};
 ghost use Rattle.lru_shared_cache.specs.Counting.{Takes, PopsShard, ClearsShard, DrainsShard, LimitsShard, PutsCounted};
-ghost use Rattle.lru_shared_deadlines.specs.Answers.{MayAct, MayChange, MayGetOrPut, MayPutBack};
+ghost use Rattle.lru_shared_deadlines.specs.Answers.{MayBe, MayBeAll, MayAct, MayChange, MayGetOrPut, MayPutBack};
 
 use crate::ages::Moment;
 pub use crate::ages::{Aged, Ages, Gone};
@@ -39,9 +42,26 @@ pub struct LockedDeadlineShard<'a, K: Hash, V, S: BuildHasher> {
     held: Held<'a, Counted<DeadlineCache<K, Aged<V>, S>>>,
 }
 
+impl<'a, K: Hash, V, S: BuildHasher> Model for LockedDeadlineShard<'a, K, V, S> {
+    ghost use Rattle.lru_owned_cache.specs.Cache.{Cached, cached_code};
+    ghost use Rattle.lru_deadlines.specs.Codes.{until_code};
+    ghost use Rattle.lru_deadlines.specs.declared.deadlines.Until.{Until};
+    ghost use Rattle.lru_shared_deadlines.specs.Codes.{aged_code};
+    ghost use Rattle.lru_shared_deadlines.specs.declared.ages.Aged.{Aged};
+
+    // the entries behind the lock
+    ghost Value = { Cached K (Until (Aged V)) S };
+
+    ghost coded = { cached_code K.code (until_code (aged_code V.code)) S.code };
+
+    ghost view = { λ locked. locked.held.cache };
+}
+
 impl<'a, K: Hash, V, S: BuildHasher> LockedDeadlineShard<'a, K, V, S> {
     /// The entries of the shard, as they are while the lock is held, also those that are past.
-    pub fn cache(&self) -> &DeadlineCache<K, Aged<V>, S> {
+    pub fn cache(&self) -> &DeadlineCache<K, Aged<V>, S>
+        ensures { result.now ≡ self.now }
+    {
         &self.held.cache().cache
     }
 }
@@ -193,7 +213,9 @@ impl<K: Hash, V, const N: usize, S: BuildHasher> SharedDeadlineCache<K, V, N, S>
 
     /// How many entries there are, with those that are past: the sum over the shards, each read under its lock, one after
     /// another.
-    pub fn len(&self, rt: &impl Wait) -> usize {
+    pub fn len(&self, rt: &impl Wait) -> usize
+        ensures { MayBeAll K V S N (λ shards. result ≡ min (sum_by (λ shard. length shard.cache.entries) shards) (2 ^ 64 - 1)) }
+    {
         let mut len = 0usize;
         for shard in 0..N {
             len = len.saturating_add(calls::shard_len(&self.locked(rt), shard));
@@ -203,7 +225,9 @@ impl<K: Hash, V, const N: usize, S: BuildHasher> SharedDeadlineCache<K, V, N, S>
 
     /// What the entries weigh together, with those that are past: the sum over the shards, each read under its lock, one after
     /// another.
-    pub fn weight(&self, rt: &impl Wait) -> usize {
+    pub fn weight(&self, rt: &impl Wait) -> usize
+        ensures { MayBeAll K V S N (λ shards. result ≡ min (sum_by (λ shard. weight_of shard.cache.entries) shards) (2 ^ 64 - 1)) }
+    {
         let mut weight = 0usize;
         for shard in 0..N {
             weight = weight.saturating_add(calls::shard_weight(&self.locked(rt), shard));
@@ -212,7 +236,9 @@ impl<K: Hash, V, const N: usize, S: BuildHasher> SharedDeadlineCache<K, V, N, S>
     }
 
     /// What the calls met, since the cache was made: the sum over the shards, each read under its lock, one after another.
-    pub fn stats(&self, rt: &impl Wait) -> Counts {
+    pub fn stats(&self, rt: &impl Wait) -> Counts
+        ensures { MayBeAll K V S N (λ shards. result ≡ total shards) }
+    {
         let mut stats = Counts::none();
         for shard in 0..N {
             stats = stats.plus(shard_stats(&self.locked(rt), shard));
@@ -230,6 +256,7 @@ impl<K: Hash, V, const N: usize, S: BuildHasher> SharedDeadlineCache<K, V, N, S>
     )
         requires shard { shard < N }
         requires visit { F.IsAlwaysCallable visit }
+        ensures { MayBe K V S (λ shard. VisitsEach (λ p x q. F.step p x tt q) visit shard.cache.entries) }
     {
         calls::visit_each(&self.locked(rt), shard, visit);
     }
@@ -238,15 +265,20 @@ impl<K: Hash, V, const N: usize, S: BuildHasher> SharedDeadlineCache<K, V, N, S>
     /// shard has to come from another thread.
     pub fn lock_shard(&self, rt: &impl Wait, shard: usize) -> LockedDeadlineShard<'_, K, V, S>
         requires { shard < N }
+        ensures { IsCache K.eq result }
     {
-        LockedDeadlineShard {
+        let locked = LockedDeadlineShard {
             held: self.shards[shard].lock(rt),
-        }
+        };
+        // Read for the proof alone, which learns from it what the type says of itself.
+        let _len = locked.cache().len();
+        locked
     }
 
     /// How many entries a shard has, with those that are past, read under its lock.
     pub fn shard_len(&self, rt: &impl Wait, shard: usize) -> usize
         requires { shard < N }
+        ensures { MayBe K V S (λ shard. result ≡ length shard.cache.entries) }
     {
         calls::shard_len(&self.locked(rt), shard)
     }
@@ -255,7 +287,9 @@ impl<K: Hash, V, const N: usize, S: BuildHasher> SharedDeadlineCache<K, V, N, S>
 impl<K: Hash, V, const N: usize, S: BuildHasher + SameHashes> SharedDeadlineCache<K, V, N, S> {
     /// Whether a key has an entry in its time, or what stands for the key: a reference to it, or a `&str` where keys are
     /// texts.
-    pub fn contains<Q: Query<K>>(&self, rt: &impl Wait, time: u64, query: Q) -> bool {
+    pub fn contains<Q: Query<K>>(&self, rt: &impl Wait, time: u64, query: Q) -> bool
+        ensures { MayBe K V S (λ shard. result ≡ is_some (living Q.stands_for time shard.cache.entries query)) }
+    {
         calls::contains(&self.locked(rt), &self.hash_builder, time, query)
     }
 

@@ -38,7 +38,7 @@ module _ {T : Type 0} (n s : ℕ) where
   pub home_evict : (a b : Shard T) → b ≡ shard (without_last a.rows) a.cap → AreAtHome n s a.rows → AreAtHome n s b.rows
   home_evict a b e all = home_fewer a b (λ j. omega (arith, ap (λ (u : Shard T). times j u.rows) e, sum_by-take-le (λ (r : Row T). cond (eqb r.key j) 1 0) a.rows (length a.rows - 1))) all
 
-  has_row : (k : ℕ) (rows : List (Row T)) (r : Row T) → row_of rows k ≡ Some r → 0 < times k rows
+  pub has_row : (k : ℕ) (rows : List (Row T)) (r : Row T) → row_of rows k ≡ Some r → 0 < times k rows
   has_row k rows r found =
       elim (cases_lt 0 (times k rows)) [
         | inl some ↦ some

@@ -5,3 +5,4 @@ pub mod Sheds
 pub mod Passed
 pub mod Answered
 mod InTurn
+mod Seen

@@ -25,7 +25,7 @@ pub(crate) struct LockedUnit<T, const N: usize> {
 impl<T, const N: usize> LockedUnit<T, N> {
     ghost use Rattle.std.specs.Prelude.{[], List, map, option_map};
     ghost use Rattle.lru_shard.specs.Row.{weight_of, pair_of, row_of, is_held, last_row};
-    ghost use Rattle.lru_shard.specs.Shard.{shard};
+    ghost use Rattle.lru_shard.specs.Shard.{shard, IsShard};
     ghost use Rattle.lru_shard.specs.Unit.{VisitsEach};
     ghost use Rattle.lru_shard.specs.Unit.{needs_promote};
 
@@ -58,8 +58,10 @@ impl<T, const N: usize> LockedUnit<T, N> {
     }
 
     pub(crate) fn look_at<A, L: Look<T, A>>(&self, look: L) -> A
-        ensures { L.tells look self.now.unit result }
+        ensures told { L.tells look self.now.unit result }
+        ensures valid { IsShard self.now.unit }
     {
+        let _weight = self.unit.used_weight();
         look.look_at(&self.unit)
     }
 
@@ -72,8 +74,10 @@ impl<T, const N: usize> LockedUnit<T, N> {
     }
 
     pub(crate) fn holds(&self, key: u64) -> bool
-        ensures { result ≡ is_held self.now.unit.rows key }
+        ensures answer { result ≡ is_held self.now.unit.rows key }
+        ensures valid { IsShard self.now.unit }
     {
+        let _weight = self.unit.used_weight();
         self.unit.contains(key)
     }
 
@@ -102,8 +106,10 @@ impl<T, const N: usize> LockedUnit<T, N> {
 
     pub(crate) fn visit<F: FnMut((&T, usize))>(&self, mut visit: F)
         requires { F.IsAlwaysCallable visit }
-        ensures { VisitsEach (λ p x q. F.step p x tt q) visit self.now.unit.rows }
+        ensures visited { VisitsEach (λ p x q. F.step p x tt q) visit self.now.unit.rows }
+        ensures valid { IsShard self.now.unit }
     {
+        let _weight = self.unit.used_weight();
         let mut rest = self.unit.iter();
         while let Some(pair) = rest.next() {
             visit(pair);
@@ -111,8 +117,10 @@ impl<T, const N: usize> LockedUnit<T, N> {
     }
 
     pub(crate) fn is_among_first(&self, key: u64, top: usize) -> bool
-        ensures { result ≡ not (needs_promote self.now.unit.rows key top) }
+        ensures answer { result ≡ not (needs_promote self.now.unit.rows key top) }
+        ensures valid { IsShard self.now.unit }
     {
+        let _weight = self.unit.used_weight();
         !self.unit.need_promote(key, top)
     }
 
@@ -126,7 +134,7 @@ impl<T, const N: usize> LockedUnit<T, N> {
 impl<T: Drop, const N: usize> LockedUnit<T, N> {
     ghost use Rattle.std.specs.Prelude.{option_map};
     ghost use Rattle.lru_shard.specs.Row.{pair_of, row_of, is_held, without, last_row, without_last};
-    ghost use Rattle.lru_shard.specs.Shard.{shard};
+    ghost use Rattle.lru_shard.specs.Shard.{shard, IsShard};
     ghost use Rattle.lru_shard.specs.Unit.{InsertsTail, Updates, accessed};
     ghost use Rattle.lru_shard.specs.ShardCalls.{AdmitsRaised, SetsRaised, IncrementsTo, UpdatesFrom};
     ghost use Rattle.lru_shared_order.specs.Batches.{AdmitsEach};
@@ -259,7 +267,9 @@ impl<T: Drop, const N: usize> LockedUnit<T, N> {
     pub(crate) fn promote(&mut self, key: u64) -> bool
         ensures answer { result ≡ is_held self.old.unit.rows key }
         ensures rows { self.new.unit ≡ shard (accessed self.old.unit.rows key) self.old.unit.cap }
+        ensures valid { IsShard self.old.unit }
     {
+        let _weight = self.unit.used_weight();
         self.unit.access(key)
     }
 

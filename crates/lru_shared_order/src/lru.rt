@@ -37,7 +37,8 @@ pub struct Lru<T, const N: usize> {
 }
 
 impl<T, const N: usize> Lru<T, N> {
-    ghost use Rattle.lru_shared_order.specs.LruCalls.{MaySee};
+    ghost use Rattle.lru_shard.specs.Unit.{VisitsEach};
+    ghost use Rattle.lru_shared_order.specs.LruCalls.{MayHold, MaySee, watermark_of};
 
     /// An empty `Lru` with a limit on its weight. Each shard has room for `capacity` rows, and may weigh
     /// `usize::MAX / N`. The seed of the hashes stays the same from run to run.
@@ -49,6 +50,7 @@ impl<T, const N: usize> Lru<T, N> {
     where
         T: Drop,
         requires { 0 < N }
+        ensures { IfOk result (λ lru. watermark_of lru ≡ None) }
     {
         Self::with_capacity_and_watermark(alloc, weight_limit, capacity, None)
     }
@@ -64,6 +66,7 @@ impl<T, const N: usize> Lru<T, N> {
     where
         T: Drop,
         requires { 0 < N }
+        ensures { IfOk result (λ lru. watermark_of lru ≡ watermark) }
     {
         Self::over_hashes(
             alloc,
@@ -86,6 +89,7 @@ impl<T, const N: usize> Lru<T, N> {
     where
         T: Drop,
         requires { 0 < N }
+        ensures { IfOk result (λ lru. watermark_of lru ≡ watermark) }
     {
         let hashes = SeededHashes::with_seed(seed);
         Self::over_hashes(alloc, weight_limit, capacity, watermark, hashes)
@@ -101,6 +105,7 @@ impl<T, const N: usize> Lru<T, N> {
     where
         T: Drop,
         requires { 0 < N }
+        ensures { IfOk result (λ lru. watermark_of lru ≡ watermark) }
     {
         Ok(Lru {
             units: empty_units(alloc, capacity, hashes)?,
@@ -176,8 +181,9 @@ impl<T, const N: usize> Lru<T, N> {
     pub fn iter_for_each<F: FnMut((&T, usize))>(&self, rt: &impl Wait, shard: usize, visit: F)
         requires shard { shard < N }
         requires visit { F.IsAlwaysCallable visit }
+        ensures { MaySee N shard (λ s (_ : Unit {0}). VisitsEach (λ p x q. F.step p x tt q) visit s.rows) tt }
     {
-        self.units[shard].lock.lock(rt).visit(visit);
+        self.unit_at(rt, shard).visit(visit);
     }
 
     /// Looks at the rows of a shard under its lock, and answers what the look does. No row is used by that, and the look must
@@ -190,7 +196,9 @@ impl<T, const N: usize> Lru<T, N> {
     }
 
     /// Whether a key has a row.
-    pub fn peek(&self, rt: &impl Wait, key: u64) -> bool {
+    pub fn peek(&self, rt: &impl Wait, key: u64) -> bool
+        ensures { MayHold T N key result }
+    {
         self.units[self.shard_of(key)].lock.lock(rt).holds(key)
     }
 
@@ -307,7 +315,7 @@ impl<T, const N: usize> Lru<T, N> {
 
 impl<T: Drop, const N: usize> Lru<T, N> {
     ghost use Rattle.lru_shared_order.specs.Batches.{AreAnswered};
-    ghost use Rattle.lru_shared_order.specs.LruCalls.{HandsBack, MayAnswer, MayInsertTail, IsAskedOf};
+    ghost use Rattle.lru_shared_order.specs.LruCalls.{HandsBack, MayAnswer, MayHold, MayInsertTail, IsAskedOf};
 
     /// As `LruCore::admit`: puts a row first in the shard of its key, and answers that shard.
     #[inline(always)]
@@ -438,12 +446,16 @@ impl<T: Drop, const N: usize> Lru<T, N> {
     }
 
     /// Puts a key's row first, and answers whether there is one.
-    pub fn promote(&self, rt: &impl Wait, key: u64) -> bool {
+    pub fn promote(&self, rt: &impl Wait, key: u64) -> bool
+        ensures { MayHold T N key result }
+    {
         self.units[self.shard_of(key)].lock.lock(rt).promote(key)
     }
 
     /// As `LruCore::promote_top_n`.
-    pub fn promote_top_n(&self, rt: &impl Wait, key: u64, top: usize) -> bool {
+    pub fn promote_top_n(&self, rt: &impl Wait, key: u64, top: usize) -> bool
+        ensures { MayHold T N key result }
+    {
         let mut unit = self.units[self.shard_of(key)].lock.lock(rt);
         unit.is_among_first(key, top) || unit.promote(key)
     }

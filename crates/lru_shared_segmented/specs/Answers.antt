@@ -1,5 +1,5 @@
 -- What the answers of a cache that threads share say by themselves, where nothing is known of the entries that others may change.
-use Rattle.std.specs.Prelude.{ℕ, Bool, Result}
+use Rattle.std.specs.Prelude.{◌≡◌, ℕ, Bool, List, length, Result}
 use Rattle.lru_owned_cache.specs.declared.entry.Entry.{Entry}
 use Rattle.lru_shared_cache.specs.declared.calls.NotGot.{NotGot}
 use Rattle.lru_shared_cache.specs.Shards.{MaySee, MayDo}
@@ -9,6 +9,10 @@ use Rattle.lru_shared_segmented.specs.Making.{GetsOrPuts}
 -- some shard is so
 abbrev pub MayBe : (K V S : Type 0) → (ShardOf K V S → Type 0) → Type 0
 MayBe K V S P = MaySee P
+
+-- so many shards are so together, each seen at a moment of its own
+abbrev pub MayBeAll : (K V S : Type 0) → ℕ → (List (ShardOf K V S) → Type 0) → Type 0
+MayBeAll K V S many P = (shards : List (ShardOf K V S)) × ((length shards ≡ many) × P shards)
 
 -- some shard is changed so
 abbrev pub MayChange : (K V S : Type 0) → (ShardOf K V S → ShardOf K V S → Type 0) → Type 0

@@ -1,13 +1,14 @@
 //! A segmented cache that threads share.
-ghost use Rattle.std.specs.Prelude.{◌≡◌, ◌<◌, length, vec_len, is_some, IfOk, IfErr};
+ghost use Rattle.std.specs.Prelude.{◌≡◌, ◌-◌, ◌<◌, ◌^◌, min, sum_by, length, vec_len, is_some, IfOk, IfErr};
 ghost use Rattle.lru_index.specs.Hashing.{seeded, unseeded};
 ghost use Rattle.lru_owned_cache.specs.Cache.{entry_of, hashes_from};
 ghost use Rattle.lru_owned_cache.specs.Entries.{weight_of};
-ghost use Rattle.lru_segmented.specs.Segmented.{entries};
+ghost use Rattle.lru_segmented.specs.Segmented.{IsSegmented, entries};
 ghost use Rattle.lru_shared_cache.specs.Answers.{HandsBack};
+ghost use Rattle.lru_shared_cache.specs.Counts.{total};
 ghost use Rattle.lru_shared_cache.specs.Calls.{ShowsEntry, VisitsEach};
 ghost use Rattle.lru_shared_segmented.specs.Calls.{Gets, Lends, Takes, PopsShard, ClearsShard, LimitsShard, PutsCounted};
-ghost use Rattle.lru_shared_segmented.specs.Answers.{MayBe, MayChange, MayGetOrPut};
+ghost use Rattle.lru_shared_segmented.specs.Answers.{MayBe, MayBeAll, MayChange, MayGetOrPut};
 
 use crate::calls;
 use crate::one::SegmentedShard;
@@ -35,9 +36,22 @@ pub struct LockedSegmentedShard<'a, K: Hash, V, S: BuildHasher> {
     held: Held<'a, Counted<SegmentedCache<K, V, S>>>,
 }
 
+impl<'a, K: Hash, V, S: BuildHasher> Model for LockedSegmentedShard<'a, K, V, S> {
+    ghost use Rattle.lru_segmented.specs.Segmented.{Segmented, segmented_code};
+
+    // the entries behind the lock
+    ghost Value = { Segmented K V S };
+
+    ghost coded = { segmented_code K.code V.code S.code };
+
+    ghost view = { λ locked. locked.held.cache };
+}
+
 impl<'a, K: Hash, V, S: BuildHasher> LockedSegmentedShard<'a, K, V, S> {
     /// The entries of the shard, as they are while the lock is held.
-    pub fn cache(&self) -> &SegmentedCache<K, V, S> {
+    pub fn cache(&self) -> &SegmentedCache<K, V, S>
+        ensures { result.now ≡ self.now }
+    {
         &self.held.cache().cache
     }
 }
@@ -169,7 +183,9 @@ impl<K: Hash, V, const N: usize, S: BuildHasher> SharedSegmentedCache<K, V, N, S
     }
 
     /// How many entries there are: the sum over the shards, each read under its lock, one after another.
-    pub fn len(&self, rt: &impl Wait) -> usize {
+    pub fn len(&self, rt: &impl Wait) -> usize
+        ensures { MayBeAll K V S N (λ shards. result ≡ min (sum_by (λ shard. length (entries shard.cache)) shards) (2 ^ 64 - 1)) }
+    {
         let mut len = 0usize;
         for shard in 0..N {
             len = len.saturating_add(self.shard_len(rt, shard));
@@ -178,7 +194,9 @@ impl<K: Hash, V, const N: usize, S: BuildHasher> SharedSegmentedCache<K, V, N, S
     }
 
     /// What the entries weigh together: the sum over the shards, each read under its lock, one after another.
-    pub fn weight(&self, rt: &impl Wait) -> usize {
+    pub fn weight(&self, rt: &impl Wait) -> usize
+        ensures { MayBeAll K V S N (λ shards. result ≡ min (sum_by (λ shard. weight_of (entries shard.cache)) shards) (2 ^ 64 - 1)) }
+    {
         let mut weight = 0usize;
         for shard in 0..N {
             weight = weight.saturating_add(self.shard_weight(rt, shard));
@@ -187,7 +205,9 @@ impl<K: Hash, V, const N: usize, S: BuildHasher> SharedSegmentedCache<K, V, N, S
     }
 
     /// How many entries the upper segments have: the sum over the shards, each read under its lock, one after another.
-    pub fn protected_len(&self, rt: &impl Wait) -> usize {
+    pub fn protected_len(&self, rt: &impl Wait) -> usize
+        ensures { MayBeAll K V S N (λ shards. result ≡ min (sum_by (λ shard. length shard.cache.upper) shards) (2 ^ 64 - 1)) }
+    {
         let mut len = 0usize;
         for shard in 0..N {
             len = len.saturating_add(calls::shard_protected_len(&self.locked(rt), shard));
@@ -197,7 +217,9 @@ impl<K: Hash, V, const N: usize, S: BuildHasher> SharedSegmentedCache<K, V, N, S
 
     /// What the entries of the upper segments weigh together: the sum over the shards, each read under its lock, one after
     /// another.
-    pub fn protected_weight(&self, rt: &impl Wait) -> usize {
+    pub fn protected_weight(&self, rt: &impl Wait) -> usize
+        ensures { MayBeAll K V S N (λ shards. result ≡ min (sum_by (λ shard. weight_of shard.cache.upper) shards) (2 ^ 64 - 1)) }
+    {
         let mut weight = 0usize;
         for shard in 0..N {
             weight = weight.saturating_add(calls::shard_protected_weight(&self.locked(rt), shard));
@@ -206,7 +228,9 @@ impl<K: Hash, V, const N: usize, S: BuildHasher> SharedSegmentedCache<K, V, N, S
     }
 
     /// What the calls met, since the cache was made: the sum over the shards, each read under its lock, one after another.
-    pub fn stats(&self, rt: &impl Wait) -> Counts {
+    pub fn stats(&self, rt: &impl Wait) -> Counts
+        ensures { MayBeAll K V S N (λ shards. result ≡ total shards) }
+    {
         let mut stats = Counts::none();
         for shard in 0..N {
             stats = stats.plus(shard_stats(&self.locked(rt), shard));
@@ -244,10 +268,14 @@ impl<K: Hash, V, const N: usize, S: BuildHasher> SharedSegmentedCache<K, V, N, S
     /// shard has to come from another thread.
     pub fn lock_shard(&self, rt: &impl Wait, shard: usize) -> LockedSegmentedShard<'_, K, V, S>
         requires { shard < N }
+        ensures { IsSegmented K.eq result }
     {
-        LockedSegmentedShard {
+        let locked = LockedSegmentedShard {
             held: self.shards[shard].lock(rt),
-        }
+        };
+        // Read for the proof alone, which learns from it what the type says of itself.
+        let _len = locked.cache().len();
+        locked
     }
 }
 

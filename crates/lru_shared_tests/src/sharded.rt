@@ -286,3 +286,32 @@ fn entries_are_popped_drained_and_limited(rt: HostRuntime) -> Result<(), Fail> {
     assert!(rt; are_let_go(&rt, rt.alloc())?);
     Ok(())
 }
+
+// How many entries a cache has after three puts of weight 3, and what they weigh, where its limits are told by name.
+fn kept_under<R: Wait>(
+    rt: &R,
+    alloc: Global,
+    limits: Limits,
+) -> Result<(usize, usize), AllocError> {
+    let cache: SharedCache<u64, u64, 1> = SharedCache::with_limits(alloc, limits)?;
+    for key in 0..3u64 {
+        let _put = cache.put(rt, key, key, 3, |_| {});
+    }
+    Ok((cache.len(rt), cache.weight(rt)))
+}
+
+#[test]
+fn limits_told_by_name_are_kept(rt: HostRuntime) -> Result<(), Fail> {
+    let alloc: Global = rt.alloc();
+    let by_weight = Limits {
+        weight: 5,
+        entries: 100,
+    };
+    let by_entries = Limits {
+        weight: 100,
+        entries: 2,
+    };
+    assert_eq!(rt; kept_under(&rt, alloc, by_weight)?, (1, 3));
+    assert_eq!(rt; kept_under(&rt, alloc, by_entries)?, (2, 6));
+    Ok(())
+}

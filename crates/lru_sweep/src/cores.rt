@@ -68,7 +68,8 @@ fn admit_and_evict<const N: usize>(
     }
 }
 
-fn write_pairs<W: Write>(pairs: &[(u64, usize)], writer: &mut W) -> io::Result<()> {
+/// Writes what left, a pair a line.
+pub fn write_pairs<W: Write>(pairs: &[(u64, usize)], writer: &mut W) -> io::Result<()> {
     for (data, weight) in pairs {
         writeln!(writer, "evicted {data} {weight}")?;
     }

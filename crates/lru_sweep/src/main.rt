@@ -18,6 +18,7 @@ mod deadlines;
 mod engine;
 mod lists;
 mod loads;
+mod locked;
 mod mails;
 mod recorded;
 mod rows;
@@ -43,13 +44,14 @@ fn made<A, F: Fn(Global) -> Result<A, AllocError>>(alloc: Global, make: F) -> Re
 }
 
 // Whether each script of orders and actors came to its end.
-fn order_scripts<R: Wait, W: Write>(rt: &R, alloc: Global, writer: &mut W) -> [bool; 8] {
+fn order_scripts<R: Wait, W: Write>(rt: &R, alloc: Global, writer: &mut W) -> [bool; 9] {
     [
         lists::script(alloc, writer).is_ok(),
         shards::script(alloc, writer).is_ok(),
         cores::script(alloc, writer).is_ok(),
         tiers::script(alloc, writer).is_ok(),
         recorded::script(rt, alloc, writer).is_ok(),
+        locked::script(rt, alloc, writer).is_ok(),
         actor_shards::script(alloc, writer).is_ok(),
         boxes::script(alloc, writer).is_ok(),
         mails::script(alloc, writer).is_ok(),
@@ -85,7 +87,7 @@ fn file_scripts<W: Write>(alloc: Global, writer: &mut W) -> [bool; 3] {
 
 fn main(rt: HostRuntime) -> ExitCode {
     let alloc = rt.alloc();
-    let orders = order_scripts(&rt, alloc, &mut rt.stdout()) == [true; 8];
+    let orders = order_scripts(&rt, alloc, &mut rt.stdout()) == [true; 9];
     let caches = cache_scripts(&rt, alloc, &mut rt.stdout()) == [true; 4];
     let copies = copy_scripts(&rt, alloc, &mut rt.stdout()) == [true; 2];
     let files = file_scripts(alloc, &mut rt.stdout()) == [true; 3];

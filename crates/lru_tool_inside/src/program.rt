@@ -5,6 +5,7 @@ use crate::arguments;
 use crate::engine::run_buffered;
 use log::sink::Console;
 use pingora_lru_files::persistence::HostFolder;
+use std::env;
 use std::io::BufWriter;
 use std::process::ExitCode;
 
@@ -40,7 +41,7 @@ fn help(rt: HostRuntime) -> ExitCode {
 /// Answers the lines of standard input with the words that the program was called with; of `--help` alone it tells them, and reads nothing. Where the words or the buffer find no
 /// memory it writes `error memory`, and the status is 1.
 pub fn run(rt: HostRuntime) -> ExitCode {
-    let Ok(words) = arguments::words(&rt) else {
+    let Ok(words) = arguments::words_of(rt.alloc(), env::args(&rt)) else {
         return no_memory(rt);
     };
     if is_help(&words) {

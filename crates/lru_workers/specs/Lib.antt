@@ -6,3 +6,4 @@ pub mod Resting
 pub mod Looking
 pub mod Seats
 pub mod Accounts
+pub mod Limiting

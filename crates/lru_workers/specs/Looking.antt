@@ -11,3 +11,7 @@ abbrev pub LearnsWeight : {K : Type 0} → ℕ → ℕ → ℕ → List (Front (
 LearnsWeight {K} cap shard hash old weight refused new =
     (messages whole : List (LruMsg K)) × (new ≡ old ++ front shard messages ∷ []) × Begins messages whole × Begins (seen_of shard old) whole
     × ∥ IsWeight cap messages refused hash weight ∥₁
+
+-- a weight that a hash may have in a shard under this cap, or none: there are messages that leave it
+abbrev pub MayWeigh : (K : Type 0) → ℕ → ℕ → Option ℕ → Type 0
+MayWeigh K most hash weight = ∥ ((messages : List (LruMsg K)) × ((refused : ℕ) × IsWeight most messages refused hash weight)) ∥₁

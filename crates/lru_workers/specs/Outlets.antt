@@ -1,6 +1,8 @@
 -- Where evicted pairs go.
-use Rattle.std.specs.Prelude.{ℕ, Bool, true, false, Option, Some, None, Result, Ok, Err}
+use Rattle.std.specs.Prelude.{◌≡◌, ℕ, Bool, true, false, List, [], ◌∷◌, ◌++◌, Option, Some, None, option_map, Result, Ok, Err}
 use Rattle.std.specs.declared.alloc.AllocError.{AllocError}
+use Rattle.lru_boxes.specs.declared.seats.TakeSeat.{TakeSeat}
+use Rattle.lru_boxes.specs.declared.tie.BoxRegistry.{Ghosts}
 use Rattle.lru_mailbox.specs.declared.slip.Slip.{Slip}
 use Rattle.lru_workers.specs.declared.outlet.Outlet.{Outlet}
 use Rattle.lru_workers.specs.declared.outlet.Outlet.TheVariants.{Mailbox, Ledger}
@@ -28,3 +30,24 @@ module _ {K : Type 0} where
   pair_in (Pair key weight) = Some (key, weight)
   pair_in Nothing = None
   pair_in NoMemory = None
+
+  -- the slips at a seat after a take: one more, of the weight that was answered, where a pair was taken; else as before
+  abbrev pub NotesTaken : List Slip → TakenPair K → List Slip → Type 0
+  NotesTaken old (Pair key weight) new = (slip : Slip) × (slip.weight ≡ weight) × (new ≡ old ++ slip ∷ [])
+  NotesTaken old Nothing new = new ≡ old
+  NotesTaken old NoMemory new = new ≡ old
+
+  -- the same of one who may have a seat: without one nothing is taken
+  abbrev pub NotesAt : Option (List Slip) → TakenPair K → Option (List Slip) → Type 0
+  NotesAt None taken new = (taken ≡ Nothing) × (new ≡ None)
+  NotesAt (Some old) taken (Some new) = NotesTaken old taken new
+  NotesAt (Some old) taken None = ⊥
+
+module _ {B : Type 0} {R : Ghosts B} where
+  -- the number of a seat, where there is one
+  abbrev pub number_at : Option (TakeSeat B R) → Option ℕ
+  number_at seat = option_map (λ s. s.number) seat
+
+  -- the slips of what was taken with it
+  abbrev pub taken_at : Option (TakeSeat B R) → Option (List Slip)
+  taken_at seat = option_map (λ s. s.share.slips) seat

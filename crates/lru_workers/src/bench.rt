@@ -92,6 +92,7 @@ impl<K: Clone + Drop, T: Drop> Bench<K, T> {
         ensures steps { StepsAll K.is_clone state.old self.old.batch.items self.new.effects.items state.new }
         ensures slips { is_ledger world.now.outlet ≡ true → AddsSlips state.old.shard.rows self.old.batch.items self.new.effects.items (slips_at seat.old) (slips_at seat.new) }
         ensures seat { is_ledger world.now.outlet ≡ false → seat.new ≡ seat.old }
+        ensures seated { is_some seat.new ≡ is_some seat.old }
         ensures effects { vec_len self.new.effects ≡ vec_len self.old.asked }
         ensures asked { self.new.asked ≡ self.old.asked }
     {

@@ -7,7 +7,7 @@ ghost use Rattle.lru_inbox.specs.Logs.{front, of_fronts};
 ghost use Rattle.lru_inbox.specs.Inboxes.{shown, taken_in};
 ghost use Rattle.lru_workers.specs.Accounts.{IsKept};
 ghost use Rattle.lru_workers.specs.Seats.{slips_at};
-ghost use Rattle.lru_workers.specs.Looking.{LearnsWeight};
+ghost use Rattle.lru_workers.specs.Looking.{LearnsWeight, MayWeigh};
 
 use lru_actors::message::LruMsg;
 use lru_actors::state::ShardState;
@@ -73,6 +73,13 @@ impl<K: Clone + Drop, B: BoxRegistry + Archive> LoggedShard<K, B> {
         ensures { result ≡ hash_map.get nat_eq self.now.weights hash }
     {
         self.weights.get(&hash).copied()
+    }
+
+    // As `weight_of`, by what the type says of the rows: some messages leave them.
+    pub(crate) fn weight_left(&self, hash: u64) -> Option<usize>
+        ensures { MayWeigh K (cap_of B.shards) hash result }
+    {
+        Self::weight_of(self, hash)
     }
 
     /// As `weight_of`, for one who then knows that it is told of the rows which a beginning of the shard's log leaves, and how many

@@ -1,6 +1,6 @@
 //! Where evicted pairs wait for those who take them.
-ghost use Rattle.std.specs.Prelude.{◌≡◌};
-ghost use Rattle.lru_workers.specs.Outlets.{is_ledger, taken_by_pair, taken_by_slip, pair_in};
+ghost use Rattle.std.specs.Prelude.{◌≡◌, true, false};
+ghost use Rattle.lru_workers.specs.Outlets.{is_ledger, taken_by_pair, taken_by_slip, pair_in, number_at, taken_at, NotesAt};
 
 use lru_boxes::{BoxRegistry, LedgerBox, TakeSeat};
 use lru_mailbox::{Mailbox, Slip};
@@ -63,7 +63,11 @@ fn taken_of_slip<K>(taken: Result<Option<(Slip, K)>, AllocError>) -> TakenPair<K
 
 impl<K: Drop, B: BoxRegistry> Outlet<K, B> {
     /// Takes the first pair. It waits while there is none and one may come. Of a box it takes with a seat.
-    pub fn take(&self, rt: &impl Wait, seat: &mut Option<TakeSeat<B>>) -> TakenPair<K> {
+    pub fn take(&self, rt: &impl Wait, seat: &mut Option<TakeSeat<B>>) -> TakenPair<K>
+        ensures seat { number_at seat.new ≡ number_at seat.old }
+        ensures slips { is_ledger self.now ≡ true → NotesAt (taken_at seat.old) result (taken_at seat.new) }
+        ensures same { is_ledger self.now ≡ false → seat.new ≡ seat.old }
+    {
         match self {
             Outlet::Mailbox(mailbox) => taken_of_pair(mailbox.pop(rt)),
             Outlet::Ledger(ledger) => {
@@ -101,7 +105,7 @@ impl<K: Drop, B: BoxRegistry> Outlet<K, B> {
     /// How many pairs are lost, modulo 2^64.
     pub fn lost(&self, rt: &impl Wait) -> usize {
         match self {
-            Outlet::Mailbox(mailbox) => mailbox.lost(rt) as usize,
+            Outlet::Mailbox(mailbox) => mailbox.lend(rt).lost() as usize,
             Outlet::Ledger(ledger) => ledger.lost_len(rt),
         }
     }

@@ -1,6 +1,7 @@
 //! The loops of eviction workers and callback workers.
 ghost use Rattle.std.specs.Prelude.{◌≡◌, ◌<◌, vec_len};
 ghost use Rattle.lru_shard.specs.Victims.{longer_of};
+ghost use Rattle.lru_workers.specs.Outlets.{number_at};
 
 use crate::callback::AsyncEvictionCallback;
 use crate::outlet::TakenPair;
@@ -111,6 +112,7 @@ pub fn call_back<K: Clone + Drop, C: AsyncEvictionCallback<K>, R: Wait, B: BoxRe
     seat: Option<TakeSeat<B>>,
 ) -> Option<TakeSeat<B>>
     requires { C.ready callback.now }
+    ensures { number_at result ≡ number_at seat }
 {
     let mut seat = seat;
     for _ in rt.forever() {

@@ -4,7 +4,7 @@ ghost use Rattle.std.specs.Option.{ForSome};
 ghost use Rattle.std.specs.Sync.Mutex.{mutex_guard_value};
 ghost use Rattle.lru_inbox.specs.Logs.{log, hand, of_log, blank_logs, blank_fronts};
 ghost use Rattle.lru_inbox.specs.Inboxes.{taken_in};
-ghost use Rattle.lru_workers.specs.Looking.{LearnsWeight};
+ghost use Rattle.lru_workers.specs.Looking.{LearnsWeight, MayWeigh};
 ghost use Rattle.lru_workers.specs.Seats.{slips_at};
 ghost use Rattle.lru_shard.specs.Limits.{cap_of};
 ghost use Rattle.lru_workers.specs.Replying.{HasNothing, AreTakers};
@@ -141,10 +141,12 @@ impl<K: Clone + Drop, B: BoxRegistry + Archive> ShardPlace<K, B> {
     }
 
     /// The weight of the row with this hash, if there is one.
-    pub fn weight_of(&self, rt: &impl Wait, hash: u64) -> Option<usize> {
+    pub fn weight_of(&self, rt: &impl Wait, hash: u64) -> Option<usize>
+        ensures { is_logged self.now ≡ true → MayWeigh K (cap_of B.shards) hash result }
+    {
         match &self.weights {
             Weights::Alone(map) => map.read(rt).get(&hash).copied(),
-            Weights::WithRows(rows) => rows.lock(rt).weight_of(hash),
+            Weights::WithRows(rows) => rows.lock(rt).weight_left(hash),
         }
     }
 
@@ -176,8 +178,8 @@ impl<K: Clone + Drop, B: BoxRegistry + Archive> ShardPlace<K, B> {
         unreachable!()
     }
 
-    /// Closes the mailbox. Who waits for a reply to a message that is left behind is told.
-    pub fn shut(&self, rt: &impl Wait) {
+    // Closes the mailbox. Who waits for a reply to a message that is left behind is told.
+    fn shut(&self, rt: &impl Wait) {
         let left = self.mailbox.leave(rt);
         for letter in left {
             let Letter { message, cell } = letter;
@@ -242,6 +244,8 @@ fn add(counter: &AtomicUsize, amount: usize) {
 }
 
 impl<K: Clone + Drop, B: BoxRegistry + Archive> World<K, B> {
+    ghost use Rattle.lru_workers.specs.Limiting.{MayBePast};
+
     /// So many empty shards, each with room for `capacity` rows. Where there are logs, `logs` speaks for all of them and for those
     /// who take, and then for those alone; and each shard gets a seat, in order, as long as there are any: it lies beside the rows,
     /// has the slips of what the shard evicts, and `LoggedShard::end` gives it back. A seat that no shard gets is let go.
@@ -325,7 +329,9 @@ impl<K: Clone + Drop, B: BoxRegistry + Archive> World<K, B> {
     }
 
     /// Whether a limit is passed.
-    pub fn over_limit(&self) -> bool {
+    pub fn over_limit(&self) -> bool
+        ensures { MayBePast self.now.limits result }
+    {
         is_past(
             self.limits.weight_limit,
             self.limits.len_watermark,

@@ -4,3 +4,5 @@ pub mod Representation
 pub mod TraceLines
 pub mod Numbers
 pub mod Limits
+pub mod Tasks
+pub mod Plots

@@ -1,5 +1,5 @@
 //! Policies beside one another, as a table.
-ghost use Rattle.std.specs.Prelude.{◌≡◌, ◌≤◌, length, IfOk};
+ghost use Rattle.std.specs.Prelude.{◌≡◌, ◌≤◌, ℕ, max, length, IfOk, IsTrue};
 ghost use Rattle.std.specs.List.{All};
 
 use crate::future::only_size;
@@ -42,8 +42,13 @@ pub fn row_of(alloc: Global, limit: usize, requests: &[Request]) -> Result<HitsR
 }
 
 /// Whether the optimum of a trace is told exactly: where all objects have one size. Else it is a bound.
-pub fn is_exact(requests: &[Request]) -> bool {
-    requests.is_empty() || only_size(requests).is_some()
+pub fn is_exact(requests: &[Request]) -> bool
+    ensures { IsTrue result → (size : ℕ) × All (λ q. max q.size 1 ≡ size) requests.now }
+{
+    match only_size(requests) {
+        Some(_) => true,
+        None => requests.is_empty(),
+    }
 }
 
 /// What a policy is called in a table.

@@ -19,7 +19,7 @@ pub mod player;
 pub mod plot;
 pub mod policies;
 pub mod program;
-pub mod progress;
+mod progress;
 pub mod requests;
 pub mod sampling;
 pub mod settings;

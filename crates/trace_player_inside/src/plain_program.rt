@@ -1,5 +1,6 @@
 //! The program `trace_player`. It stands here since two programs of the repository are it: one is tried with a trace that is
 //! played under each limit by itself, the other with one that takes one pass.
+ghost use Rattle.std.specs.Prelude.{◌≤◌, IfOk, IfErr};
 ghost use Rattle.trace_player_inside.specs.Traces.{AreOfSizeOne};
 
 use crate::help::{HELP, USAGE};
@@ -52,7 +53,9 @@ pub(crate) fn read_into<R: BufRead, T: Takes>(
     progress: Progress,
     input: &mut R,
     to: &mut T,
-) -> io::Result<Result<(), BadLine>> {
+) -> io::Result<Result<(), BadLine>>
+    ensures { IfOk result (λ read. IfErr read (λ bad. 1 ≤ bad.number)) }
+{
     let mut line = Vec::new(rt.alloc());
     let mut format = None;
     for number in 1..u64::MAX {
@@ -79,11 +82,15 @@ pub(crate) fn read_into<R: BufRead, T: Takes>(
 /// The requests of an input, or its first bad line, as `read_into` has it.
 pub fn read_trace<R: BufRead>(
     rt: HostRuntime,
-    progress: Progress,
     input: &mut R,
-) -> io::Result<Result<Vec<Request>, BadLine>> {
+) -> io::Result<Result<Vec<Request>, BadLine>>
+    ensures { IfOk result (λ read. IfErr read (λ bad. 1 ≤ bad.number)) }
+{
+    let progress = Progress::new(rt);
     let mut requests = Vec::new(rt.alloc());
-    match read_into(rt, progress, input, &mut requests)? {
+    let read = read_into(rt, progress, input, &mut requests)?;
+    progress.clear(rt);
+    match read {
         Ok(()) => Ok(Ok(requests)),
         Err(bad) => Ok(Err(bad)),
     }
@@ -189,8 +196,7 @@ pub fn run(rt: HostRuntime) -> io::Result<ExitCode> {
 fn play_input(rt: HostRuntime, settings: &Settings) -> io::Result<ExitCode> {
     let progress = Progress::new(rt);
     let mut input = BufReader::new(rt.alloc(), rt.reader())?;
-    let read = read_trace(rt, progress, &mut input)?;
-    progress.clear(rt);
+    let read = read_trace(rt, &mut input)?;
     let requests = match read {
         Ok(requests) => requests,
         Err(BadLine { number, fault }) => {

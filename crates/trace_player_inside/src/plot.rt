@@ -1,4 +1,5 @@
 //! A plot of hit ratios against limits, as SVG.
+ghost use Rattle.std.specs.Prelude.{◌≡◌};
 
 use crate::player::Tally;
 use crate::table::{Percent, byte_hit_ratio, hit_ratio};
@@ -223,8 +224,12 @@ impl Display for Label {
 }
 
 impl<'a> Plot<'a> {
+    ghost use Rattle.trace_player_inside.specs.Plots.{unit_of};
+
     /// The plot of these limits and tallies, which it brings into the order of the limits.
-    pub fn new(rows: &'a mut [(usize, Tally)], counted: CountedUnit) -> Self {
+    pub fn new(rows: &'a mut [(usize, Tally)], counted: CountedUnit) -> Self
+        ensures { unit_of result ≡ counted }
+    {
         rows.sort_unstable_by_key(|row| row.0);
         let (mut least, mut most) = (10000, 0);
         for (_, tally) in rows.iter() {

@@ -136,8 +136,7 @@ fn sample(rt: HostRuntime, rate: u64, limits: &[usize]) -> io::Result<ExitCode> 
 fn compare(rt: HostRuntime, comparison: &Comparison) -> io::Result<ExitCode> {
     let progress = Progress::new(rt);
     let mut input = BufReader::new(rt.alloc(), rt.reader())?;
-    let read = read_trace(rt, progress, &mut input)?;
-    progress.clear(rt);
+    let read = read_trace(rt, &mut input)?;
     let requests = match read {
         Ok(requests) => requests,
         Err(bad) => return tell_bad_line(rt, bad),

@@ -11,7 +11,7 @@ pub struct Progress {
 
 impl Progress {
     /// Shown where standard error is a terminal.
-    pub fn new(rt: HostRuntime) -> Self {
+    pub(crate) fn new(rt: HostRuntime) -> Self {
         Progress {
             is_shown: rt.stderr().is_terminal(),
         }

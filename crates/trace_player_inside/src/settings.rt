@@ -1,4 +1,6 @@
 //! What the arguments ask for.
+ghost use Rattle.std.specs.Prelude.{IfOk};
+ghost use Rattle.trace_player_inside.specs.Tasks.{CanBePlayed};
 
 use crate::limits::{LimitFault, add_limit, limit_of};
 use std::alloc::{AllocError, Global};
@@ -64,7 +66,7 @@ pub enum Asked {
 }
 
 /// What the arguments of the program ask for, as `asked_by` has it.
-pub fn asked_of(rt: &(impl Env + AllocGlobal)) -> io::Result<Asked> {
+pub(crate) fn asked_of(rt: &(impl Env + AllocGlobal)) -> io::Result<Asked> {
     let mut words = Vec::new(rt.alloc());
     for word in env::args(rt)?.skip(1) {
         words.push(word)?;
@@ -73,7 +75,9 @@ pub fn asked_of(rt: &(impl Env + AllocGlobal)) -> io::Result<Asked> {
 }
 
 /// What these words ask for. The first one that asks for help, or that is none of the program's, decides.
-pub fn asked_by(alloc: Global, words: Vec<String>) -> Result<Asked, AllocError> {
+pub fn asked_by(alloc: Global, words: Vec<String>) -> Result<Asked, AllocError>
+    ensures { IfOk result CanBePlayed }
+{
     let mut settings = Settings {
         limits: Vec::new(alloc),
         svg: None,

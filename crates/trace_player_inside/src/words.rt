@@ -1,4 +1,6 @@
 //! What the words of the program ask for, beside what `settings` knows.
+ghost use Rattle.std.specs.Prelude.{IfOk};
+ghost use Rattle.trace_player_inside.specs.Tasks.{CanBeDone};
 
 use crate::limits::{LimitFault, add_limit, limit_of};
 use crate::made::{Kind, Recipe};
@@ -89,7 +91,9 @@ impl Display for Misuse {
 /// # Errors
 ///
 /// There is no memory.
-pub fn asked_of(alloc: Global, words: &[String]) -> Result<Asked, AllocError> {
+pub fn asked_of(alloc: Global, words: &[String]) -> Result<Asked, AllocError>
+    ensures { IfOk result CanBeDone }
+{
     let Some((first, rest)) = words.split_first() else {
         return Ok(Asked::Other);
     };
@@ -113,7 +117,9 @@ fn kind_of(word: &str) -> Option<Kind> {
     }
 }
 
-fn make_of(alloc: Global, words: &[String]) -> Result<Asked, AllocError> {
+fn make_of(alloc: Global, words: &[String]) -> Result<Asked, AllocError>
+    ensures { IfOk result CanBeDone }
+{
     let [kind, numbers @ ..] = words else {
         return Ok(Asked::Misused(Misuse::Count));
     };
@@ -147,7 +153,9 @@ fn copy_of(alloc: Global, word: &String) -> Result<String, AllocError> {
 }
 
 // The words of `sample`: a rate, and limits.
-fn sample_of(alloc: Global, words: &[String]) -> Result<Asked, AllocError> {
+fn sample_of(alloc: Global, words: &[String]) -> Result<Asked, AllocError>
+    ensures { IfOk result CanBeDone }
+{
     let Some((word, rest)) = words.split_first() else {
         return Ok(Asked::Misused(Misuse::NoRate));
     };
@@ -182,7 +190,9 @@ fn take_limit(
     }
 }
 
-fn compare_of(alloc: Global, words: &[String]) -> Result<Asked, AllocError> {
+fn compare_of(alloc: Global, words: &[String]) -> Result<Asked, AllocError>
+    ensures { IfOk result CanBeDone }
+{
     let mut comparison = Comparison {
         limits: Vec::new(alloc),
         name: None,

@@ -214,3 +214,25 @@ fn each_policy_is_as_it_is_plain(rt: HostRuntime) -> Result<(), Fail> {
     assert_eq!(rt; wrong.as_str(), "");
     Ok(())
 }
+
+// How many of these seeds make the trace that the first of them makes.
+fn alike(alloc: Global, kind: Kind) -> Result<usize, AllocError> {
+    let first = small_trace(alloc, kind, 1, 1)?;
+    let mut alike = 0usize;
+    for seed in 1..=8 {
+        if small_trace(alloc, kind, 1, seed)?.as_slice() == first.as_slice() {
+            alike = alike.wrapping_add(1);
+        }
+    }
+    Ok(alike)
+}
+
+#[test]
+fn each_seed_makes_its_own_trace(rt: HostRuntime) -> Result<(), Fail> {
+    let alloc: Global = rt.alloc();
+    assert_eq!(rt;
+        [alike(alloc, Kind::Zipf)?, alike(alloc, Kind::Mixed)?],
+        [1, 1]
+    );
+    Ok(())
+}

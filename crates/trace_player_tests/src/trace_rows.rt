@@ -8,7 +8,6 @@ use trace_player_inside::one_pass::{are_of_size_one, play_all};
 use trace_player_inside::plain_program::{BadLine, read_trace};
 use trace_player_inside::player::{Request, Tally, play};
 use trace_player_inside::plot::{CountedUnit, Plot};
-use trace_player_inside::progress::Progress;
 use trace_player_inside::requests::{Format, LineFault, format_of, read_request, request_of};
 use trace_player_inside::settings::{Asked, asked_by};
 use trace_player_inside::table::Percent;
@@ -373,7 +372,7 @@ const INPUTS: [(&str, Result<usize, (u64, LineFault)>); 11] = [
 // The place of the first input that is read otherwise.
 fn wrong_input(rt: HostRuntime) -> io::Result<Option<usize>> {
     for (place, (input, wanted)) in INPUTS.iter().enumerate() {
-        let read = match read_trace(rt, Progress::new(rt), &mut input.as_bytes())? {
+        let read = match read_trace(rt, &mut input.as_bytes())? {
             Ok(requests) => Ok(requests.len()),
             Err(BadLine { number, fault }) => Err((number, fault)),
         };

@@ -25,8 +25,8 @@ loop-pair-preserved g c =
       ),
     )
 
-pub returns : goal.returns
-returns g c =
+pub returns-clause-visited : goal.returns-clause-visited
+returns-clause-visited g c =
     let inv = c.loop-pair.invariant in
     let given = inv.1.0 in (
       given,

@@ -8,7 +8,8 @@ returns g c =
     let here : locked.number ≡ c.args.shard = (λ j. (c.deref.ensures j).number) ∙ c.unit_at.ensures in
     record {
       seen = locked.unit;
+      valid = c.look_at.ensures.valid;
       cap = locked.capped;
       home = subst (λ s. AreAtHome g.row.N s locked.unit.rows) here locked.home;
-      told = c.look_at.ensures;
+      told = c.look_at.ensures.told;
     }

@@ -1,0 +1,7 @@
+use Rattle.std.proofs.Common.{◌≡◌, length}
+use Rattle.std.specs.Prelude.{◌-◌, ◌^◌, min, sum_by}
+use Rattle.lru_shared_cache.specs.Related.{MaySeeAllRelated}
+use Rattle.lru_shared_cache.proofs.shared.SharedCache.len.Given as goal
+
+abbrev pub invariant-loop-shard : goal.invariant-loop-shard
+invariant-loop-shard g l = MaySeeAllRelated g.Rel.Relation.holds g.row.S.Denot l.shard (λ shards. l.len ≡ min (sum_by (λ shard. length shard.cache.entries) shards) (2 ^ 64 - 1))
