@@ -38,6 +38,12 @@ pub struct Plan {
 /// Places below `rows`, each drawn as often as 1 in its rank: the law of Zipf.
 struct Zipf(Vec<f64>);
 
+/// Keeps a table to the end of the program. A block that is freed would move the size from which glibc asks the system for
+/// whole pages, and an order that grows then would be copied, in place of moved, for what the plan did before it.
+fn keep<T>(table: Vec<T>) {
+    std::mem::forget(table);
+}
+
 impl Zipf {
     fn new(rows: usize) -> Self {
         let mut sum = 0.0;
@@ -64,7 +70,7 @@ pub fn main_plan(rows: usize) -> Plan {
     let first: Vec<u64> = (0..rows).map(|_| draws.next()).collect();
     let second: Vec<u64> = (0..rows).map(|_| draws.next()).collect();
     let zipf = Zipf::new(rows);
-    let mut plan = Plan { keys: Vec::new(), phases: Vec::new() };
+    let mut plan = Plan::new(11 * rows);
     plan.add("admit new", Work::Admit, first.iter().copied());
     plan.add("promote uniform", Work::Promote, (0..rows).map(|_| first[draws.below(rows)]));
     plan.add("promote zipf", Work::Promote, (0..rows).map(|_| first[zipf.draw(&mut draws)]));
@@ -76,7 +82,9 @@ pub fn main_plan(rows: usize) -> Plan {
     plan.add("admit and evict", Work::AdmitAndEvict, second.iter().copied());
     // each second one of these is there
     let both: Vec<u64> = first.iter().zip(&second).flat_map(|(a, b)| [*a, *b]).collect();
-    plan.add("remove", Work::Remove, both.into_iter());
+    plan.add("remove", Work::Remove, both.iter().copied());
+    [first, second, both].into_iter().for_each(keep);
+    keep(zipf.0);
     plan
 }
 
@@ -85,9 +93,10 @@ pub fn get_or_admit_plan(rows: usize) -> Plan {
     let mut draws = Draws(12);
     let keys: Vec<u64> = (0..rows).map(|_| draws.next()).collect();
     let zipf = Zipf::new(rows);
-    let mut plan = Plan { keys: Vec::new(), phases: Vec::new() };
-    let drawn: Vec<u64> = (0..rows).map(|_| keys[zipf.draw(&mut draws)]).collect();
-    plan.add("get or admit, zipf", Work::GetOrAdmit, drawn.into_iter());
+    let mut plan = Plan::new(rows);
+    plan.add("get or admit, zipf", Work::GetOrAdmit, (0..rows).map(|_| keys[zipf.draw(&mut draws)]));
+    keep(keys);
+    keep(zipf.0);
     plan
 }
 
@@ -95,7 +104,7 @@ pub fn get_or_admit_plan(rows: usize) -> Plan {
 pub fn even_plan(rows: usize) -> Plan {
     let mut draws = Draws(13);
     let even = |place: usize| 2 * place as u64;
-    let mut plan = Plan { keys: Vec::new(), phases: Vec::new() };
+    let mut plan = Plan::new(4 * rows);
     plan.add("admit new, even keys", Work::Admit, (0..rows).map(even));
     plan.add("promote, even keys", Work::Promote, (0..rows).map(|_| even(draws.below(rows))));
     plan.add("peek, even keys", Work::Peek, (0..rows).map(|_| even(draws.below(rows))));
@@ -109,7 +118,7 @@ pub fn even_plan(rows: usize) -> Plan {
 pub fn growth_plan(log: u32) -> Plan {
     let whole = 1usize << log;
     let mut draws = Draws(14);
-    let mut plan = Plan { keys: Vec::new(), phases: Vec::new() };
+    let mut plan = Plan::new(whole + 5);
     let mut at = 0;
     for centre in [whole / 4 * 3, whole / 8 * 7, whole] {
         let (from, to) = (centre - 4, centre + 5);
@@ -121,6 +130,11 @@ pub fn growth_plan(log: u32) -> Plan {
 }
 
 impl Plan {
+    /// A plan that has no phase yet, with room for this many keys.
+    fn new(keys: usize) -> Self {
+        Plan { keys: Vec::with_capacity(keys), phases: Vec::new() }
+    }
+
     /// The same, with the number of each key in the order in which they first come in its place.
     pub fn numbered(mut self) -> Self {
         let mut numbers = std::collections::HashMap::new();

@@ -203,3 +203,37 @@ fn exactly_what_is_too_much_is_evicted(rt: HostRuntime) -> Result<(), Fail> {
     assert_eq!(rt; rows_left(rt, rt.alloc(), 2000, 2000)?, (1000, 0));
     Ok(())
 }
+
+// How many rows leave an order of four shards that is over its limit by one row, where none left before.
+fn left_of_heavy<R: Threads + Wait + Copy + Send + Sync + 'static>(
+    rt: R,
+    alloc: Global,
+) -> Result<usize, Fail> {
+    let last = Last {
+        weight: AtomicUsize::new(0),
+    };
+    let last = Arc::new(alloc, last)?;
+    let Ok(lru) = AsyncLru::<u64, 4>::builder(alloc, 359, last)
+        .num_eviction_workers(4)
+        .build(rt)
+    else {
+        return Err(Fail::from("no threads"));
+    };
+    for key in 0..40u64 {
+        // a row that is put last asks for no eviction
+        let _sent = lru.insert_tail(&rt, key, 9);
+    }
+    lru.wait_until_quiet(&rt);
+    lru.trigger_eviction(&rt);
+    lru.wait_until_quiet(&rt);
+    let closed = lru.close(&rt);
+    Ok(closed.evicted_len)
+}
+
+#[test]
+fn no_more_leave_than_have_to(rt: HostRuntime) -> Result<(), Fail> {
+    for _ in 0..20u8 {
+        assert_eq!(rt; left_of_heavy(rt, rt.alloc())?, 1);
+    }
+    Ok(())
+}

@@ -7,3 +7,4 @@ pub mod Marked
 pub mod Scales
 pub mod Tables
 pub mod Walked
+pub mod SameTexts

@@ -102,7 +102,7 @@ fn read_half(bytes: &[u8], at: usize) -> u64
 }
 
 #[inline(always)]
-fn read_word(bytes: &[u8], at: usize) -> u64
+pub(crate) fn read_word(bytes: &[u8], at: usize) -> u64
     requires { at + 8 ≤ length bytes.now }
     ensures { result ≡ number_at bytes.now at 8 }
 {

@@ -1,7 +1,13 @@
 //! What tells the key of a place, and what stands for a key.
-ghost use Rattle.std.specs.Prelude.{◌≡◌, ℕ, Bool, Option, Some, IsSome, IsTrue, is_some};
+ghost use Rattle.std.specs.Prelude.{◌≡◌, ◌+◌, ◌≤◌, ◌<◌, ℕ, Bool, Option, Some, IsSome, IsTrue, is_some, length, nat_eq, slice_index};
+ghost use Rattle.std.specs.Str.{bytes_eq};
+ghost use Rattle.lru_index.specs.Hashing.{number_at};
 
+use crate::hashing::read_word;
 use std::hash::Hash;
+
+// The bytes of a word.
+const WORD: usize = 8;
 
 /// Rows that know the key of each of their places.
 pub trait Keys<K> {
@@ -66,8 +72,40 @@ impl Query<String> for &str {
 
     #[inline(always)]
     fn stands_for(&self, key: &String) -> bool {
-        key.as_str() == *self
+        is_same_text(key.as_str(), *self)
     }
+}
+
+// Whether two texts are the same. Those of middling length are compared a word at a time, by reads that may overlap: so nothing has to
+// be made ready before their lengths are known to be the same.
+#[inline(always)]
+fn is_same_text(text: &str, other: &str) -> bool
+    ensures { result ≡ bytes_eq text.now other.now }
+{
+    let (bytes, others) = (text.as_bytes(), other.as_bytes());
+    let len = bytes.len();
+    if len != others.len() {
+        return false;
+    }
+    if len < WORD || len > 4 * WORD {
+        return text == other;
+    }
+    if !is_same_word(bytes, others, 0) || !is_same_word(bytes, others, len - WORD) {
+        return false;
+    }
+    len <= 2 * WORD
+        || (is_same_word(bytes, others, WORD) && is_same_word(bytes, others, len - 2 * WORD))
+}
+
+// Whether a word of two texts is the same.
+#[inline(always)]
+fn is_same_word(bytes: &[u8], others: &[u8], at: usize) -> bool
+    requires bytes { at + 8 ≤ length bytes.now }
+    requires others { at + 8 ≤ length others.now }
+    ensures number { result ≡ nat_eq (number_at bytes.now at 8) (number_at others.now at 8) }
+    ensures bytes { (i : ℕ) → (slice_index bytes.now i < 256) × (slice_index others.now i < 256) }
+{
+    read_word(bytes, at) == read_word(others, at)
 }
 
 /// What may be none, as a key that has to have a default.
