@@ -72,7 +72,9 @@ fn finds<B: BoxRegistry + Archive, R: Wait>(
     let there = logged.peek(rt, caller, &1) == first.is_some();
     let one = logged.peek_weight(rt, caller, &1) == first;
     let two = logged.peek_weight(rt, caller, &2) == second;
-    there && one && two && !logged.peek(rt, caller, &9)
+    // who asks the order beneath is told the same
+    let beneath = logged.lru().peek_weight(rt, &2) == second;
+    there && one && two && beneath && !logged.peek(rt, caller, &9)
 }
 
 // Removes key 3, and key 1 by its hash. Whether each was sent.

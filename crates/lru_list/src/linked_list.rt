@@ -394,7 +394,7 @@ impl<K> LinkedList<K> {
         ensures { option_copied result ≡ item_at self.now index }
     {
         if self.has_slot(index) {
-            Some(&self.nodes[index].item)
+            Some(self.slot(index))
         } else {
             None
         }
@@ -436,7 +436,18 @@ impl<K> LinkedList<K> {
         (FIRST_SLOT..self.nodes.len()).contains(&index)
     }
 
-    fn slot_mut(&mut self, index: Index) -> &mut K
+    /// The item in a slot, as `peek` finds it, where a push made that slot.
+    #[inline(always)]
+    pub fn slot(&self, index: Index) -> &K
+        requires { IsSome (item_at self.now index) }
+        ensures { item_at self.now index ≡ Some result.now }
+    {
+        &self.nodes[index].item
+    }
+
+    /// The same, to write to. No item moves.
+    #[inline(always)]
+    pub fn slot_mut(&mut self, index: Index) -> &mut K
         requires { IsSome (item_at self.old index) }
         ensures* writes_back { sem 𝓛 (lends_slot K.row self.entry index result) }
         ensures value { item_at self.old index ≡ Some result.now }

@@ -1,11 +1,12 @@
 -- Rows seen as entries.
 use Rattle.std.proofs.Common.{◌≡◌, ◌≢◌, ℕ, ◌+◌, ◌-◌, ◌≤◌, cond, not, eqb, List, [], ◌∷◌, ◌++◌, length, Some, None, refl, sym, ap, ◌∙◌, inl, inr, arith, true, false, suc}
 use Rattle.std.specs.Prelude.{Bool, Option, slice_get, is_some, IsSome, count_by, ◌==◌}
-use Rattle.std.specs.Option.{option_map}
+use Rattle.std.specs.Option.{option_map, option_map_or}
 use Rattle.std.proofs.lemmas.Bool.{cond_both, cases_eq, eq-eqb, ne_eqb, eqb-true, eqb-false, not-true, not-false, false≢true}
 use Rattle.std.proofs.lemmas.Option.{slice_get-get_or}
 use Rattle.std.proofs.lemmas.List.Sums.{sum_by-cons, sum_by-append}
-use Rattle.lru_rows.specs.Rows.{Placed, placed, last_row, first_row, with_weight, with_value, row_at, without as rows_without}
+use Rattle.std.specs.Borrow.{MutBor}
+use Rattle.lru_rows.specs.Rows.{Recency, recency, IsAt, UpdatesAt, Placed, placed, last_row, first_row, with_weight, with_value, row_at, promoted, without as rows_without}
 use Rattle.lru_owned_cache.specs.declared.entry.Entry.{Entry}
 use Rattle.lru_owned_cache.specs.Entries.{weight_of, entry_in, entries_in, weight_in}
 
@@ -109,6 +110,39 @@ module _ {K V : Type 0} where
   pub with_value-first : (p : ℕ) (d : V) (r : Placed K V) (rs : List (Placed K V)) → r.place ≡ p → with_value (r ∷ rs) p d ≡ placed r.place r.key d r.weight ∷ with_value rs p d
   with_value-first p d r rs e = ap (λ b. cond b (placed r.place r.key d r.weight) r ∷ with_value rs p d) (eq-eqb r.place p e)
 
+  -- where the row at a place has other data, it still stands there, the others are the same, and it goes first as it would have
+  pub row_valued : (p : ℕ) (d : V) (rows : List (Placed K V)) (r : Placed K V) → row_at rows p ≡ Some r → row_at (with_value rows p d) p ≡ Some (placed r.place r.key d r.weight)
+  row_valued p d [] r at = absurd (false≢true (ap is_some at))
+  row_valued p d (x ∷ xs) r at =
+      elim (cases_eq x.place p) [
+        | inl e ↦
+            ap (λ ys. row_at ys p) (with_value-first p d x xs e) ∙ row_first (placed x.place x.key d x.weight) (with_value xs p d) p e
+            ∙ ap (λ (y : Placed K V). Some (placed y.place y.key d y.weight)) (some_of x r (sym (row_first x xs p e) ∙ at))
+        | inr ne ↦
+            ap (λ b. row_at (cond b (placed x.place x.key d x.weight) x ∷ with_value xs p d) p) (ne_eqb x.place p ne)
+            ∙ ap (λ b. cond b (Some x) (row_at (with_value xs p d) p)) (ne_eqb x.place p ne)
+            ∙ row_valued p d xs r (sym (ap (λ b. cond b (Some x) (row_at xs p)) (ne_eqb x.place p ne)) ∙ at)
+      ]
+
+  without-valued : (p : ℕ) (d : V) (rows : List (Placed K V)) → rows_without (with_value rows p d) p ≡ rows_without rows p
+  without-valued p d [] = refl
+  without-valued p d (x ∷ xs) =
+      elim (cases_eq x.place p) [
+        | inl e ↦
+            ap (λ ys. rows_without ys p) (with_value-first p d x xs e)
+            ∙ ap (λ b. cond (not b) (placed x.place x.key d x.weight ∷ rows_without (with_value xs p d) p) (rows_without (with_value xs p d) p)) (eq-eqb x.place p e)
+            ∙ without-valued p d xs ∙ sym (ap (λ b. cond (not b) (x ∷ rows_without xs p) (rows_without xs p)) (eq-eqb x.place p e))
+        | inr ne ↦
+            ap (λ b. rows_without (cond b (placed x.place x.key d x.weight) x ∷ with_value xs p d) p) (ne_eqb x.place p ne)
+            ∙ ap (λ b. cond (not b) (x ∷ rows_without (with_value xs p d) p) (rows_without (with_value xs p d) p)) (ne_eqb x.place p ne)
+            ∙ ap (λ ys. x ∷ ys) (without-valued p d xs) ∙ sym (ap (λ b. cond (not b) (x ∷ rows_without xs p) (rows_without xs p)) (ne_eqb x.place p ne))
+      ]
+
+  pub promoted-valued : (p : ℕ) (d : V) (rows : List (Placed K V)) (r : Placed K V) → row_at rows p ≡ Some r → promoted (with_value rows p d) p ≡ placed r.place r.key d r.weight ∷ rows_without rows p
+  promoted-valued p d rows r at =
+      ap (λ o. option_map_or (λ y. y ∷ rows_without (with_value rows p d) p) o (with_value rows p d)) (row_valued p d rows r at)
+      ∙ ap (λ ys. placed r.place r.key d r.weight ∷ ys) (without-valued p d rows)
+
   -- the same of a weight
   pub with_weight-absent : (p w : ℕ) (rows : List (Placed K V)) → places p rows ≡ 0 → with_weight rows p w ≡ rows
   with_weight-absent p w [] none = refl
@@ -187,3 +221,25 @@ module _ {K V : Type 0} where
   none_told [] told = refl
   none_told (r ∷ rs) told =
       absurd (false≢true (ap is_some (told ∙ ap (option_map (λ (x : Placed K V). x.place)) (slice_get-get_or (r ∷ rs) (length (r ∷ rs) - 1) r (omega arith)))))
+
+-- a row whose value was lent to a closure goes first: so it stands as if it had been lent there
+module _ {K V R : Type 0} (post : MutBor V → ℕ → R → MutBor V → Type 0) (p : ℕ) (answer : R) (r r' : Recency K V) (updates : UpdatesAt post r p answer r') where
+  pub at_updated : IsAt r'.rows p
+  at_updated = ap is_some (ap (λ (x : Recency K V). row_at x.rows p) updates.4 ∙ row_valued p updates.2 r.rows updates.0 updates.1)
+
+  pub first_updated : (r'' : Recency K V) → r'' ≡ recency (promoted r'.rows p) r'.free → UpdatesAt post (recency (promoted r.rows p) r.free) p answer r''
+  first_updated r'' is =
+      let place : updates.0.place ≡ p = row_place r.rows p updates.0 updates.1 in
+      let first : promoted r.rows p ≡ updates.0 ∷ rows_without r.rows p = ap (λ o. option_map_or (λ x. x ∷ rows_without r.rows p) o r.rows) updates.1 in
+      let now : Placed K V = placed updates.0.place updates.0.key updates.2 updates.0.weight in (
+        updates.0,
+        ap (λ rs. row_at rs p) first ∙ row_first updates.0 (rows_without r.rows p) p place,
+        updates.2,
+        updates.3,
+        is ∙ ap (λ (x : Recency K V). recency (promoted x.rows p) x.free) updates.4
+            ∙ ap (λ rs. recency rs r.free)
+            (promoted-valued p updates.2 r.rows updates.0 updates.1
+            ∙ sym
+            (ap (λ rs. with_value rs p updates.2) first ∙ with_value-first p updates.2 updates.0 (rows_without r.rows p) place
+            ∙ ap (λ rs. now ∷ rs) (with_value-without p updates.2 r.rows))),
+      )

@@ -330,8 +330,9 @@ impl<K: Hash, V, S: BuildHasher> Cache<K, V, S> {
         ensures { UpdatesEntry K.eq (U.post update) self.old key.now result self.new }
     {
         let place = self.rows.find(key)?;
+        let answer = self.rows.update(place, update);
         self.rows.promote(place);
-        Some(self.rows.update(place, update))
+        Some(answer)
     }
 
     /// As `update`, by what stands for the key.
@@ -400,8 +401,9 @@ impl<K: Hash, V, S: BuildHasher> Cache<K, V, S> {
         ensures { UpdatesEntry Q.stands_for (U.post update) self.old query result self.new }
     {
         let found = self.rows.find_hashed(query, hash)?;
+        let answer = self.rows.update(found, update);
         self.rows.promote(found);
-        Some(self.rows.update(found, update))
+        Some(answer)
     }
 }
 

@@ -1,8 +1,7 @@
 -- Laws of the rows that a list of pairs and its column stand for.
 use Rattle.std.proofs.Common.{◌≡◌, ◌≢◌, ℕ, ◌+◌, ◌<◌, ◌≤◌, true, false, cond, eqb, List, [], ◌∷◌, ◌++◌, length, map, get_or, set, Some, None, refl, sym, ap, ◌∙◌, subst, inl, inr, arith}
 use Rattle.std.specs.Prelude.{Option, Bool, is_some, IsSome, count_by, ◌==◌, ◌&&◌, nat_le, nat_lt}
-use Rattle.std.specs.Option.{option_map, option_map_or, option_copied, option_copied_mut}
-use Rattle.std.specs.Borrow.{Bor, MutBor}
+use Rattle.std.specs.Option.{option_map, option_map_or}
 use Rattle.std.specs.List.{cons_option}
 use Rattle.std.proofs.lemmas.Bool.{cases_eq, eq-eqb, ne_eqb, false≢true}
 use Rattle.std.proofs.lemmas.List.{get_or-set_same, get_or-set_other}
@@ -268,15 +267,9 @@ module _ {K V : Type 0} where
   only_value i k v d w rs once found = entry_value i k d w rs (agree_at i k v w rs once found)
 
   -- what is read of a live node
-  pub seen_node : (l : Linked (Option (K × V))) (i : ℕ) (e : K × V) (o : Option (Bor (Option (K × V)))) (b : Bor (Option (K × V))) → item_of l.live i ≡ Some (Some e) → option_copied o ≡ item_at l i → o ≡ Some b → b.now ≡ Some e
-  seen_node l i e o b found seen is = some_of b.now (Some e) (sym (ap option_copied is) ∙ seen ∙ item_of-append l.live l.freed i (Some e) found)
+  pub node_there : (l : Linked (Option (K × V))) (i : ℕ) (e : K × V) (node : Option (K × V)) → item_of l.live i ≡ Some (Some e) → item_at l i ≡ Some node → node ≡ Some e
+  node_there l i e node found seen = some_of node (Some e) (sym seen ∙ item_of-append l.live l.freed i (Some e) found)
 
-  pub not_unseen : (l : Linked (Option (K × V))) (i : ℕ) (e : K × V) (o : Option (Bor (Option (K × V)))) → item_of l.live i ≡ Some (Some e) → option_copied o ≡ item_at l i → o ≡ None → ⊥
-  not_unseen l i e o found seen is = false≢true (ap is_some (sym (ap option_copied is) ∙ seen ∙ item_of-append l.live l.freed i (Some e) found))
-
-  -- and of one that is lent
-  pub lent_node : (l : Linked (Option (K × V))) (i : ℕ) (e : K × V) (o : Option (MutBor (Option (K × V)))) (b : MutBor (Option (K × V))) → item_of l.live i ≡ Some (Some e) → option_copied_mut o ≡ item_at l i → o ≡ Some b → b.now ≡ Some e
-  lent_node l i e o b found seen is = some_of b.now (Some e) (sym (ap option_copied_mut is) ∙ seen ∙ item_of-append l.live l.freed i (Some e) found)
-
-  pub not_unlent : (l : Linked (Option (K × V))) (i : ℕ) (e : K × V) (o : Option (MutBor (Option (K × V)))) → item_of l.live i ≡ Some (Some e) → option_copied_mut o ≡ item_at l i → o ≡ None → ⊥
-  not_unlent l i e o found seen is = false≢true (ap is_some (sym (ap option_copied_mut is) ∙ seen ∙ item_of-append l.live l.freed i (Some e) found))
+  -- so there is a slot
+  pub slot_there : (l : Linked (Option (K × V))) (i : ℕ) (e : K × V) → item_of l.live i ≡ Some (Some e) → IsSome (item_at l i)
+  slot_there l i e found = ap is_some (item_of-append l.live l.freed i (Some e) found)

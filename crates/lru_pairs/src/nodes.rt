@@ -133,11 +133,8 @@ impl<K, V> Nodes<K, V> {
         requires { IsAt self.now.held.rows place }
         ensures { option_map (λ r. (r.key, r.value)) (row_at self.now.held.rows place) ≡ Some result.now }
     {
-        match self.list.peek(place as usize) {
-            Some(node) => match node {
-                Some(pair) => pair,
-                None => unreachable!(),
-            },
+        match self.list.slot(place as usize) {
+            Some(pair) => pair,
             None => unreachable!(),
         }
     }
@@ -235,11 +232,8 @@ impl<K, V> Nodes<K, V> {
         ensures valid { IsLaid self.new }
     {
         let weight = self.weights[place as usize];
-        match self.list.peek_mut(place as usize) {
-            Some(node) => match node {
-                Some(pair) => update(&mut pair.1, weight),
-                None => unreachable!(),
-            },
+        match self.list.slot_mut(place as usize) {
+            Some(pair) => update(&mut pair.1, weight),
             None => unreachable!(),
         }
     }
@@ -256,11 +250,8 @@ impl<K, V> Nodes<K, V> {
         ensures* writes_back { sem 𝓛 (lends_value K.row V.row self.entry place result) }
         ensures value { option_map (λ r. r.value) (row_at self.old.held.rows place) ≡ Some result.now }
     {
-        match self.list.peek_mut(place as usize) {
-            Some(node) => match node {
-                Some(pair) => &mut pair.1,
-                None => unreachable!(),
-            },
+        match self.list.slot_mut(place as usize) {
+            Some(pair) => &mut pair.1,
             None => unreachable!(),
         }
     }
@@ -393,11 +384,8 @@ impl<K: Drop, V: Drop> Nodes<K, V> {
         ensures valid { IsLaid self.new }
     {
         let weight = self.weights[place as usize];
-        match self.list.peek_mut(place as usize) {
-            Some(node) => match node.replace((key, value)) {
-                Some((key, value)) => Taken { key, value, weight },
-                None => unreachable!(),
-            },
+        match self.list.slot_mut(place as usize).replace((key, value)) {
+            Some((key, value)) => Taken { key, value, weight },
             None => unreachable!(),
         }
     }

@@ -21,10 +21,7 @@ impl<K> Keys<K> for Order<K> {
 
     #[inline(always)]
     fn key_at(&self, place: u32) -> &K {
-        match self.list.peek(place as usize) {
-            Some(key) => key,
-            None => unreachable!(),
-        }
+        self.list.slot(place as usize)
     }
 }
 
