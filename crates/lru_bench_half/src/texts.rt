@@ -50,6 +50,8 @@ impl Order for Texts {
         self.admit(key)
     }
 
+    // (In a loop of its own, as the compiler of the peers has it.)
+    #[inline(always)]
     fn promote(&mut self, key: u64) -> bool {
         match self.texts.get(key as usize) {
             Some(text) => {

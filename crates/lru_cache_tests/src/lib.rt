@@ -25,6 +25,8 @@ mod deadline_text_tests;
 #[cfg(test)]
 mod drop_tests;
 #[cfg(test)]
+mod hash_tests;
+#[cfg(test)]
 mod made_tests;
 #[cfg(test)]
 mod memory_tests;

@@ -201,7 +201,7 @@ impl<K: Hash, V, S: BuildHasher> DeadlineCache<K, V, S> {
     fn find<Q: Query<K>>(&self, time: u64, query: Q) -> Option<&Until<V>>
         ensures { option_copied result ≡ option_map (λ e. e.value) (living Q.stands_for time self.now.entries query) }
     {
-        self.find_hashed(time, query, self.cache.hash_of(&query))
+        self.find_hashed(time, query, self.cache.hash_by(&query))
     }
 
     // The same, where the query's hash is known.

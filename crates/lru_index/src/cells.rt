@@ -3,10 +3,10 @@
 //! A head holds the first place of its home, and a link the place behind its own; 0 ends a chain. The bits of a cell that no
 //! place takes are those of the hash of that place's key, directly beneath those that tell the home: so a look-up passes most
 //! other keys without a look at them. The greatest tables leave no bit.
-ghost use Rattle.std.specs.Prelude.{◌≡◌, ℕ, ◌+◌, ◌-◌, ◌*◌, ◌^◌, ◌<◌, ◌≤◌, ◌/◌, ◌%◌, ◌++◌, ◌≢◌, length, vec_len, IfOk, OnOk, OnErr, IsSome, Some, None, false, ◌==◌, get_or, set, replicate};
-ghost use Rattle.lru_index.specs.Representation.Cells.{at, IsPower, IsTable, IsFilled, home_in, places_in};
+ghost use Rattle.std.specs.Prelude.{◌≡◌, ◌⊎◌, ℕ, ◌+◌, ◌-◌, ◌*◌, ◌^◌, ◌<◌, ◌≤◌, ◌/◌, ◌%◌, ◌++◌, ◌≢◌, length, vec_len, IfOk, OnOk, OnErr, IsSome, Some, None, false, ◌==◌, get_or, set, replicate};
+ghost use Rattle.lru_index.specs.Representation.Cells.{at, place_at, IsPower, IsTable, IsFilled, home_in, places_in};
 ghost use Rattle.lru_index.specs.Hashing.{key_hash};
-ghost use Rattle.lru_index.specs.Representation.Walks.{IsTold, Reaches};
+ghost use Rattle.lru_index.specs.Representation.Walks.{IsTold, IsPassed, Reaches};
 
 use crate::hashing::hash_of;
 use crate::keys::{Keys, Query};
@@ -158,6 +158,29 @@ pub(crate) fn put_first(cells: &mut [u32], heads: usize, home: usize, bits: u32,
     cells[home] = (bits - place_of(heads, bits)) | place;
 }
 
+// The cell from which a key is looked for: that of its home, or where the key of its first place has other bits, the link of
+// that place. Every third chain or so has several places, so no guess would do: both are at hand, and one is chosen.
+#[inline(always)]
+fn first_cell(cells: &[u32], heads: usize, home: usize, bits: u32) -> usize
+    requires scale { IsPower heads }
+    requires few { heads ≤ 2147483648 }
+    requires home { home < length cells.now }
+    ensures { (result ≡ home) ⊎ IsPassed cells.now heads home bits result }
+{
+    let held = cells[home];
+    let place = place_of(heads, held);
+    let behind = if place == 0 {
+        home
+    } else {
+        heads + place as usize
+    };
+    if has_bits(heads, held, bits) {
+        home
+    } else {
+        behind
+    }
+}
+
 /// The cell that holds the place of the key that is asked for, or the 0 behind the places of its home. Only keys whose hashes
 /// have these bits are read.
 #[inline(always)]
@@ -177,7 +200,7 @@ pub(crate) fn cell_of<K: Hash, Q: Query<K>, T: Keys<K>>(
     requires told { IsTold Q.stands_for (T.key_of keys.now) query.now cells.now heads bits }
     ensures { Reaches Q.stands_for (T.key_of keys.now) query.now (places_in cells.now heads) heads home result }
 {
-    let mut cell = home;
+    let mut cell = first_cell(cells, heads, home, bits);
     loop {
         let held = cells[cell];
         let place = place_of(heads, held);
@@ -185,6 +208,23 @@ pub(crate) fn cell_of<K: Hash, Q: Query<K>, T: Keys<K>>(
             return cell;
         }
         cell = heads + place as usize;
+    }
+}
+
+// The cell from which a place is looked for: that of its home, or the link of the first place there. It is chosen as
+// `first_cell` does it.
+#[inline(always)]
+fn first_cell_before(cells: &[u32], heads: usize, home: usize, place: u32) -> usize
+    requires scale { IsPower heads }
+    requires few { heads ≤ 2147483648 }
+    requires home { home < length cells.now }
+    ensures { (result ≡ home) ⊎ ((place_at cells.now heads home ≢ place) × (result ≡ heads + place_at cells.now heads home)) }
+{
+    let first = place_of(heads, cells[home]);
+    if first == place {
+        home
+    } else {
+        heads + first as usize
     }
 }
 
@@ -199,7 +239,7 @@ pub(crate) fn cell_before(cells: &[u32], heads: usize, home: usize, place: u32) 
     ensures walk { Reaches ◌==◌ Some place (places_in cells.now heads) heads home result }
     ensures holds { at (places_in cells.now heads) result ≡ place }
 {
-    let mut cell = home;
+    let mut cell = first_cell_before(cells, heads, home, place);
     while place_of(heads, cells[cell]) != place {
         cell = heads + place_of(heads, cells[cell]) as usize;
     }

@@ -1,13 +1,16 @@
 //! What tells the key of a place, and what stands for a key.
 ghost use Rattle.std.specs.Prelude.{◌≡◌, ◌+◌, ◌≤◌, ◌<◌, ℕ, Bool, Option, Some, IsSome, IsTrue, is_some, length, nat_eq, slice_index};
 ghost use Rattle.std.specs.Str.{bytes_eq};
-ghost use Rattle.lru_index.specs.Hashing.{number_at};
+ghost use Rattle.lru_index.specs.Hashing.{key_hash, number_at};
 
-use crate::hashing::read_word;
-use std::hash::Hash;
+use crate::hashing::{hash_of, read_word};
+use std::hash::{BuildHasher, Hash, Hasher};
 
 // The bytes of a word.
 const WORD: usize = 8;
+
+// What is hashed behind the bytes of a text.
+const END_OF_TEXT: u8 = 255;
 
 /// Rows that know the key of each of their places.
 pub trait Keys<K> {
@@ -33,6 +36,13 @@ pub trait Query<K: Hash>: Copy + Hash {
     /// Whether it stands for a key.
     fn stands_for(&self, key: &K) -> bool
         ensures { result ≡ stands_for key.now self.now };
+
+    /// Its hash, which is that of the keys that it stands for, as `hash_of` has it.
+    fn hash_by<S: BuildHasher>(&self, hash_builder: &S) -> u64
+        ensures { result ≡ key_hash S.BuildHasher S.Hasher.Hasher Self.hash_input hash_builder.now self.now }
+    {
+        hash_of(hash_builder, self)
+    }
 
     // it is hashed as the keys that it stands for
     ghost respects_hash: { (q : Self) (k : K) → IsTrue (stands_for k q) → K.hash_input k ≡ Self.hash_input q };
@@ -74,6 +84,15 @@ impl Query<String> for &str {
     fn stands_for(&self, key: &String) -> bool {
         is_same_text(key.as_str(), *self)
     }
+
+    // What `hash_of` does with a text, at the place of the call: so the hasher needs no memory.
+    #[inline(always)]
+    fn hash_by<S: BuildHasher>(&self, hash_builder: &S) -> u64 {
+        let mut hasher = hash_builder.build_hasher();
+        hasher.write(self.as_bytes());
+        hasher.write_u8(END_OF_TEXT);
+        hasher.finish()
+    }
 }
 
 // Whether two texts are the same. Those of middling length are compared a word at a time, by reads that may overlap: so nothing has to
@@ -88,13 +107,21 @@ fn is_same_text(text: &str, other: &str) -> bool
         return false;
     }
     if len < WORD || len > 4 * WORD {
-        return text == other;
+        return is_same_of_any_length(text, other);
     }
     if !is_same_word(bytes, others, 0) || !is_same_word(bytes, others, len - WORD) {
         return false;
     }
     len <= 2 * WORD
         || (is_same_word(bytes, others, WORD) && is_same_word(bytes, others, len - 2 * WORD))
+}
+
+// Whether two texts are the same. (Where it stood at the place of the call, the others would wait for its preparations.)
+#[inline(never)]
+fn is_same_of_any_length(text: &str, other: &str) -> bool
+    ensures { result ≡ bytes_eq text.now other.now }
+{
+    text == other
 }
 
 // Whether a word of two texts is the same.

@@ -120,7 +120,7 @@ module _ {K : Type 0} (ns : List (Node K)) (top len : ℕ) (h : IsList ns top le
         Shows ns' top' (len + 1) (inserted (linked_of ns top len) index x).live (inserted (linked_of ns top len) index x).freed
     inserted_shown ns' before b_is ne pe ie =
         reshown ns' top' (len + 1) (pairs (items out) (parts.us ++ i ∷ parts.vs)) (pairs (items out) t.free) (inserted (linked_of ns top len) index x).live (inserted (linked_of ns top len) index x).freed
-        (put_shown out ns' top' t.free parts.us parts.vs i r parts_linked t.stack_is before index (b_is ∙ prev_is) (sym parts.next) ne pe ie (len + 1)
+        (put_shown (nexts out) (prevs out) (items out) ns' top' t.free parts.us parts.vs i r parts_linked t.stack_is before index (b_is ∙ prev_is) (sym parts.next) ne pe ie (len + 1)
         (omega (arith, length-order ns top len h, ap length parts.is, length-append parts.us parts.vs, length-append parts.us (i ∷ parts.vs))))
         with_it
         t.freed_is

@@ -2,7 +2,7 @@
 use Rattle.std.proofs.Common.{◌≡◌, ◌≢◌, ℕ, ◌+◌, ◌-◌, ◌<◌, ◌≤◌, cond, leb, ltb, ◌&&◌, List, [], ◌∷◌, ◌++◌, length, get_or, set, drop, Some, refl, sym, ap, ◌∙◌, subst, arith, append_assoc, inl, inr}
 use Rattle.std.specs.Prelude.{slice_get, is_some, ◌⊎◌, Err}
 use Rattle.std.specs.Option.{option_map_or}
-use Rattle.std.proofs.lemmas.List.{length-map, length-set, length_push, length-append, append-nil}
+use Rattle.std.proofs.lemmas.List.{length-map, length-set, length_push, length-append, append-nil, set-set, set_comm, get_or-set_other}
 use Rattle.std.proofs.lemmas.Bool.{cases_lt, false≢true}
 use Rattle.std.proofs.lemmas.Option.{slice_get-get_or}
 use Rattle.lru_list.specs.declared.linked_list.Node.{Node}
@@ -11,7 +11,7 @@ use Rattle.lru_list.specs.declared.linked_list.PushError.{PushError}
 use Rattle.lru_list.specs.declared.linked_list.PushError.TheVariants.{Memory, Full}
 use Rattle.lru_list.specs.Representation.Nodes.{pairs, at, nexts, prevs, items, path, order_of, stack_of, linked_of, Chain, IsLinked, IsStack, IsList, ReusesSlot, MakesSlot, TakesSlot}
 use Rattle.lru_list.proofs.Chains.{times-cons, times-append, times_here, absent_head, chain_split, Found, found, length-path, path_along, path_stack, stack_elsewhere, stack_on, stack_cons, stack_none}
-use Rattle.lru_list.proofs.Splices.{Round, round, round_head, round_tail, links_round, next_round, live_range, free_range, at_most_once, taken_out, out_range, put_in, put_in_ranges, round_range, prev_written, grown, round_not_free, last_split}
+use Rattle.lru_list.proofs.Splices.{Round, round, round_head, round_tail, links_round, next_round, live_range, free_range, at_most_once, taken_out, out_range, put_in, put_in_ranges, round_range, leads_to, prev_written, grown, round_not_free, last_split}
 use Rattle.lru_list.proofs.NodePairs.{pairs-append, pairs_same, pairs_elsewhere, pairs_first, some_at, without_pairs, item_absent, item_found, indices-pairs, slice_get-set_same, slice_get_push, slice_get-append_left}
 
 pub same_linked : {K : Type 0} (a b c d : List (ℕ × K)) → a ≡ b → c ≡ d → linked a c ≡ linked b d
@@ -95,18 +95,18 @@ module _ {K : Type 0} where
   reshown ns top len live freed live' freed' s p q = record { valid = s.valid; is = s.is ∙ same_linked live live' freed freed' p q }
 
   -- a free place that was put between its neighbours
-  pub put_shown : (ns ns' : List (Node K)) (top : ℕ) (free us vs : List ℕ) (i : ℕ) (r : Round us vs) → IsLinked (nexts ns) (prevs ns) (i ∷ free) (us ++ vs) → IsStack (prevs ns) top free →
-      (p q : ℕ) → p ≡ r.p → q ≡ r.q → nexts ns' ≡ set (set (nexts ns) p i) i q → prevs ns' ≡ set (set (prevs ns) i p) q i → items ns' ≡ items ns →
-      (len : ℕ) → length (us ++ i ∷ vs) ≡ len → Shows ns' top len (pairs (items ns) (us ++ i ∷ vs)) (pairs (items ns) free)
-  put_shown ns ns' top free us vs i r h s p q p_is q_is ne pe ie len n =
-      let put = put_in (nexts ns) (prevs ns) free us vs i h r in
-      let ne' : set (set (nexts ns) r.p i) i r.q ≡ nexts ns' = ap (λ z. set (set (nexts ns) z i) i r.q) (sym p_is) ∙ ap (λ z. set (set (nexts ns) p i) i z) (sym q_is) ∙ sym ne in
-      let pe' : set (set (prevs ns) i r.p) r.q i ≡ prevs ns' = ap (λ z. set (set (prevs ns) i z) r.q i) (sym p_is) ∙ ap (λ z. set (set (prevs ns) i p) z i) (sym q_is) ∙ sym pe in
-      let put' = subst (λ z. IsLinked z (prevs ns') free (us ++ i ∷ vs)) ne' (subst (λ z. IsLinked (set (set (nexts ns) r.p i) i r.q) z free (us ++ i ∷ vs)) pe' put) in
-      let i_none : times i free ≡ 0 = omega (arith, at_most_once (nexts ns) (prevs ns) (i ∷ free) (us ++ vs) h i, times_here i free) in
-      let q_none : times r.q free ≡ 0 = omega (arith, (round_not_free (nexts ns) (prevs ns) (i ∷ free) us vs h r).1, times-cons r.q i free) in
-      let s' = subst (λ z. IsStack z top free) pe' (stack_elsewhere (set (prevs ns) i r.p) r.q i top free q_none (stack_elsewhere (prevs ns) i r.p top free i_none s)) in
-      reshown ns' top len (pairs (items ns') (us ++ i ∷ vs)) (pairs (items ns') free) (pairs (items ns) (us ++ i ∷ vs)) (pairs (items ns) free)
+  pub put_shown : (N P : List ℕ) (X : List K) (ns' : List (Node K)) (top : ℕ) (free us vs : List ℕ) (i : ℕ) (r : Round us vs) → IsLinked N P (i ∷ free) (us ++ vs) → IsStack P top free →
+      (p q : ℕ) → p ≡ r.p → q ≡ r.q → nexts ns' ≡ set (set N p i) i q → prevs ns' ≡ set (set P i p) q i → items ns' ≡ X →
+      (len : ℕ) → length (us ++ i ∷ vs) ≡ len → Shows ns' top len (pairs X (us ++ i ∷ vs)) (pairs X free)
+  put_shown N P X ns' top free us vs i r h s p q p_is q_is ne pe ie len n =
+      let put = put_in N P free us vs i h r in
+      let ne' : set (set N r.p i) i r.q ≡ nexts ns' = ap (λ z. set (set N z i) i r.q) (sym p_is) ∙ ap (λ z. set (set N p i) i z) (sym q_is) ∙ sym ne in
+      let pe' : set (set P i r.p) r.q i ≡ prevs ns' = ap (λ z. set (set P i z) r.q i) (sym p_is) ∙ ap (λ z. set (set P i p) z i) (sym q_is) ∙ sym pe in
+      let put' = subst (λ z. IsLinked z (prevs ns') free (us ++ i ∷ vs)) ne' (subst (λ z. IsLinked (set (set N r.p i) i r.q) z free (us ++ i ∷ vs)) pe' put) in
+      let i_none : times i free ≡ 0 = omega (arith, at_most_once N P (i ∷ free) (us ++ vs) h i, times_here i free) in
+      let q_none : times r.q free ≡ 0 = omega (arith, (round_not_free N P (i ∷ free) us vs h r).1, times-cons r.q i free) in
+      let s' = subst (λ z. IsStack z top free) pe' (stack_elsewhere (set P i r.p) r.q i top free q_none (stack_elsewhere P i r.p top free i_none s)) in
+      reshown ns' top len (pairs (items ns') (us ++ i ∷ vs)) (pairs (items ns') free) (pairs X (us ++ i ∷ vs)) (pairs X free)
       (shown ns' top len free (us ++ i ∷ vs) put' s' n) (ap (λ z. pairs z (us ++ i ∷ vs)) ie) (ap (λ z. pairs z free) ie)
 
   -- ---- a live index
@@ -184,41 +184,41 @@ module _ {K : Type 0} where
         ∙ sym (ap (λ o. option_map_or (λ y. without (linked_of ns top len).live i ++ (i, y) ∷ []) o (linked_of ns top len).live) (live_item i_item.0 i_item.1))
 
     -- its neighbours are joined to each other
-    pub record Unlinked (out : List (Node K)) : Type 0 where
-      pub nexts_are : nexts out ≡ set (set (nexts ns) (at (prevs ns) i) (at (nexts ns) i)) i 4294967295
-      pub prevs_are : prevs out ≡ set (prevs ns) (at (nexts ns) i) (at (prevs ns) i)
-      pub items_are : items out ≡ items ns
+    pub record Unlinked (N P : List ℕ) (X : List K) : Type 0 where
+      pub nexts_are : N ≡ set (set (nexts ns) (at (prevs ns) i) (at (nexts ns) i)) i 4294967295
+      pub prevs_are : P ≡ set (prevs ns) (at (nexts ns) i) (at (prevs ns) i)
+      pub items_are : X ≡ items ns
 
-    module _ (out : List (Node K)) (u : Unlinked out) where
-      out_linked : IsLinked (nexts out) (prevs out) (i ∷ stack_of ns top len) ((stands ns top len h i live).front ++ (stands ns top len h i live).back)
+    module _ (N P : List ℕ) (X : List K) (u : Unlinked N P X) where
+      out_linked : IsLinked N P (i ∷ stack_of ns top len) ((stands ns top len h i live).front ++ (stands ns top len h i live).back)
       out_linked =
           let s = stands ns top len h i live in
           let free = stack_of ns top len in
           let r = round s.front s.back in
           let taken = taken_out (nexts ns) (prevs ns) free s.front s.back i linked_at r in
-          let ne : set (set (nexts ns) r.p r.q) i 4294967295 ≡ nexts out = ap (λ p. set (set (nexts ns) p r.q) i 4294967295) (sym i_links.0) ∙ ap (λ q. set (set (nexts ns) (at (prevs ns) i) q) i 4294967295) (sym i_links.1) ∙ sym u.nexts_are in
-          let pe : set (prevs ns) r.q r.p ≡ prevs out = ap (λ q. set (prevs ns) q r.p) (sym i_links.1) ∙ ap (λ p. set (prevs ns) (at (nexts ns) i) p) (sym i_links.0) ∙ sym u.prevs_are in
-          subst (λ zs. IsLinked zs (prevs out) (i ∷ free) (s.front ++ s.back)) ne (subst (λ zs. IsLinked (set (set (nexts ns) r.p r.q) i 4294967295) zs (i ∷ free) (s.front ++ s.back)) pe taken)
+          let ne : set (set (nexts ns) r.p r.q) i 4294967295 ≡ N = ap (λ p. set (set (nexts ns) p r.q) i 4294967295) (sym i_links.0) ∙ ap (λ q. set (set (nexts ns) (at (prevs ns) i) q) i 4294967295) (sym i_links.1) ∙ sym u.nexts_are in
+          let pe : set (prevs ns) r.q r.p ≡ P = ap (λ q. set (prevs ns) q r.p) (sym i_links.1) ∙ ap (λ p. set (prevs ns) (at (nexts ns) i) p) (sym i_links.0) ∙ sym u.prevs_are in
+          subst (λ zs. IsLinked zs P (i ∷ free) (s.front ++ s.back)) ne (subst (λ zs. IsLinked (set (set (nexts ns) r.p r.q) i 4294967295) zs (i ∷ free) (s.front ++ s.back)) pe taken)
 
-      out_stack : IsStack (prevs out) top (stack_of ns top len)
+      out_stack : IsStack P top (stack_of ns top len)
       out_stack =
           let s = stands ns top len h i live in
           let free = stack_of ns top len in
           let r = round s.front s.back in
-          let q_none : times r.q free ≡ 0 = omega (arith, (round_not_free (nexts out) (prevs out) (i ∷ free) s.front s.back out_linked r).1, times-cons r.q i free) in
+          let q_none : times r.q free ≡ 0 = omega (arith, (round_not_free N P (i ∷ free) s.front s.back out_linked r).1, times-cons r.q i free) in
           subst (λ zs. IsStack zs top free) (sym u.prevs_are) (stack_elsewhere (prevs ns) (at (nexts ns) i) (at (prevs ns) i) top free (ap (λ q. times q free) i_links.1 ∙ q_none) h.stack)
 
       -- the list after a place is freed
-      pub removed_shown : (ns' : List (Node K)) (d : K) → nexts ns' ≡ nexts out → prevs ns' ≡ set (prevs out) i top → items ns' ≡ set (items out) i d →
+      pub removed_shown : (ns' : List (Node K)) (d : K) → nexts ns' ≡ N → prevs ns' ≡ set P i top → items ns' ≡ set X i d →
           Shows ns' i (len - 1) (without (linked_of ns top len).live i) ((i, d) ∷ (linked_of ns top len).freed)
       removed_shown ns' d ne pe ie =
           let s = stands ns top len h i live in
           let free = stack_of ns top len in
           let i_free : 1 ≤ times i (i ∷ free) = omega (arith, times_here i free) in
-          let l = prev_written (nexts out) (prevs out) (i ∷ free) (s.front ++ s.back) i top out_linked i_free in
-          let l' = subst (λ zs. IsLinked zs (prevs ns') (i ∷ free) (s.front ++ s.back)) (sym ne) (subst (λ zs. IsLinked (nexts out) zs (i ∷ free) (s.front ++ s.back)) (sym pe) l) in
-          let within : i < length (prevs out) = omega (arith, ranges.place, ap length u.prevs_are, length-set (prevs ns) (at (nexts ns) i) (at (prevs ns) i), length-prevs ns) in
-          let st = subst (λ zs. IsStack zs i (i ∷ free)) (sym pe) (stack_on (prevs out) i top free within free_none out_stack) in
+          let l = prev_written N P (i ∷ free) (s.front ++ s.back) i top out_linked i_free in
+          let l' = subst (λ zs. IsLinked zs (prevs ns') (i ∷ free) (s.front ++ s.back)) (sym ne) (subst (λ zs. IsLinked N zs (i ∷ free) (s.front ++ s.back)) (sym pe) l) in
+          let within : i < length P = omega (arith, ranges.place, ap length u.prevs_are, length-set (prevs ns) (at (nexts ns) i) (at (prevs ns) i), length-prevs ns) in
+          let st = subst (λ zs. IsStack zs i (i ∷ free)) (sym pe) (stack_on P i top free within free_none out_stack) in
           let xs : items ns' ≡ set (items ns) i d = ie ∙ ap (λ zs. set zs i d) u.items_are in
           let here : slice_get (set (items ns) i d) i ≡ Some d = slice_get-set_same (items ns) i d (omega (arith, ranges.place, length-items ns)) in
           reshown ns' i (len - 1) (pairs (items ns') (s.front ++ s.back)) (pairs (items ns') (i ∷ free)) (without (linked_of ns top len).live i) ((i, d) ∷ (linked_of ns top len).freed)
@@ -227,59 +227,96 @@ module _ {K : Type 0} where
           (ap (λ zs. pairs zs (i ∷ free)) xs ∙ pairs_first (set (items ns) i d) i d free here ∙ ap (λ zs. (i, d) ∷ zs) (pairs_elsewhere (items ns) i d free free_none))
 
       -- the first link leads to a node
-      pub first_range : at (nexts out) 0 < length ns
+      pub first_range : at N 0 < length ns
       first_range =
           let s = stands ns top len h i live in
           let free = stack_of ns top len in
           let r = round_head (s.front ++ s.back) in
-          let q = next_round (nexts out) (prevs out) [] (s.front ++ s.back) r out_linked.chain in
-          let within = put_in_ranges (nexts out) (prevs out) free [] (s.front ++ s.back) i out_linked r in
+          let q = next_round N P [] (s.front ++ s.back) r out_linked.chain in
+          let within = put_in_ranges N P free [] (s.front ++ s.back) i out_linked r in
           omega (arith, within.1, q.0, ap length u.nexts_are, length-set (set (nexts ns) (at (prevs ns) i) (at (nexts ns) i)) i 4294967295, length-set (nexts ns) (at (prevs ns) i) (at (nexts ns) i), length-nexts ns)
 
       -- and the last link back to one
-      out_linked_last : IsLinked (nexts out) (prevs out) (i ∷ stack_of ns top len) (((stands ns top len h i live).front ++ (stands ns top len h i live).back) ++ [])
+      out_linked_last : IsLinked N P (i ∷ stack_of ns top len) (((stands ns top len h i live).front ++ (stands ns top len h i live).back) ++ [])
       out_linked_last =
           let s = stands ns top len h i live in
-          subst (IsLinked (nexts out) (prevs out) (i ∷ stack_of ns top len)) (sym (append-nil (s.front ++ s.back))) out_linked
+          subst (IsLinked N P (i ∷ stack_of ns top len)) (sym (append-nil (s.front ++ s.back))) out_linked
 
-      pub last_range : at (prevs out) 1 < length ns
+      pub last_range : at P 1 < length ns
       last_range =
           let s = stands ns top len h i live in
           let free = stack_of ns top len in
           let r = round_tail (s.front ++ s.back) in
-          let q = next_round (nexts out) (prevs out) (s.front ++ s.back) [] r out_linked_last.chain in
-          let within = put_in_ranges (nexts out) (prevs out) free (s.front ++ s.back) [] i out_linked_last r in
+          let q = next_round N P (s.front ++ s.back) [] r out_linked_last.chain in
+          let within = put_in_ranges N P free (s.front ++ s.back) [] i out_linked_last r in
           omega (arith, within.0, q.1, ap length u.nexts_are, length-set (set (nexts ns) (at (prevs ns) i) (at (nexts ns) i)) i 4294967295, length-set (nexts ns) (at (prevs ns) i) (at (nexts ns) i), length-nexts ns)
 
+      -- the first link stays, where it did not lead to the place
+      first_apart : at (nexts ns) 0 ≢ i → 0 ≢ at (prevs ns) i
+      first_apart ne e =
+          let s = stands ns top len h i live in
+          let r = round s.front s.back in
+          ne (ap (at (nexts ns)) (e ∙ i_links.0) ∙ leads_to (nexts ns) (prevs ns) s.front s.back i r linked_at.chain)
+
+      pub first_stays : at (nexts ns) 0 ≢ i → at N 0 ≡ at (nexts ns) 0
+      first_stays ne =
+          let one = set (nexts ns) (at (prevs ns) i) (at (nexts ns) i) in
+          ap (λ links. at links 0) u.nexts_are
+          ∙ get_or-set_other one i 0 4294967295 4294967295 (λ e. absurd (omega (arith, ranges.low, e)))
+          ∙ get_or-set_other (nexts ns) (at (prevs ns) i) 0 (at (nexts ns) i) 4294967295 (first_apart ne)
+
       -- the list after a place went first
-      pub promoted_shown : (ns' : List (Node K)) (next : ℕ) → next ≡ at (nexts out) 0 → nexts ns' ≡ set (set (nexts out) 0 i) i next → prevs ns' ≡ set (set (prevs out) i 0) next i → items ns' ≡ items out →
+      pub promoted_shown : (ns' : List (Node K)) (next : ℕ) → next ≡ at N 0 → nexts ns' ≡ set (set N 0 i) i next → prevs ns' ≡ set (set P i 0) next i → items ns' ≡ X →
           Shows ns' top len (promoted (linked_of ns top len) i).live (linked_of ns top len).freed
       promoted_shown ns' next n_is ne pe ie =
           let s = stands ns top len h i live in
           let free = stack_of ns top len in
           let r = round_head (s.front ++ s.back) in
-          let q = next_round (nexts out) (prevs out) [] (s.front ++ s.back) r out_linked.chain in
+          let q = next_round N P [] (s.front ++ s.back) r out_linked.chain in
           let n : length (i ∷ s.front ++ s.back) ≡ len = omega (arith, others_length, ranges.some) in
-          reshown ns' top len (pairs (items out) (i ∷ s.front ++ s.back)) (pairs (items out) free) (promoted (linked_of ns top len) i).live (linked_of ns top len).freed
-          (put_shown out ns' top free [] (s.front ++ s.back) i r out_linked out_stack 0 next refl (n_is ∙ q.0) ne pe ie len n)
+          reshown ns' top len (pairs X (i ∷ s.front ++ s.back)) (pairs X free) (promoted (linked_of ns top len) i).live (linked_of ns top len).freed
+          (put_shown N P X ns' top free [] (s.front ++ s.back) i r out_linked out_stack 0 next refl (n_is ∙ q.0) ne pe ie len n)
           (ap (λ zs. pairs zs (i ∷ s.front ++ s.back)) u.items_are ∙ pairs_first (items ns) i i_item.0 (s.front ++ s.back) i_item.1
           ∙ ap (λ zs. (i, i_item.0) ∷ zs) (sym live_without)
           ∙ sym (ap (λ o. option_map_or (λ y. (i, y) ∷ without (linked_of ns top len).live i) o (linked_of ns top len).live) (live_item i_item.0 i_item.1)))
           (ap (λ zs. pairs zs free) u.items_are)
 
       -- the list after a place went last
-      pub demoted_shown : (ns' : List (Node K)) (prev : ℕ) → prev ≡ at (prevs out) 1 → nexts ns' ≡ set (set (nexts out) prev i) i 1 → prevs ns' ≡ set (set (prevs out) i prev) 1 i → items ns' ≡ items out →
+      pub demoted_shown : (ns' : List (Node K)) (prev : ℕ) → prev ≡ at P 1 → nexts ns' ≡ set (set N prev i) i 1 → prevs ns' ≡ set (set P i prev) 1 i → items ns' ≡ X →
           Shows ns' top len (demoted (linked_of ns top len) i).live (linked_of ns top len).freed
       demoted_shown ns' prev p_is ne pe ie =
           let s = stands ns top len h i live in
           let free = stack_of ns top len in
           let r = round_tail (s.front ++ s.back) in
-          let q = next_round (nexts out) (prevs out) (s.front ++ s.back) [] r out_linked_last.chain in
+          let q = next_round N P (s.front ++ s.back) [] r out_linked_last.chain in
           let n : length ((s.front ++ s.back) ++ i ∷ []) ≡ len = omega (arith, others_length, ranges.some, length_push (s.front ++ s.back) i) in
-          reshown ns' top len (pairs (items out) ((s.front ++ s.back) ++ i ∷ [])) (pairs (items out) free) (demoted (linked_of ns top len) i).live (linked_of ns top len).freed
-          (put_shown out ns' top free (s.front ++ s.back) [] i r out_linked_last out_stack prev 1 (p_is ∙ q.1) refl ne pe ie len n)
+          reshown ns' top len (pairs X ((s.front ++ s.back) ++ i ∷ [])) (pairs X free) (demoted (linked_of ns top len) i).live (linked_of ns top len).freed
+          (put_shown N P X ns' top free (s.front ++ s.back) [] i r out_linked_last out_stack prev 1 (p_is ∙ q.1) refl ne pe ie len n)
           (ap (λ zs. pairs zs ((s.front ++ s.back) ++ i ∷ [])) u.items_are ∙ demoted_pairs)
           (ap (λ zs. pairs zs free) u.items_are)
+
+    unlinked : Unlinked (set (set (nexts ns) (at (prevs ns) i) (at (nexts ns) i)) i 4294967295) (set (prevs ns) (at (nexts ns) i) (at (prevs ns) i)) (items ns)
+    unlinked = record { nexts_are = refl; prevs_are = refl; items_are = refl }
+
+    pub first_within : at (nexts ns) 0 ≢ i → at (nexts ns) 0 < length ns
+    first_within ne =
+        let one = set (nexts ns) (at (prevs ns) i) (at (nexts ns) i) in
+        let back = set (prevs ns) (at (nexts ns) i) (at (prevs ns) i) in
+        omega (arith, first_range (set one i 4294967295) back (items ns) unlinked, first_stays (set one i 4294967295) back (items ns) unlinked ne)
+
+    -- a place that is joined to others loses its own link, which needs no write before
+    pub moved_first : (ns' : List (Node K)) (first : ℕ) → first ≡ at (nexts ns) 0 → first ≢ i →
+        nexts ns' ≡ set (set (set (nexts ns) (at (prevs ns) i) (at (nexts ns) i)) 0 i) i first →
+        prevs ns' ≡ set (set (set (prevs ns) (at (nexts ns) i) (at (prevs ns) i)) i 0) first i → items ns' ≡ items ns →
+        Shows ns' top len (promoted (linked_of ns top len) i).live (linked_of ns top len).freed
+    moved_first ns' first f_is other ne pe ie =
+        let one = set (nexts ns) (at (prevs ns) i) (at (nexts ns) i) in
+        let back = set (prevs ns) (at (nexts ns) i) (at (prevs ns) i) in
+        let low : i ≢ 0 = λ e. absurd (omega (arith, ranges.low, e)) in
+        let links : set (set one 0 i) i first ≡ set (set (set one i 4294967295) 0 i) i first =
+        sym (ap (λ z. set z i first) (set_comm one i 0 4294967295 i low) ∙ set-set (set one 0 i) i 4294967295 first) in
+        promoted_shown (set one i 4294967295) back (items ns) unlinked ns' first
+        (f_is ∙ sym (first_stays (set one i 4294967295) back (items ns) unlinked (λ e. other (f_is ∙ e)))) (ne ∙ links) pe ie
 
     nothing_before : (before after : List ℕ) → times i before ≡ 0 → at (nexts ns) 0 ≡ i → IsLinked (nexts ns) (prevs ns) (stack_of ns top len) (before ++ i ∷ after) → before ≡ []
     nothing_before [] after none e l = refl
@@ -413,7 +450,7 @@ module _ {K : Type 0} where
           let r = round_head order in
           let q = next_round (nexts out) (prevs out) [] order r t.linked_is.chain in
           reshown ns' top' (len + 1) (pairs (items out) (i ∷ order)) (pairs (items out) t.free) (pushed_head (linked_of ns top len) x).live (pushed_head (linked_of ns top len) x).freed
-          (put_shown out ns' top' t.free [] order i r t.linked_is t.stack_is 0 next refl (n_is ∙ q.0) ne pe ie (len + 1) (omega (arith, length-order ns top len h)))
+          (put_shown (nexts out) (prevs out) (items out) ns' top' t.free [] order i r t.linked_is t.stack_is 0 next refl (n_is ∙ q.0) ne pe ie (len + 1) (omega (arith, length-order ns top len h)))
           (pairs_first (items out) i x order t.item_is ∙ ap (λ zs. (i, x) ∷ zs) t.live_is ∙ ap (λ j. (j, x) ∷ (linked_of ns top len).live) t.slot_is)
           t.freed_is
 
@@ -424,7 +461,7 @@ module _ {K : Type 0} where
           let r = round_tail order in
           let q = next_round (nexts out) (prevs out) order [] r tail_linked.chain in
           reshown ns' top' (len + 1) (pairs (items out) (order ++ i ∷ [])) (pairs (items out) t.free) (pushed_tail (linked_of ns top len) x).live (pushed_tail (linked_of ns top len) x).freed
-          (put_shown out ns' top' t.free order [] i r tail_linked t.stack_is prev 1 (p_is ∙ q.1) refl ne pe ie (len + 1) (omega (arith, length-order ns top len h, length_push order i)))
+          (put_shown (nexts out) (prevs out) (items out) ns' top' t.free order [] i r tail_linked t.stack_is prev 1 (p_is ∙ q.1) refl ne pe ie (len + 1) (omega (arith, length-order ns top len h, length_push order i)))
           (pairs-append (items out) order (i ∷ []) ∙ ap (λ zs. zs ++ pairs (items out) (i ∷ [])) t.live_is
           ∙ ap (λ zs. (linked_of ns top len).live ++ zs) (pairs_first (items out) i x [] t.item_is) ∙ ap (λ j. (linked_of ns top len).live ++ (j, x) ∷ []) t.slot_is)
           t.freed_is

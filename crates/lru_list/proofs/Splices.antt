@@ -159,6 +159,10 @@ links_round ns ps us vs i r c =
     let two = chain_split ns ps r.front r.p (i ∷ r.q ∷ r.back) (subst (Chain ns ps) (ring_with us vs r i) c) in
     (two.1.1, two.1.2.0)
 
+-- the place before it leads to it
+pub leads_to : (ns ps us vs : List ℕ) (i : ℕ) (r : Round us vs) → Chain ns ps (0 ∷ (us ++ i ∷ vs) ++ 1 ∷ []) → at ns r.p ≡ i
+leads_to ns ps us vs i r c = (chain_split ns ps r.front r.p (i ∷ r.q ∷ r.back) (subst (Chain ns ps) (ring_with us vs r i) c)).1.0
+
 -- two neighbours lead to each other
 pub next_round : (ns ps us vs : List ℕ) (r : Round us vs) → Chain ns ps (0 ∷ (us ++ vs) ++ 1 ∷ []) → (at ns r.p ≡ r.q) × (at ps r.q ≡ r.p)
 next_round ns ps us vs r c =

@@ -35,12 +35,13 @@ const FIRST_SLOT: usize = 2;
 // The link that leads nowhere. No live slot has it as its `next`, and every freed slot has.
 const NULL: u32 = 4294967295;
 
-// A freed slot's `prev` leads to the slot that was freed before it.
+// A freed slot's `prev` leads to the slot that was freed before it. The item comes first: where nodes begin 16 bytes behind a line
+// of a cache, as in a block of glibc's, the variant of a small `Option` then lies in one line with what it holds.
 #[derive(Drop)]
 pub(crate) struct Node<K> {
+    pub(crate) item: K,
     pub(crate) prev: u32,
     pub(crate) next: u32,
-    pub(crate) item: K,
 }
 
 // A node of a number takes 16 bytes: the two links and the number.
@@ -146,6 +147,28 @@ fn link_between<K>(nodes: &mut Vec<Node<K>>, prev: u32, place: u32, next: u32)
     set_prev(nodes, place, prev);
     set_next(nodes, place, next);
     set_prev(nodes, next, place);
+}
+
+// Puts a node before all others, of which another one is the first.
+fn move_first<K>(nodes: &mut Vec<Node<K>>, place: u32, first: u32)
+    requires place { place < vec_len nodes.old }
+    requires prev { link_at (prevs nodes.old.items) place < vec_len nodes.old }
+    requires next { link_at (nexts nodes.old.items) place < vec_len nodes.old }
+    requires first { first < vec_len nodes.old }
+    ensures nexts { nexts nodes.new.items ≡ slice_set (slice_set (slice_set (nexts nodes.old.items) (link_at (prevs nodes.old.items) place) (link_at (nexts nodes.old.items) place)) 0 place) place first }
+    ensures prevs { prevs nodes.new.items ≡ slice_set (slice_set (slice_set (prevs nodes.old.items) (link_at (nexts nodes.old.items) place) (link_at (prevs nodes.old.items) place)) place 0) first place }
+    ensures items { items nodes.new.items ≡ items nodes.old.items }
+    ensures len { vec_len nodes.new ≡ vec_len nodes.old }
+{
+    let nodes = nodes.as_mut_slice();
+    let prev = nodes[place as usize].prev;
+    let next = nodes[place as usize].next;
+    set_next(nodes, prev, next);
+    set_prev(nodes, next, prev);
+    set_next(nodes, HEAD, place);
+    set_prev(nodes, place, HEAD);
+    set_next(nodes, place, first);
+    set_prev(nodes, first, place);
 }
 
 // The slot that was freed last, or a new one, holds the item. No other node leads to it yet. Where there is no room for
@@ -463,13 +486,11 @@ impl<K> LinkedList<K> {
         ensures promotes { self.new ≡ promoted self.old index }
         ensures numbered { IsNumbered self.new }
     {
-        if self.nodes[HEAD as usize].next as usize == index {
+        let first = self.nodes[HEAD as usize].next;
+        if first as usize == index {
             return;
         }
-        let place = index as u32;
-        unlink(&mut self.nodes, place);
-        let next = self.nodes[HEAD as usize].next;
-        link_between(&mut self.nodes, HEAD, place, next);
+        move_first(&mut self.nodes, index as u32, first);
     }
 
     /// Puts an item last.

@@ -124,7 +124,7 @@ impl<K: Hash, V, S: BuildHasher> Pairs<K, V, S> {
         ensures finds { Finds Q.stands_for self.now.held.rows query result }
         ensures valid { IsRecency K.eq self.now.held.rows }
     {
-        self.find_hashed(query, self.hash_of(&query))
+        self.find_hashed(query, self.hash_by(&query))
     }
 
     /// The hash of a key, or of a query for one, with which the calls below can be asked: a query that stands for a key has
@@ -134,6 +134,14 @@ impl<K: Hash, V, S: BuildHasher> Pairs<K, V, S> {
         ensures { result ≡ key_hash S.BuildHasher S.Hasher.Hasher Q.hash_input self.now.hashes query.now }
     {
         self.index.hash_of(query)
+    }
+
+    /// `hash_of` for a query, which may say it in fewer steps.
+    #[inline(always)]
+    pub fn hash_by<Q: Query<K>>(&self, query: &Q) -> u64
+        ensures { result ≡ key_hash S.BuildHasher S.Hasher.Hasher Q.hash_input self.now.hashes query.now }
+    {
+        self.index.hash_by::<K, Q>(query)
     }
 
     /// `hash_of`, where a hash of the query is known, and what made it: unless that hashes otherwise than these pairs do, the
@@ -444,7 +452,7 @@ impl<K: Hash + Drop, V: Drop, S: BuildHasher> Pairs<K, V, S> {
         ensures hashes { self.new.hashes ≡ self.old.hashes }
         ensures valid { IsRecency K.eq self.old.held.rows }
     {
-        let hash = self.hash_of(&query);
+        let hash = self.hash_by(&query);
         self.remove_hashed(query, hash)
     }
 

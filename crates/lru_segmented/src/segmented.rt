@@ -204,6 +204,14 @@ impl<K: Hash, V, S: BuildHasher> SegmentedCache<K, V, S> {
         self.seats.hash_of(query)
     }
 
+    /// `hash_of` for a query, which may say it in fewer steps.
+    #[inline(always)]
+    pub fn hash_by<Q: Query<K>>(&self, query: &Q) -> u64
+        ensures { result ≡ key_hash S.BuildHasher S.Hasher.Hasher Q.hash_input self.now.hashes query.now }
+    {
+        self.seats.hash_by(query)
+    }
+
     /// The hash of a query as this cache makes it, where a hash of it is known, and what made that: unless that hashes
     /// otherwise than this cache does, the query is not hashed again. The calls by `.._hashed` take it.
     #[inline(always)]
@@ -227,7 +235,7 @@ impl<K: Hash, V, S: BuildHasher> SegmentedCache<K, V, S> {
     pub fn contains_by<Q: Query<K>>(&self, query: Q) -> bool
         ensures { result ≡ is_some (entry_of Q.stands_for (entries self.now) query) }
     {
-        self.contains_hashed(query, self.hash_of(&query))
+        self.contains_hashed(query, self.hash_by(&query))
     }
 
     /// `contains_by`, where the query's hash is known.
@@ -250,7 +258,7 @@ impl<K: Hash, V, S: BuildHasher> SegmentedCache<K, V, S> {
     pub fn peek_by<Q: Query<K>>(&self, query: Q) -> Option<&V>
         ensures { option_copied result ≡ option_map (λ e. e.value) (entry_of Q.stands_for (entries self.now) query) }
     {
-        self.peek_hashed(query, self.hash_of(&query))
+        self.peek_hashed(query, self.hash_by(&query))
     }
 
     /// `peek_by`, where the query's hash is known.
@@ -296,7 +304,7 @@ impl<K: Hash, V, S: BuildHasher> SegmentedCache<K, V, S> {
         ensures uses { Uses Q.stands_for self.old query result self.new }
         ensures valid { IsSegmented K.eq self.old }
     {
-        let hash = self.hash_of(&query);
+        let hash = self.hash_by(&query);
         self.promote_hashed(query, hash)
     }
 
@@ -370,7 +378,7 @@ impl<K: Hash, V, S: BuildHasher> SegmentedCache<K, V, S> {
         requires { U.IsAlwaysCallable update }
         ensures { UpdatesEntry Q.stands_for (U.post update) self.old query result self.new }
     {
-        let hash = self.hash_of(&query);
+        let hash = self.hash_by(&query);
         self.update_hashed(query, hash, update)
     }
 

@@ -230,7 +230,7 @@ impl<K: Hash, V, S: BuildHasher> SegmentedDeadlineCache<K, V, S> {
     fn find<Q: Query<K>>(&self, time: u64, query: Q) -> Option<&Until<V>>
         ensures { option_copied result ≡ option_map (λ e. e.value) (living Q.stands_for time (entries self.now) query) }
     {
-        self.find_hashed(time, query, self.hash_of(&query))
+        self.find_hashed(time, query, self.cache.hash_by(&query))
     }
 
     // The same, where the query's hash is known.

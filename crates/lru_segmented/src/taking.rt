@@ -49,7 +49,7 @@ impl<K: Hash + Drop, V: Drop, S: BuildHasher> SegmentedCache<K, V, S> {
         ensures left { self.new ≡ removed Q.stands_for self.old query }
         ensures valid { IsSegmented K.eq self.old }
     {
-        let hash = self.hash_of(&query);
+        let hash = self.hash_by(&query);
         self.remove_hashed(query, hash)
     }
 

@@ -46,7 +46,7 @@ where
     ensures { T.sees shards.now (home (T.many shards.now) (key_hash S.BuildHasher S.Hasher.Hasher Q.hash_input hashes.now query))
         (λ shard. result ≡ is_some (entry_of Q.stands_for (X.inside shard).cache.entries query)) }
 {
-    let hash = hash_of(hashes, &query);
+    let hash = query.hash_by(hashes);
     let home = home_of(shards.count(), hash);
     shards.look(
         home,
@@ -72,7 +72,7 @@ where
     ensures { T.sees shards.now (home (T.many shards.now) (key_hash S.BuildHasher S.Hasher.Hasher Q.hash_input hashes.now query))
         (λ shard. ShowsEntry Q.stands_for (F.post show) (X.inside shard).cache.entries query result) }
 {
-    let hash = hash_of(hashes, &query);
+    let hash = query.hash_by(hashes);
     let home = home_of(shards.count(), hash);
     shards.look(
         home,
@@ -103,7 +103,7 @@ where
         (λ before after. Gets Q.stands_for V.is_clone (X.inside before) query result (X.inside after)) shards.new }
     ensures many { T.many shards.new ≡ T.many shards.old }
 {
-    let hash = hash_of(hashes, &query);
+    let hash = query.hash_by(hashes);
     let home = home_of(shards.count(), hash);
     shards.on(home, |shard: &mut X| shard.get(query, hash, hashes))
 }
@@ -130,7 +130,7 @@ where
         (λ before after. Lends Q.stands_for (F.post update) (X.inside before) query result (X.inside after)) shards.new }
     ensures many { T.many shards.new ≡ T.many shards.old }
 {
-    let hash = hash_of(hashes, &query);
+    let hash = query.hash_by(hashes);
     let home = home_of(shards.count(), hash);
     shards.on(
         home,
@@ -191,7 +191,7 @@ where
         (λ before after. Takes Q.stands_for (X.inside before) query result (X.inside after)) shards.new }
     ensures many { T.many shards.new ≡ T.many shards.old }
 {
-    let hash = hash_of(hashes, &query);
+    let hash = query.hash_by(hashes);
     let home = home_of(shards.count(), hash);
     shards.renew(
         home,

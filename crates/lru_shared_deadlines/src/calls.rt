@@ -35,7 +35,7 @@ where
     ensures { T.sees shards.now (home (T.many shards.now) (key_hash S.BuildHasher S.Hasher.Hasher Q.hash_input hashes.now query))
         (λ shard. result ≡ is_some (living Q.stands_for time shard.cache.entries query)) }
 {
-    let hash = hash_of(hashes, &query);
+    let hash = query.hash_by(hashes);
     let home = home_of(shards.count(), hash);
     shards.look(
         home,
@@ -63,7 +63,7 @@ where
     ensures { T.sees shards.now (home (T.many shards.now) (key_hash S.BuildHasher S.Hasher.Hasher Q.hash_input hashes.now query))
         (λ shard. ShowsLiving Q.stands_for (F.post show) time shard.cache.entries query result) }
 {
-    let hash = hash_of(hashes, &query);
+    let hash = query.hash_by(hashes);
     let home = home_of(shards.count(), hash);
     shards.look(
         home,
@@ -90,7 +90,7 @@ where
         (λ before after. Gets Q.stands_for V.is_clone moment before query result after) shards.new }
     ensures many { T.many shards.new ≡ T.many shards.old }
 {
-    let hash = hash_of(hashes, &query);
+    let hash = query.hash_by(hashes);
     let home = home_of(shards.count(), hash);
     shards.on(
         home,
@@ -119,7 +119,7 @@ where
         (λ before after. Lends Q.stands_for (F.post show) moment before query result after) shards.new }
     ensures many { T.many shards.new ≡ T.many shards.old }
 {
-    let hash = hash_of(hashes, &query);
+    let hash = query.hash_by(hashes);
     let home = home_of(shards.count(), hash);
     shards.on(
         home,
@@ -177,7 +177,7 @@ where
         (λ before after. Takes Q.stands_for before query result after) shards.new }
     ensures many { T.many shards.new ≡ T.many shards.old }
 {
-    let hash = hash_of(hashes, &query);
+    let hash = query.hash_by(hashes);
     let home = home_of(shards.count(), hash);
     shards.renew(
         home,

@@ -33,7 +33,7 @@ where
     ensures { T.sees shards.now (home (T.many shards.now) (key_hash S.BuildHasher S.Hasher.Hasher Q.hash_input hashes.now query))
         (λ shard. result ≡ is_some (entry_of Q.stands_for (entries shard.cache) query)) }
 {
-    let hash = hash_of(hashes, &query);
+    let hash = query.hash_by(hashes);
     let home = home_of(shards.count(), hash);
     shards.look(
         home,
@@ -55,7 +55,7 @@ where
     ensures { T.sees shards.now (home (T.many shards.now) (key_hash S.BuildHasher S.Hasher.Hasher Q.hash_input hashes.now query))
         (λ shard. ShowsEntry Q.stands_for (F.post show) (entries shard.cache) query result) }
 {
-    let hash = hash_of(hashes, &query);
+    let hash = query.hash_by(hashes);
     let home = home_of(shards.count(), hash);
     shards.look(
         home,
@@ -81,7 +81,7 @@ where
         (λ before after. Gets Q.stands_for V.is_clone before query result after) shards.new }
     ensures many { T.many shards.new ≡ T.many shards.old }
 {
-    let hash = hash_of(hashes, &query);
+    let hash = query.hash_by(hashes);
     let number = home_of(shards.count(), hash);
     shards.on(
         number,
@@ -104,7 +104,7 @@ where
         (λ before after. Lends Q.stands_for (F.post show) before query result after) shards.new }
     ensures many { T.many shards.new ≡ T.many shards.old }
 {
-    let hash = hash_of(hashes, &query);
+    let hash = query.hash_by(hashes);
     let home = home_of(shards.count(), hash);
     shards.on(
         home,
@@ -161,7 +161,7 @@ where
         (λ before after. Takes Q.stands_for before query result after) shards.new }
     ensures many { T.many shards.new ≡ T.many shards.old }
 {
-    let hash = hash_of(hashes, &query);
+    let hash = query.hash_by(hashes);
     let home = home_of(shards.count(), hash);
     shards.renew(
         home,

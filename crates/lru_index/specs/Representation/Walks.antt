@@ -1,7 +1,11 @@
 -- A walk along the chain of a key's home.
-use Rattle.std.specs.Prelude.{◌≡◌, ℕ, ◌*◌, ◌/◌, Bool, List, [], ◌∷◌, ◌++◌, Option}
+use Rattle.std.specs.Prelude.{◌≡◌, ◌≢◌, ℕ, ◌+◌, ◌*◌, ◌/◌, ◌<◌, Bool, List, [], ◌∷◌, ◌++◌, Option}
 use Rattle.lru_index.specs.Index.{HasKey, Differs}
-use Rattle.lru_index.specs.Representation.Cells.{In, Chains, IsUsed, at, bits_at, home_in, end_cell, places_in}
+use Rattle.lru_index.specs.Representation.Cells.{In, Chains, IsUsed, at, place_at, bits_at, home_in, end_cell, places_in}
+
+-- the cell behind the first place of a home, whose key has other bits
+abbrev pub IsPassed : List ℕ → ℕ → ℕ → ℕ → ℕ → Type 0
+IsPassed cells heads home bits cell = (0 < place_at cells heads home) × (bits_at cells heads home ≢ bits / (2 * heads)) × (cell ≡ heads + place_at cells heads home)
 
 module _ {K Q : Type 0} (eq : K → Q → Bool) (keys : ℕ → Option K) (key : Q) where
   -- a cell that holds the place of such a key has its bits

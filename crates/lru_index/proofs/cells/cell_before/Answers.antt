@@ -1,12 +1,32 @@
-use Rattle.std.proofs.Common.{◌≡◌, ◌==◌, Some, arith, sym, ◌∙◌}
-use Rattle.lru_index.specs.Representation.Cells.{at, places_in}
+use Rattle.std.proofs.Common.{◌≡◌, ◌==◌, Some, arith, sym, ◌∙◌, inl, inr, subst}
+use Rattle.lru_index.specs.Representation.Cells.{at, place_at, places_in}
+use Rattle.lru_index.specs.Representation.Walks.{Walks}
 use Rattle.lru_index.proofs.Marked.{at_places, length_places}
 use Rattle.lru_index.proofs.Walked.{start, cell_within, onward, nearer}
 use Rattle.lru_index.proofs.Led.{some, others, reached}
 use Rattle.lru_index.proofs.cells.cell_before.Goals as goal
 
 pub loop-cell-init : goal.loop-cell-init
-loop-cell-init c = start ◌==◌ Some c.args.place (places_in c.args.cells.now c.args.heads) c.args.heads c.args.home c.requires.table c.requires.home
+loop-cell-init c =
+    let places = places_in c.args.cells.now c.args.heads in
+    let first = start ◌==◌ Some c.args.place places c.args.heads c.args.home c.requires.table c.requires.home in
+    elim c.first_cell_before-cell.ensures [
+      | inl e ↦ subst (λ z. Walks ◌==◌ Some c.args.place places c.args.heads c.args.home z) (sym e) first
+      | inr (other, e) ↦
+          let read = sym (at_places c.args.cells.now c.args.heads c.args.home) in
+          subst (λ z. Walks ◌==◌ Some c.args.place places c.args.heads c.args.home z) (sym e)
+          (onward ◌==◌ Some c.args.place places c.args.heads c.args.home c.requires.table c.requires.home c.args.home first
+          (place_at c.args.cells.now c.args.heads c.args.home) read
+          (λ z. some c.args.place places c.args.heads c.args.home c.requires.table c.requires.home c.requires.stands c.args.home first (sym read ∙ z))
+          (others c.args.place places c.args.heads c.args.home c.requires.table c.requires.home c.requires.stands c.args.home first (place_at c.args.cells.now c.args.heads c.args.home) other))
+    ]
+
+pub first_cell_before-cell-requires : goal.first_cell_before-cell-requires
+first_cell_before-cell-requires c = record {
+  scale = c.requires.scale;
+  few = c.requires.few;
+  home = omega (arith, c.requires.home, length_places c.args.cells.now c.args.heads, c.requires.table.wide);
+}
 
 pub bounds-cells-cell : goal.bounds-cells-cell
 bounds-cells-cell c =

@@ -1,6 +1,7 @@
 use Rattle.std.proofs.Common.{◌≡◌, false, arith, inl, inr, ap, sym, ◌∙◌, subst}
 use Rattle.std.proofs.lemmas.Bool.{cases_Bool, false≢true}
-use Rattle.lru_index.specs.Representation.Cells.{at, places_in}
+use Rattle.lru_index.specs.Representation.Cells.{at, place_at, places_in}
+use Rattle.lru_index.specs.Representation.Walks.{Walks}
 use Rattle.lru_index.proofs.Tables.{some_is}
 use Rattle.lru_index.proofs.Marked.{at_places, length_places}
 use Rattle.lru_index.proofs.Walked.{start, cell_within, used_cell, at_end, is_home, at_key, onward, nearer}
@@ -8,7 +9,29 @@ use Rattle.lru_index.proofs.cells.cell_of.Goals as goal
 use Rattle.lru_index.proofs.cells.cell_of.Goals.{then-place-eq0-via-then-place-eq0, then-place-eq0-via-else-place-eq0+then-stands_for, then-has_bits, else-has_bits}
 
 pub loop-cell-init : goal.loop-cell-init
-loop-cell-init g c = start g.Q.Query.stands_for (g.T.Keys.key_of c.args.keys.now) c.args.query.now (places_in c.args.cells.now c.args.heads) c.args.heads c.args.home c.requires.table c.requires.home
+loop-cell-init g c =
+    let places = places_in c.args.cells.now c.args.heads in
+    let first = start g.Q.Query.stands_for (g.T.Keys.key_of c.args.keys.now) c.args.query.now places c.args.heads c.args.home c.requires.table c.requires.home in
+    elim c.first_cell-cell.ensures [
+      | inl e ↦ subst (λ z. Walks g.Q.Query.stands_for (g.T.Keys.key_of c.args.keys.now) c.args.query.now places c.args.heads c.args.home z) (sym e) first
+      | inr (some, other, e) ↦
+          let read = sym (at_places c.args.cells.now c.args.heads c.args.home) in
+          subst (λ z. Walks g.Q.Query.stands_for (g.T.Keys.key_of c.args.keys.now) c.args.query.now places c.args.heads c.args.home z) (sym e)
+          (onward g.Q.Query.stands_for (g.T.Keys.key_of c.args.keys.now) c.args.query.now places c.args.heads c.args.home c.requires.table c.requires.home c.args.home first
+          (place_at c.args.cells.now c.args.heads c.args.home) read (λ z. absurd (omega (arith, some, z)))
+          (λ k held.
+          elim (cases_Bool (g.Q.Query.stands_for k c.args.query.now)) [
+            | inl t ↦ absurd (other (c.requires.told c.args.home (inl c.requires.home) (k, ap (g.T.Keys.key_of c.args.keys.now) (sym read) ∙ held, t)))
+            | inr f ↦ f
+          ]))
+    ]
+
+pub first_cell-cell-requires : goal.first_cell-cell-requires
+first_cell-cell-requires g c = record {
+  scale = c.requires.scale;
+  few = c.requires.few;
+  home = omega (arith, c.requires.home, length_places c.args.cells.now c.args.heads, c.requires.table.wide);
+}
 
 pub bounds-cells-cell : goal.bounds-cells-cell
 bounds-cells-cell g c =

@@ -1,5 +1,6 @@
 use Rattle.std.proofs.Common.{arith, sym, subst, ap, ◌∙◌, get_or, set, ◌-◌}
 use Rattle.lru_list.specs.Linked.{Linked, IsLive}
+use Rattle.lru_list.specs.Representation.Nodes.{nexts, prevs, items}
 use Rattle.lru_list.proofs.LinkedStates.{ranges, removed_shown, item_is, numbered}
 use Rattle.lru_list.proofs.linked_list.LinkedList.remove.Goals as goal
 
@@ -27,7 +28,7 @@ replace_item-requires g c =
 pub invariant_of-self : goal.invariant_of-self
 invariant_of-self g c =
     let live = subst (λ (l : Linked g.row.K.Denot). IsLive l c.args.index) (sym c.self.view_is) c.requires in
-    (removed_shown c.self.inside.nodes.items c.self.inside.last_freed c.self.inside.len c.self.invariant c.args.index live c.unlink.new.nodes.items
+    (removed_shown c.self.inside.nodes.items c.self.inside.last_freed c.self.inside.len c.self.invariant c.args.index live (nexts c.unlink.new.nodes.items) (prevs c.unlink.new.nodes.items) (items c.unlink.new.nodes.items)
     (record { nexts_are = c.unlink.ensures.nexts; prevs_are = c.unlink.ensures.prevs; items_are = c.unlink.ensures.items })
     c.replace_item.new.nodes.items c.default.result (c.replace_item.ensures.nexts ∙ c.set_freed_link.ensures.nexts) (c.replace_item.ensures.prevs ∙ c.set_freed_link.ensures.prevs)
     (c.replace_item.ensures.items ∙ ap (λ xs. set xs c.args.index c.default.result) c.set_freed_link.ensures.items)).valid
@@ -35,7 +36,7 @@ invariant_of-self g c =
 pub returns : goal.returns
 returns g c =
     let live = subst (λ (l : Linked g.row.K.Denot). IsLive l c.args.index) (sym c.self.view_is) c.requires in
-    let done = removed_shown c.self.inside.nodes.items c.self.inside.last_freed c.self.inside.len c.self.invariant c.args.index live c.unlink.new.nodes.items
+    let done = removed_shown c.self.inside.nodes.items c.self.inside.last_freed c.self.inside.len c.self.invariant c.args.index live (nexts c.unlink.new.nodes.items) (prevs c.unlink.new.nodes.items) (items c.unlink.new.nodes.items)
     (record { nexts_are = c.unlink.ensures.nexts; prevs_are = c.unlink.ensures.prevs; items_are = c.unlink.ensures.items })
     c.replace_item.new.nodes.items c.default.result (c.replace_item.ensures.nexts ∙ c.set_freed_link.ensures.nexts) (c.replace_item.ensures.prevs ∙ c.set_freed_link.ensures.prevs)
     (c.replace_item.ensures.items ∙ ap (λ xs. set xs c.args.index c.default.result) c.set_freed_link.ensures.items) in
